@@ -1,0 +1,155 @@
+-- Laws of lengths: whole rounds of a pattern, the rates, the tail, and the codewords of a level and of the FAC. Assumes nothing.
+use Prim.Native.Nat.{ℕ, zero, suc, _+_, _-_, _*_, _/_, _%_, _<_}
+use mathlib.Core.Path.{_≡_, refl, sym, ap, ap₂, _∙_}
+use mathlib.Core.List.{List, [], _∷_, _++_, append-assoc, append-nil}
+use native.Mathlib.Nat.{add-zero, zero-add, suc-add, mul-zero, mul-suc, mul-comm, mod-lt, div-add-mod'}
+use native.Mathlib.Omega.{arith}
+use borrow.Author.Tests.{lt-ltb, le-ltb}
+use lib.Dec.{lit<}
+use lib.ListN.{length}
+use lib.Count.{ones, onesIn}
+use Rattle.component.specs.Register.{next, after}
+use Rattle.component.specs.Patterns.{columns, numerators, denominators, RX, RY, table65, pattern, tail, table66, tailPattern, R3/5}
+use Rattle.component.specs.Codeword.{following, encode, codeword, tailBits}
+use Rattle.component.specs.Decoding.{codedLength, segment, Sound}
+use Rattle.component.proofs.Codeword.{length-codeword}
+use Rattle.component.proofs.Tests.{equal, less}
+use Rattle.component.proofs.Patterns.{pattern-sound, tail-sound}
+
+-- the column n columns after column i
+unfoldable pub columnAfter : List ℕ → ℕ → ℕ → ℕ
+columnAfter p i zero = i
+columnAfter p i (suc n) = columnAfter p (following p i) n
+
+-- a segment's coded bits in two parts: the register and the column go on
+pub encode-append : (p : List ℕ) (r i : ℕ) (xs ys : List ℕ)
+    → encode p r i (xs ++ ys) ≡ encode p r i xs ++ encode p (after r xs) (columnAfter p i (length xs)) ys
+unfolding encode after columnAfter
+encode-append p r i [] ys = refl
+encode-append p r i (a ∷ xs) ys = rw (encode-append p (next r a) (following p i) xs ys) (simp append-assoc)
+
+-- and their lengths
+pub codedLength-add : (p : List ℕ) (i m n : ℕ) → codedLength p i (m + n) ≡ codedLength p i m + codedLength p (columnAfter p i m) n
+unfolding codedLength columnAfter
+codedLength-add p i zero n = simp zero-add
+codedLength-add p i (suc m) n = rw suc-add (omega (arith, codedLength-add p (following p i) m n))
+
+columnAfter-add : (p : List ℕ) (i m n : ℕ) → columnAfter p i (m + n) ≡ columnAfter p (columnAfter p i m) n
+unfolding columnAfter
+columnAfter-add p i zero n = rw zero-add
+columnAfter-add p i (suc m) n = rw suc-add (columnAfter-add p (following p i) m n)
+
+columnAfter-low : (p : List ℕ) (i n : ℕ) → i + n < length p → columnAfter p i n ≡ i + n
+unfolding columnAfter following
+columnAfter-low p i zero h = rw add-zero
+columnAfter-low p i (suc n) h =
+    rw (lt-ltb (i + 1) (length p) (omega arith), columnAfter-low p (i + 1) n (omega arith)) (omega arith)
+
+-- after a round the pattern starts again
+columnAfter-round : {p : List ℕ} → Sound p → columnAfter p 0 (length p) ≡ 0
+unfolding columnAfter following
+columnAfter-round {p} S =
+    let h : 0 < length p = S .some in
+    let e : length p ≡ (length p - 1) + 1 = omega arith in
+    let l : columnAfter p 0 (length p - 1) ≡ length p - 1 = columnAfter-low p 0 (length p - 1) (omega arith) ∙ zero-add (length p - 1) in
+    ap (columnAfter p 0) e
+    ∙ columnAfter-add p 0 (length p - 1) 1
+    ∙ rw (l, le-ltb (length p - 1 + 1) (length p) (omega arith))
+
+columnAfter-rounds : {p : List ℕ} → Sound p → (c : ℕ) → columnAfter p 0 (length p * c) ≡ 0
+unfolding columnAfter
+columnAfter-rounds S zero = rw mul-zero
+columnAfter-rounds {p} S (suc c) =
+    rw (mul-suc, columnAfter-add p 0 (length p * c) (length p), columnAfter-rounds S c) (columnAfter-round S)
+
+-- after whole rounds a segment's coding goes on as one that starts anew
+pub encode-rounds : {p : List ℕ} → Sound p → (r c : ℕ) (xs ys : List ℕ) → length xs ≡ length p * c
+    → encode p r 0 (xs ++ ys) ≡ encode p r 0 xs ++ encode p (after r xs) 0 ys
+encode-rounds {p} S r c xs ys e = rw (encode-append, e, columnAfter-rounds S c)
+
+-- c whole rounds have c times the coded bits of one
+pub rounds : {p : List ℕ} → Sound p → (c : ℕ) → codedLength p 0 (length p * c) ≡ codedLength p 0 (length p) * c
+unfolding codedLength
+rounds S zero = simp mul-zero
+rounds {p} S (suc c) =
+    simp mul-suc (rw (codedLength-add p 0 (length p * c) (length p), columnAfter-rounds S c, rounds S c))
+
+-- a rate's pattern has RX columns
+pub pattern-columns : (rate : ℕ) → rate < 13 → length (pattern rate) ≡ RX rate
+unfolding pattern RX numerators columns table65
+pattern-columns = equal (λ k. length (pattern k)) RX 13 tt
+
+-- a round of a rate's pattern has RY coded bits
+pub pattern-round : (rate : ℕ) → rate < 13 → codedLength (pattern rate) 0 (RX rate) ≡ RY rate
+unfolding pattern RX RY numerators denominators columns table65 codedLength following ones onesIn
+pattern-round = equal (λ k. codedLength (pattern k) 0 (RX k)) RY 13 tt
+
+-- a denominator is from 1 to 11
+pub RY-low : (rate : ℕ) → rate < 13 → (0 < RY rate) × (RY rate < 12)
+unfolding RY denominators
+RY-low rate h = (less (λ k. 0) RY 13 tt rate h, less RY (λ k. 12) 13 tt rate h)
+
+-- a row of the tail table has six columns
+pub tail-columns : (r : ℕ) → r < 12 → length (tailPattern r) ≡ 6
+unfolding tailPattern columns tail table66
+tail-columns = equal (λ k. length (tailPattern k)) (λ k. 6) 12 tt
+
+-- the six tail bits of row r have 12 + r coded bits
+pub tail-length : (r : ℕ) → r < 12 → codedLength (tailPattern r) 0 6 ≡ 12 + r
+unfolding tailPattern columns tail table66 codedLength following ones onesIn
+tail-length = equal (λ k. codedLength (tailPattern k) 0 6) (λ k. 12 + k) 12 tt
+
+-- RX × c input bits of a rate have RY × c coded bits
+pub rate-length : (rate c : ℕ) → rate < 13 → codedLength (pattern rate) 0 (RX rate * c) ≡ RY rate * c
+rate-length rate c h = rw (← pattern-round rate h, ← pattern-columns rate h) (rounds (pattern-sound rate h) c)
+
+-- part B of a level and its tail: RX × (m / RY) bits and six zeros, punctured by row m mod RY, have m + 12 coded bits
+pub level-length : (rate m : ℕ) → rate < 13
+    → codedLength (pattern rate) 0 (RX rate * (m / RY rate)) + codedLength (tailPattern (m % RY rate)) 0 6 ≡ m + 12
+level-length rate m h =
+    let low : m % RY rate < RY rate = mod-lt m (RY-low rate h .0) in
+    let whole : RY rate * (m / RY rate) + m % RY rate ≡ m = rw (mul-comm (RY rate) (m / RY rate)) (div-add-mod' m (RY rate)) in
+    rw (rate-length rate (m / RY rate) h, tail-length (m % RY rate) (omega (arith, RY-low rate h))) (omega arith)
+
+-- the FAC's 72 bits and six zeros at 3/5
+pub fac-length : codedLength (pattern R3/5) 0 72 + codedLength (pattern R3/5) 0 6 ≡ 130
+unfolding RX RY numerators denominators
+fac-length = ap₂ _+_ (rate-length R3/5 24 (lit< tt)) (rate-length R3/5 2 (lit< tt))
+
+-- a level's codeword: part A of c whole rounds, part B and the tail of m + 12 coded bits
+pub level-codeword : (rateA rateB c m r : ℕ) (a b : List ℕ) → rateA < 13 → rateB < 13
+    → length a ≡ RX rateA * c
+    → length b ≡ RX rateB * (m / RY rateB)
+    → length (codeword r (segment (pattern rateA) a ∷ segment (pattern rateB) b ∷ segment (tailPattern (m % RY rateB)) tailBits ∷ []))
+    ≡ RY rateA * c + (m + 12)
+unfolding codeword tailBits
+level-codeword rateA rateB c m r a b hA hB ea eb =
+    let low : m % RY rateB < RY rateB = mod-lt m (RY-low rateB hB .0) in
+    let B = segment (pattern rateB) b in
+    let T = segment (tailPattern (m % RY rateB)) tailBits in
+    rw (
+      length-codeword r (segment (pattern rateA) a) (B ∷ T ∷ []) (pattern-sound rateA hA),
+      length-codeword (after r a) B (T ∷ []) (pattern-sound rateB hB),
+      length-codeword (after (after r a) b) T [] (tail-sound (m % RY rateB) (omega (arith, RY-low rateB hB))),
+      ea,
+      eb,
+      rate-length rateA c hA,
+    )
+    (omega (arith, level-length rateB m hB))
+
+-- the FAC's codeword of 72 bits and six zeros has 130 coded bits
+pub fac-codeword : (r : ℕ) (xs : List ℕ) → length xs ≡ 72
+    → length (codeword r (segment (pattern R3/5) xs ∷ segment (pattern R3/5) tailBits ∷ [])) ≡ 130
+unfolding codeword tailBits
+fac-codeword r xs e =
+    let T = segment (pattern R3/5) tailBits in
+    let S : Sound (pattern R3/5) = pattern-sound R3/5 (lit< tt) in
+    rw (length-codeword r (segment (pattern R3/5) xs) (T ∷ []) S, length-codeword (after r xs) T [] S, e) (omega (arith, fac-length))
+
+-- and its tail goes on with the pattern: the 78 bits are one segment
+pub fac-goes-on : (r : ℕ) (xs : List ℕ) → length xs ≡ 72
+    → codeword r (segment (pattern R3/5) xs ∷ segment (pattern R3/5) tailBits ∷ []) ≡ encode (pattern R3/5) r 0 (xs ++ tailBits)
+unfolding codeword pattern columns table65
+fac-goes-on r xs e =
+    rw (append-nil (encode (pattern R3/5) (after r xs) 0 tailBits))
+    (sym (encode-rounds (pattern-sound R3/5 (lit< tt)) r 24 xs tailBits e))

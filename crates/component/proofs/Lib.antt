@@ -1,0 +1,17 @@
+pub mod Counting
+pub mod Cycle
+pub mod Size
+pub mod Places
+pub mod Bits
+pub mod Sets
+pub mod Tests
+pub mod Register
+pub mod Codeword
+pub mod Decoding
+pub mod Patterns
+pub mod Lengths
+mod Encoding
+mod Reading
+pub mod Tables
+pub mod Interleaving
+pub mod Weights

@@ -1,0 +1,48 @@
+-- What the coding functions require, and what they promise.
+use Prim.Native.Nat.{ℕ, _+_, _≤_, _<_}
+use mathlib.Core.Path.{_≡_}
+use mathlib.Core.List.{List}
+use lib.ListN.{length, drop}
+use lib.Seq.{sets}
+use Rattle.component.specs.Bits.{Bits}
+use Rattle.component.specs.Register.{after}
+use Rattle.component.specs.Codeword.{encode}
+use Rattle.component.specs.Decoding.{patternAt, codedLength, decode, Sound}
+
+-- encode requires a sound pattern, a register of seven bits, bits to code, and room for the coded ones.
+pub record Encodes (pattern : List ℕ) (register : ℕ) (bits out : List ℕ) (at : ℕ) : Type 0 where
+  pub sound : Sound pattern
+  pub seven : register < 128
+  pub input : Bits bits
+  pub room : at + codedLength pattern 0 (length bits) ≤ length out
+
+-- encode_with requires the number of a pattern, and the rest of that.
+pub record EncodesWith (k register : ℕ) (bits out : List ℕ) (at : ℕ) : Type 0 where
+  pub number : k < 25
+  pub seven : register < 128
+  pub input : Bits bits
+  pub room : at + codedLength (patternAt k) 0 (length bits) ≤ length out
+
+-- Both promise the register and the place behind the segment, and its coded bits at their place, the rest of the buffer as it was.
+pub record Encoded (pattern : List ℕ) (register : ℕ) (bits out : List ℕ) (at : ℕ) (register' at' : ℕ) (out' : List ℕ) : Type 0 where
+  pub state : register' ≡ after register bits
+  pub place : at' ≡ at + length (encode pattern register 0 bits)
+  pub written : out' ≡ sets out at (encode pattern register 0 bits)
+
+-- decode requires a sound pattern, a register of seven bits, and all coded bits within the buffer. Those may be any bytes.
+pub record Decodes (pattern : List ℕ) (register : ℕ) (coded : List ℕ) (at : ℕ) (out : List ℕ) : Type 0 where
+  pub sound : Sound pattern
+  pub seven : register < 128
+  pub room : at + codedLength pattern 0 (length out) ≤ length coded
+
+-- decode_with requires the number of a pattern, and the rest of that.
+pub record DecodesWith (k register : ℕ) (coded : List ℕ) (at : ℕ) (out : List ℕ) : Type 0 where
+  pub number : k < 25
+  pub seven : register < 128
+  pub room : at + codedLength (patternAt k) 0 (length out) ≤ length coded
+
+-- Both promise the register and the place behind the segment, and its n bits, which fill the buffer.
+pub record Decoded (pattern : List ℕ) (register : ℕ) (coded : List ℕ) (at n : ℕ) (register' at' : ℕ) (out' : List ℕ) : Type 0 where
+  pub state : register' ≡ after register (decode pattern register 0 n (drop at coded))
+  pub place : at' ≡ at + codedLength pattern 0 n
+  pub written : out' ≡ decode pattern register 0 n (drop at coded)

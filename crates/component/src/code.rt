@@ -1,0 +1,216 @@
+// The component code: coded bits of a segment, and the segment's bits from them.
+ghost use mathlib.Core.Path.{_≡_};
+ghost use mathlib.Core.Bool.{cond};
+ghost use mathlib.Core.List.{[], _∷_};
+ghost use Prim.Native.Nat.{_+_, _≤_, _<_};
+ghost use lib.ListN.{length};
+ghost use lib.Seq.{sets};
+ghost use lib.Dec.{ltb};
+ghost use lib.Count.{ones};
+ghost use Rattle.component.specs.Register.{next, parity, parities};
+ghost use Rattle.component.specs.Codeword.{kept};
+ghost use Rattle.component.specs.Decoding.{patternAt, padded, newest};
+ghost use Rattle.component.specs.Coding.{Encodes, Encoded, EncodesWith, Decodes, Decoded, DecodesWith};
+
+// The kept bits of each pattern's columns, filled up with zeros: the rates of table 65 and then the rows of table 66.
+const KEPT: [[u8; 8]; 25] = [
+    [15, 0, 0, 0, 0, 0, 0, 0],
+    [15, 7, 7, 0, 0, 0, 0, 0],
+    [7, 0, 0, 0, 0, 0, 0, 0],
+    [7, 7, 7, 3, 0, 0, 0, 0],
+    [3, 0, 0, 0, 0, 0, 0, 0],
+    [3, 5, 3, 1, 0, 0, 0, 0],
+    [3, 1, 3, 0, 0, 0, 0, 0],
+    [3, 1, 0, 0, 0, 0, 0, 0],
+    [3, 1, 1, 3, 1, 1, 3, 1],
+    [3, 1, 1, 0, 0, 0, 0, 0],
+    [3, 1, 1, 1, 0, 0, 0, 0],
+    [3, 1, 1, 1, 1, 1, 1, 0],
+    [3, 1, 1, 1, 1, 1, 1, 1],
+    [3, 3, 3, 3, 3, 3, 0, 0],
+    [7, 3, 3, 3, 3, 3, 0, 0],
+    [7, 3, 3, 7, 3, 3, 0, 0],
+    [7, 7, 3, 7, 3, 3, 0, 0],
+    [7, 7, 3, 7, 7, 3, 0, 0],
+    [7, 7, 7, 7, 7, 3, 0, 0],
+    [7, 7, 7, 7, 7, 7, 0, 0],
+    [15, 7, 7, 7, 7, 7, 0, 0],
+    [15, 7, 7, 15, 7, 7, 0, 0],
+    [15, 15, 7, 15, 7, 7, 0, 0],
+    [15, 15, 7, 15, 7, 15, 0, 0],
+    [15, 15, 15, 15, 7, 15, 0, 0],
+];
+
+// How many columns each pattern has.
+const COLUMNS: [usize; 25] = [
+    1,
+    3,
+    1,
+    4,
+    1,
+    4,
+    3,
+    2,
+    8,
+    3,
+    4,
+    7,
+    8,
+    6,
+    6,
+    6,
+    6,
+    6,
+    6,
+    6,
+    6,
+    6,
+    6,
+    6,
+    6,
+];
+
+// The columns of the pattern of number k, filled up to eight.
+fn row(k: usize) -> [u8; 8]
+    requires { ⌜ k < 25 ⌝ }
+    ensures { λ r. ⌜ r ≡ padded (patternAt k) ⌝ }
+{
+    KEPT[k]
+}
+
+// How many columns the pattern of number k has.
+fn columns(k: usize) -> usize
+    requires { ⌜ k < 25 ⌝ }
+    ensures { λ r. ⌜ r ≡ length (patternAt k) ⌝ }
+{
+    COLUMNS[k]
+}
+
+// Where a coder stands: its register, and the place of the next coded bit.
+pub struct Coder {
+    pub register: u32,
+    pub at: usize,
+}
+
+// The register with one more bit, the newest being the highest.
+fn next(register: u32, bit: u8) -> u32
+    requires { ⌜ (register < 128) × (bit < 2) ⌝ }
+    ensures { λ r. ⌜ r ≡ next register bit ⌝ }
+{
+    register / 2 + 64 * (bit as u32)
+}
+
+// The count of ones of the masked register, modulo 2.
+fn parity(register: u32, mask: u32) -> u8
+    ensures { λ r. ⌜ r ≡ parity mask register ⌝ }
+{
+    (u32::count_ones(register & mask) % 2) as u8
+}
+
+// The column after column i of a pattern.
+fn following(columns: usize, i: usize) -> usize
+    requires { ⌜ i < columns ⌝ }
+    ensures { λ r. ⌜ r ≡ cond (ltb (i + 1) columns) (i + 1) 0 ⌝ }
+{
+    if i + 1 < columns {
+        return i + 1;
+    }
+    0
+}
+
+// Writes one parity, where the lowest digit of the column says that it is kept.
+fn keep(column: u8, register: u32, mask: u32, out: &mut [u8], at: usize) -> usize
+    requires { ⌜ at + length (kept column (parity mask register ∷ [])) ≤ length (now out) ⌝ }
+    ensures { λ r. ⌜ (r ≡ at + length (kept column (parity mask register ∷ []))) × (now (out .exit) ≡ sets (now (out .entry)) at (kept column (parity mask register ∷ []))) ⌝ }
+{
+    if column % 2 == 0 {
+        return at;
+    }
+    out[at] = parity(register, mask);
+    at + 1
+}
+
+// Writes the parities that a column keeps.
+fn keep_column(column: u8, register: u32, out: &mut [u8], at: usize) -> usize
+    requires { ⌜ at + length (kept column (parities register)) ≤ length (now out) ⌝ }
+    ensures { λ r. ⌜ (r ≡ at + length (kept column (parities register))) × (now (out .exit) ≡ sets (now (out .entry)) at (kept column (parities register))) ⌝ }
+{
+    let one = keep(column, register, 0o133, out, at);
+    let two = keep(column / 2, register, 0o171, out, one);
+    let three = keep(column / 2 / 2, register, 0o145, out, two);
+    keep(column / 2 / 2 / 2, register, 0o133, out, three)
+}
+
+// The coded bits of a segment, written to out from at on.
+pub fn encode(pattern: &[u8], register: u32, bits: &[u8], out: &mut [u8], at: usize) -> Coder
+    requires { ⌜ Encodes (now pattern) register (now bits) (now out) at ⌝ }
+    ensures { λ r. ⌜ Encoded (now (pattern .entry)) register (now (bits .entry)) (now (out .entry)) at (r .register) (r .at) (now (out .exit)) ⌝ }
+{
+    let mut register = register;
+    let mut at = at;
+    let mut i = 0;
+    let mut j = 0;
+    while j < bits.len() {
+        register = next(register, bits[j]);
+        at = keep_column(pattern[i], register, out, at);
+        i = following(pattern.len(), i);
+        j += 1;
+    }
+    Coder { register, at }
+}
+
+// The input bit that gives b0 after the register.
+fn newest(register: u32, first: u8) -> u8
+    requires { ⌜ register < 128 ⌝ }
+    ensures { λ r. ⌜ r ≡ newest register first ⌝ }
+{
+    let older = parity(next(register, 0), 0o133);
+    ((first as u32 + older as u32) % 2) as u8
+}
+
+// How many bits a column keeps.
+fn width(column: u8) -> usize
+    ensures { λ r. ⌜ r ≡ ones column ⌝ }
+{
+    u32::count_ones(column as u32) as usize
+}
+
+// The bits of a segment from the coded bits that stand from at on: as many as out is long.
+pub fn decode(pattern: &[u8], register: u32, coded: &[u8], at: usize, out: &mut [u8]) -> Coder
+    requires { ⌜ Decodes (now pattern) register (now coded) at (now out) ⌝ }
+    ensures { λ r. ⌜ Decoded (now (pattern .entry)) register (now (coded .entry)) at (length (now (out .entry))) (r .register) (r .at) (now (out .exit)) ⌝ }
+{
+    let mut register = register;
+    let mut at = at;
+    let mut i = 0;
+    let mut j = 0;
+    while j < out.len() {
+        let bit = newest(register, coded[at]);
+        out[j] = bit;
+        register = next(register, bit);
+        at += width(pattern[i]);
+        i = following(pattern.len(), i);
+        j += 1;
+    }
+    Coder { register, at }
+}
+
+// encode with the pattern of number k.
+pub fn encode_with(k: usize, register: u32, bits: &[u8], out: &mut [u8], at: usize) -> Coder
+    requires { ⌜ EncodesWith k register (now bits) (now out) at ⌝ }
+    ensures { λ r. ⌜ Encoded (patternAt k) register (now (bits .entry)) (now (out .entry)) at (r .register) (r .at) (now (out .exit)) ⌝ }
+{
+    let pattern = row(k);
+    let n = columns(k);
+    encode(&pattern[0..n], register, bits, out, at)
+}
+
+// decode with the pattern of number k.
+pub fn decode_with(k: usize, register: u32, coded: &[u8], at: usize, out: &mut [u8]) -> Coder
+    requires { ⌜ DecodesWith k register (now coded) at (now out) ⌝ }
+    ensures { λ r. ⌜ Decoded (patternAt k) register (now (coded .entry)) at (length (now (out .entry))) (r .register) (r .at) (now (out .exit)) ⌝ }
+{
+    let pattern = row(k);
+    let n = columns(k);
+    decode(&pattern[0..n], register, coded, at, out)
+}
