@@ -1,0 +1,13 @@
+use borrow.Author.Needs.{needs}
+use Prim.Native.Nat.{_-_}
+use Rattle.check_lengths.proofs.main.Statement.{statement}
+use Rattle.check_lengths.proofs.main.Tie as tie
+
+abbrev Inv-loop : tie.InvT-loop
+Inv-loop mode₀ mode = Unit {0}
+
+abbrev μ-loop : tie.MeasureT-loop
+μ-loop mode₀ mode = 5 - mode
+
+pub main-spec : {M : Type 1} → statement M
+main-spec = tie.close (tie.spec Inv-loop μ-loop (λ c. search needs) (λ c κs. search needs) (λ c. search needs) (λ c. search needs) (λ c. search needs) (λ c. search needs))

@@ -1,0 +1,7 @@
+pub mod LookUps
+pub mod Levels
+pub mod Parts
+pub mod PartA
+pub mod Chain
+pub mod Bounds
+pub mod Buffers

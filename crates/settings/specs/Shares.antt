@@ -1,0 +1,13 @@
+-- The input bits of levels from their coded bits.
+use Prim.Native.Nat.{ℕ, _*_, _/_}
+use mathlib.Core.List.{List, map}
+use Rattle.component.specs.Lists.{total}
+use Rattle.component.specs.Patterns.{RX, RY}
+
+-- A level's input bits for whole rounds of its rate's pattern in so many coded bits: RX floor(coded / RY).
+unfoldable pub share : ℕ → ℕ → ℕ
+share coded rate = RX rate * (coded / RY rate)
+
+-- The sum over the levels.
+unfoldable pub shares : ℕ → List ℕ → ℕ
+shares coded rates = total (map (share coded) rates)

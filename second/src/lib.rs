@@ -1,0 +1,23 @@
+//! A second program for the DRM channel coder and reader, to be compared with the first by running both.
+
+pub mod annexj;
+pub mod block;
+pub mod blocks;
+pub mod buffers;
+pub mod component;
+pub mod counts;
+pub mod digest;
+pub mod dispersal;
+pub mod interleaver;
+pub mod lengths;
+pub mod mapping;
+pub mod packing;
+pub mod rates;
+#[cfg(test)]
+mod reference;
+pub mod refusals;
+pub mod runs;
+pub mod settings;
+pub mod superframe;
+#[cfg(test)]
+mod tests;
