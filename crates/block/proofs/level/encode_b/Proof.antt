@@ -1,0 +1,28 @@
+-- `level::encode_b` meets its contract: the tail is coded behind part B. Assumes nothing.
+use borrow.Author.Needs.{needs}
+use Rattle.component.specs.Codeword.{tailBits}
+use Rattle.block.proofs.Parts.{tail-encodes, tail-encoded}
+use Rattle.block.proofs.level.encode_b.Statement.{statement}
+use Rattle.block.proofs.level.encode_b.Tie as tie
+
+encode-with-requires-2 : tie.Need-encode-with-requires-2
+unfolding tailBits
+encode-with-requires-2 c κs =
+    let first = c .before .before .before .before in
+    tail-encodes (first .before .before .before .before .pre) (first .encode-with .ensures)
+
+returns : tie.Need-returns
+unfolding tailBits
+returns c =
+    let first = c .before .before .before .before .before .before .before in
+    tail-encoded (first .before .before .before .before .pre) (first .encode-with .ensures) (c .before .before .encode-with2 .ensures)
+
+pub encode-b-spec : {M : Type 1} → statement M
+encode-b-spec =
+    tie.close
+    (tie.spec
+    (λ c κs. search needs)
+    (λ c. search needs)
+    encode-with-requires-2
+    (λ c. search needs)
+    returns)

@@ -1,0 +1,73 @@
+-- What is needed of bytes, streams, labellings, levels and blocks for reading to undo coding, by name.
+use Prim.Native.Nat.{ℕ, _+_, _*_, _^_, _≤_, _<_}
+use mathlib.Core.Path.{_≡_}
+use mathlib.Core.Bool.{true, cond}
+use mathlib.Core.List.{List, [], _∷_}
+use lib.ListN.{length, getD}
+use lib.IntN.{ℤ, pos}
+use Rattle.component.specs.Bits.{Bits}
+use Rattle.component.specs.Decoding.{Sound}
+use Rattle.component.specs.Deinterleaving.{Cycles}
+use Rattle.block.specs.Packing.{bytesOf, spareZero}
+use Rattle.block.specs.Levels.{Level}
+use Rattle.block.specs.Mapping.{Constellation}
+use Rattle.block.specs.Block.{Block, bitCount}
+use Rattle.block.specs.Reading.{placeOf, sizeA, sizeB}
+
+-- Every element of a list is a byte.
+pub record Bytes (l : List ℕ) : Type 0 where
+  pub byte : (k : ℕ) → getD l k 0 < 256
+
+-- Streams of n bits each.
+pub record Streams (n : ℕ) (ys : List (List ℕ)) : Type 0 where
+  pub long : (i : ℕ) → i < length ys → length (getD ys i []) ≡ n
+  pub bits : (i : ℕ) → Bits (getD ys i [])
+
+-- A labelling of n coordinates, no two of them equal: each is found again at its place.
+pub record Labelling (n : ℕ) (l : List ℤ) : Type 0 where
+  pub size : length l ≡ n
+  pub found : (i : ℕ) → i < n → placeOf l (getD l i (pos 0)) ≡ i
+
+-- A constellation whose axes have a coordinate for each number of m level bits.
+pub record Labels (m : ℕ) (k : Constellation) : Type 0 where
+  pub real : Labelling (2 ^ m) (k .real)
+  pub imaginary : Labelling (2 ^ m) (k .imaginary)
+
+-- n bits can be interleaved with t and put back: they aren't interleaved, or there are none, or the places have a cycle.
+pub data Mixes (t n : ℕ) : Type 0 where
+  plain : t ≡ 0 → Mixes t n
+  empty : n ≡ 0 → Mixes t n
+  cycle : Cycles t n → Mixes t n
+
+-- A level with n coded bits.
+pub record LevelFits (n : ℕ) (l : Level) : Type 0 where
+  pub soundA : Sound (l .patternA)
+  pub soundB : Sound (l .patternB)
+  pub soundTail : Sound (l .tail)
+  pub mixesA : Mixes (l .t) (sizeA l)
+  pub mixesB : Mixes (l .t) (sizeB l)
+  pub size : sizeA l + sizeB l ≡ n
+
+-- Levels with n coded bits each.
+pub data LevelsFit (n : ℕ) : List Level → Type 0 where
+  none : LevelsFit n []
+  more : {l : Level} {ls : List Level} → LevelFits n l → LevelsFit n ls → LevelsFit n (l ∷ ls)
+
+-- The levels and the constellation of a block: each level has two bits a cell; or one, and then levels go in pairs.
+pub record BlockFits (k : Block) : Type 0 where
+  pub streams : ℕ
+  pub levels : length (k .levels) ≡ cond (k .oneAxis) (2 * streams) streams
+  pub fit : LevelsFit (cond (k .oneAxis) (k .cells) (2 * k .cells)) (k .levels)
+  pub labels : Labels streams (k .points)
+  pub front : k .vspp ≤ bitCount k
+
+-- Bits of a block: as many as it has.
+pub record BlockBits (k : Block) (l : List ℕ) : Type 0 where
+  pub bits : Bits l
+  pub long : length l ≡ bitCount k
+
+-- Bytes of a block: as many as its bits take, the spare bits zero.
+pub record BlockBytes (k : Block) (l : List ℕ) : Type 0 where
+  pub bytes : Bytes l
+  pub long : length l ≡ bytesOf (bitCount k)
+  pub spare : spareZero (bitCount k) l ≡ true

@@ -1,0 +1,13 @@
+pub mod Packing
+pub mod Dispersal
+pub mod Levels
+pub mod Mapping
+pub mod Block
+pub mod Numbers
+pub mod Points
+pub mod Reading
+pub mod Fits
+pub mod Reads
+pub mod Requirements
+pub mod Plan
+pub mod LevelCalls

@@ -1,0 +1,41 @@
+-- Points of a constellation. 01 "Operations", refusals 12 and 13.
+use Prim.Native.Nat.{ℕ}
+use mathlib.Core.Bool.{Bool, true, false, _&&_, _||_}
+use mathlib.Core.List.{List, [], _∷_}
+use lib.ListN.{length, getD}
+use lib.IntN.{ℤ, pos, negsuc}
+use lib.Dec.{eqb}
+use Rattle.component.specs.Lists.{table}
+use Rattle.block.specs.Mapping.{Constellation, axis}
+
+-- Two signed numbers are equal.
+unfoldable pub isNumber : ℤ → ℤ → Bool
+isNumber (pos a) (pos b) = eqb a b
+isNumber (pos a) (negsuc b) = false
+isNumber (negsuc a) (pos b) = false
+isNumber (negsuc a) (negsuc b) = eqb a b
+
+-- Two lists of signed numbers are equal.
+unfoldable pub sameNumbers : List ℤ → List ℤ → Bool
+sameNumbers [] [] = true
+sameNumbers [] (b ∷ bs) = false
+sameNumbers (a ∷ l) [] = false
+sameNumbers (a ∷ l) (b ∷ bs) = isNumber a b && sameNumbers l bs
+
+-- A number is one of a labelling's coordinates.
+unfoldable pub onAxis : List ℤ → ℤ → Bool
+onAxis [] v = false
+onAxis (w ∷ ws) v = isNumber w v || onAxis ws v
+
+-- A cell is a point of a constellation.
+unfoldable pub isPoint : Constellation → ℤ → ℤ → Bool
+isPoint k re im = onAxis (k .real) re && onAxis (k .imaginary) im
+
+-- Every one of a list of tests holds.
+unfoldable pub every : List Bool → Bool
+every [] = true
+every (b ∷ bs) = b && every bs
+
+-- Every cell of a flat list, real before imaginary, is a point of a constellation.
+unfoldable pub arePoints : Constellation → List ℤ → Bool
+arePoints k cells = every (table (λ j. onAxis (axis k j) (getD cells j (pos 0))) 0 (length cells))

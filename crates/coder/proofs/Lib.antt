@@ -1,0 +1,5 @@
+pub mod Lists
+pub mod Plans
+pub mod Woven
+pub mod Halves
+pub mod Blocks
