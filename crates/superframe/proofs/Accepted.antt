@@ -1,0 +1,80 @@
+-- The coding of settings that are not refused: its blocks are recovered and its sizes fit. And demands 2 and 3.
+use Prim.Native.Nat.{ℕ}
+use mathlib.Core.Path.{_≡_, refl, _∙_}
+use native.Mathlib.Omega.{arith}
+use Rattle.settings.specs.declared.Settings.{Settings}
+use Rattle.settings.specs.Refusal.{refusal}
+use Rattle.settings.specs.Formulas.{facBits, roundUp}
+use Rattle.settings.specs.Sizes.{bytesFor, frameBytes, sdcBytes}
+use Rattle.settings.specs.Accepted.{Accepted}
+use Rattle.settings.proofs.Bounds.{accepted-of}
+use Rattle.block.specs.Packing.{bytesOf, packed}
+use Rattle.block.specs.Block.{Block, bitCount, cellsFrom}
+use Rattle.block.specs.Reading.{bytesRead}
+use Rattle.block.specs.Fits.{BlockFits}
+use Rattle.block.proofs.Block.{candidate-cells, points-cells, bytes-block, unpacked-block}
+use Rattle.block.proofs.Reader.{reads-bytes}
+use Rattle.frame.specs.Fac.{facBlock}
+use Rattle.frame.specs.Sdc.{sdcBlock}
+use Rattle.frame.specs.Msc.{mscBlock}
+use Rattle.frame.proofs.Fac.{fac-bits, fac-fits}
+use Rattle.frame.proofs.Sdc.{sdc-bits, sdc-fits}
+use Rattle.frame.proofs.Msc.{msc-bits, msc-fits}
+use Rattle.superframe.specs.Runs.{bitsOf}
+use Rattle.superframe.specs.Demand2.{Demand2}
+use Rattle.superframe.specs.Demand3.{Demand3}
+use Rattle.superframe.proofs.Coding.{Recovers, Coding}
+use Rattle.superframe.proofs.Demand2.{demand2-of}
+use Rattle.superframe.proofs.Demand3.{demand3-of}
+
+-- A block whose levels and constellation fit is recovered.
+pub recovers : {k : Block} → BlockFits k → (bytes : ℕ) → bytesOf (bitCount k) ≡ bytes → Recovers k bytes
+unfolding bitsOf bytesRead cellsFrom
+recovers {k} F bytes e =
+    record {
+      points = λ x b. points-cells F b;
+      gives = λ x b. rw (unpacked-block b) at (reads-bytes F .accepts (packed x) (bytes-block b));
+      back = λ x b. rw (candidate-cells F b) (unpacked-block b);
+      reads = reads-bytes F;
+      long = λ cells. reads-bytes F .fits cells .long ∙ e;
+    }
+
+bytes-for : (n : ℕ) → bytesOf n ≡ bytesFor n
+unfolding bytesOf bytesFor roundUp
+bytes-for n = refl
+
+-- The bytes of each kind of block.
+fac-bytes : bytesOf (bitCount facBlock) ≡ 9
+unfolding bytesOf facBits
+fac-bytes = rw fac-bits
+
+sdc-bytes : (s : Settings) → bytesOf (bitCount (sdcBlock s)) ≡ sdcBytes s
+unfolding sdcBytes
+sdc-bytes s = rw (sdc-bits s) (bytes-for _)
+
+msc-bytes : (s : Settings) → Accepted s → bytesOf (bitCount (mscBlock s)) ≡ frameBytes s
+unfolding frameBytes
+msc-bytes s a = rw (msc-bits a) (bytes-for _)
+
+-- Settings that are not refused have a coding.
+pub coding : (s : Settings) → refusal s ≡ 0 → Coding s
+coding s h =
+    let a = accepted-of s h in
+    record {
+      big = omega (arith, a .ranges .muxLeast);
+      room = a .ranges .threeFrames;
+      few = a .ranges .fillers;
+      fac = recovers fac-fits 9 fac-bytes;
+      sdc = recovers (sdc-fits a) (sdcBytes s) (sdc-bytes s);
+      msc = recovers (msc-fits a) (frameBytes s) (msc-bytes s a);
+      sdcBits = sdc-bits s;
+      mscBits = msc-bits a;
+    }
+
+-- Demand 2 on the definitions.
+pub demand2 : Demand2
+demand2 = demand2-of coding
+
+-- Demand 3.
+pub demand3 : Demand3
+demand3 = demand3-of coding

@@ -1,0 +1,223 @@
+-- Refusal 0 as facts and back, and what accepted and refused calls yield, one equation each. Assumes nothing.
+use Prim.Native.Nat.{ℕ, zero, suc, _*_, _<_}
+use mathlib.Core.Path.{_≡_, refl, sym, _∙_}
+use mathlib.Core.Bool.{Bool, true, false, not, _&&_}
+use mathlib.Core.List.{List}
+use native.Mathlib.Omega.{arith}
+use lib.ListN.{length}
+use lib.IntN.{ℤ}
+use lib.Dec.{eqb, ltb}
+use borrow.Author.Tests.{lt-ltb, le-ltb, ltb-true, eq-eqb, ne-eqb, eqb-true, not-false}
+use Rattle.component.specs.Lists.{table}
+use Rattle.settings.specs.declared.Settings.{Settings}
+use Rattle.settings.specs.Refusal.{first, refusal}
+use Rattle.settings.specs.Cells.{facCells}
+use Rattle.settings.specs.Lengths.{nMux, nSdc, nSfa}
+use Rattle.settings.specs.Sizes.{depth, frameBytes, sdcBytes}
+use Rattle.block.specs.Points.{every}
+use Rattle.superframe.specs.declared.State.{State}
+use Rattle.superframe.specs.declared.Answer.the-variants.{Finished, Refused}
+use Rattle.superframe.specs.Call.{memoryLength, memoryCell, inOrder}
+use Rattle.superframe.specs.Interleaving.{finishedFrames}
+use Rattle.superframe.specs.Reset.{resetRefusal, resetOf, startState, startMemory}
+use Rattle.superframe.specs.Code.{CodeCall, inputLengths, cellLengths, sparesZero, codeRefusal, codeAccepted, codeRefused, codeOf, progressOf}
+use Rattle.superframe.specs.Read.{ReadCall, answerNumber, rowsOf, pointTests, givenTests, firstFault, orderRefusal, answerOf, readAccepted, readRefused, readOf}
+use Rattle.superframe.specs.Facts.{Fits, Ordered, BytesFit, CellsFit, CodeFits, ReadFits}
+use Rattle.superframe.proofs.Lists.{both, and-left, and-right}
+
+-- A test that fails is passed over; the first that holds gives its number.
+pub first-pass : (t : Bool) (n m : ℕ) → t ≡ false → first t n m ≡ m
+unfolding first
+first-pass t n m h = rw h
+
+pub first-hold : (t : Bool) (n m : ℕ) → t ≡ true → first t n m ≡ n
+unfolding first
+first-hold t n m h = rw h
+
+-- Number 0 means that the test fails and the rest gives 0.
+pub first-zero : (t : Bool) (n m : ℕ) → 0 < n → first t n m ≡ 0 → (t ≡ false) × (m ≡ 0)
+unfolding first
+first-zero true n m h e = absurd (omega arith)
+first-zero false n m h e = (refl, e)
+
+pub first-own : (r m : ℕ) → first (ltb 0 r) r m ≡ 0 → (r ≡ 0) × (m ≡ 0)
+first-own zero m e = (refl, e')
+  where
+    e' : m ≡ 0
+    e' = sym (first-pass (ltb 0 0) 0 m (le-ltb 0 0 (omega arith))) ∙ e
+first-own (suc r) m e = absurd (let g = sym (first-hold (ltb 0 (suc r)) (suc r) m (lt-ltb 0 (suc r) (omega arith))) ∙ e in omega arith)
+
+pub first-own-pass : (r m : ℕ) → r ≡ 0 → first (ltb 0 r) r m ≡ m
+first-own-pass r m h = first-pass (ltb 0 r) r m (le-ltb 0 r (omega arith))
+
+not-not : (t : Bool) → t ≡ true → not t ≡ false
+not-not t h = rw h
+
+-- The tests of lengths and of order as facts, and back.
+module _ (s : Settings) where
+  pub bytes-fit : (fac sdc msc : List ℕ) → inputLengths s fac sdc msc ≡ true → BytesFit s fac sdc msc
+  unfolding inputLengths
+  bytes-fit fac sdc msc h =
+      let r = and-right (eqb (length fac) 27) _ h in
+      record {
+        faclong = eqb-true _ _ (and-left _ (eqb (length sdc) (sdcBytes s) && eqb (length msc) (3 * frameBytes s)) h);
+        sdclong = eqb-true _ _ (and-left _ (eqb (length msc) (3 * frameBytes s)) r);
+        msclong = eqb-true _ _ (and-right (eqb (length sdc) (sdcBytes s)) _ r);
+      }
+
+  pub fit-bytes : (fac sdc msc : List ℕ) → BytesFit s fac sdc msc → inputLengths s fac sdc msc ≡ true
+  unfolding inputLengths
+  fit-bytes fac sdc msc h = both (eq-eqb _ _ (h .faclong)) (both (eq-eqb _ _ (h .sdclong)) (eq-eqb _ _ (h .msclong)))
+
+  pub cells-fit : (fac sdc msc : List ℤ) → cellLengths s fac sdc msc ≡ true → CellsFit s fac sdc msc
+  unfolding cellLengths
+  cells-fit fac sdc msc h =
+      let r = and-right (eqb (length fac) (3 * (2 * facCells))) _ h in
+      record {
+        faclong = eqb-true _ _ (and-left _ (eqb (length sdc) (2 * nSdc s) && eqb (length msc) (2 * nSfa s)) h);
+        sdclong = eqb-true _ _ (and-left _ (eqb (length msc) (2 * nSfa s)) r);
+        msclong = eqb-true _ _ (and-right (eqb (length sdc) (2 * nSdc s)) _ r);
+      }
+
+  pub fit-cells : (fac sdc msc : List ℤ) → CellsFit s fac sdc msc → cellLengths s fac sdc msc ≡ true
+  unfolding cellLengths
+  fit-cells fac sdc msc h = both (eq-eqb _ _ (h .faclong)) (both (eq-eqb _ _ (h .sdclong)) (eq-eqb _ _ (h .msclong)))
+
+pub ordered : (state : State) (memory : List ℤ) → inOrder state memory ≡ true → Ordered state memory
+unfolding inOrder
+ordered state memory h =
+    let D = depth (state .settings) in
+    let cells = every (table (memoryCell (state .settings) memory) 0 (D * nMux (state .settings))) in
+    let r = and-right (ltb (state .position) D) _ h in
+    record {
+      position = ltb-true _ _ (and-left _ (ltb (state .count) D && cells) h);
+      count = ltb-true _ _ (and-left _ cells r);
+      cells = and-right (ltb (state .count) D) _ r;
+    }
+
+pub in-order : (state : State) (memory : List ℤ) → Ordered state memory → inOrder state memory ≡ true
+unfolding inOrder
+in-order state memory h = both (lt-ltb _ _ (h .position)) (both (lt-ltb _ _ (h .count)) (h .cells))
+
+-- Reset: 0 exactly if the settings are allowed and memory has their length.
+module _ (old : State) (s : Settings) (memory : List ℤ) where
+  pub reset-fits : resetRefusal s memory ≡ 0 → Fits s memory
+  unfolding resetRefusal
+  reset-fits h =
+      let a = first-own (refusal s) _ h in
+      let b = first-zero (not (eqb (length memory) (memoryLength s))) 8 0 (omega arith) (a .1) in
+      record { settings = a .0; long = eqb-true _ _ (not-false _ (b .0)) }
+
+  pub fits-reset : Fits s memory → resetRefusal s memory ≡ 0
+  unfolding resetRefusal
+  fits-reset h = first-own-pass (refusal s) _ (h .settings) ∙ first-pass _ 8 0 (not-not _ (eq-eqb _ _ (h .long)))
+
+  -- What an accepted and what a refused Reset yields.
+  pub reset-accepts : resetRefusal s memory ≡ 0
+      → resetOf old s memory ≡ record { done = record { refusal = 0; state = startState s }; memory = startMemory s }
+  unfolding resetOf
+  reset-accepts h = rw (eq-eqb (resetRefusal s memory) 0 h)
+
+  pub reset-refuses : (r : ℕ) → resetRefusal s memory ≡ r → 0 < r
+      → resetOf old s memory ≡ record { done = record { refusal = r; state = old }; memory = memory }
+  unfolding resetOf
+  reset-refuses r h p = rw (ne-eqb (resetRefusal s memory) 0 (λ e. omega arith), h)
+
+-- Code: 0 gives all the facts, and they give 0.
+module _ (state : State) (memory : List ℤ) (c : CodeCall) where
+  pub code-fits : codeRefusal state memory c ≡ 0 → CodeFits state memory c
+  unfolding codeRefusal
+  code-fits h =
+      let s = state .settings in
+      let a = first-own (refusal s) _ h in
+      let b = first-zero (not (eqb (length memory) (memoryLength s))) 8 _ (omega arith) (a .1) in
+      let d = first-zero (not (inputLengths s (c .fac) (c .sdc) (c .msc))) 9 _ (omega arith) (b .1) in
+      let e = first-zero (not (cellLengths s (c .faccells) (c .sdccells) (c .msccells))) 10 _ (omega arith) (d .1) in
+      let f = first-zero (not (sparesZero s (c .sdc) (c .msc))) 11 _ (omega arith) (e .1) in
+      let g = first-zero (not (inOrder state memory)) 12 0 (omega arith) (f .1) in
+      record {
+        fits = record { settings = a .0; long = eqb-true _ _ (not-false _ (b .0)) };
+        bytes = bytes-fit s _ _ _ (not-false _ (d .0));
+        cells = cells-fit s _ _ _ (not-false _ (e .0));
+        spares = not-false _ (f .0);
+        order = ordered state memory (not-false _ (g .0));
+      }
+
+  pub fits-code : CodeFits state memory c → codeRefusal state memory c ≡ 0
+  unfolding codeRefusal
+  fits-code h =
+      first-own-pass (refusal (state .settings)) _ (h .fits .settings)
+      ∙ first-pass _ 8 _ (not-not _ (eq-eqb _ _ (h .fits .long)))
+      ∙ first-pass _ 9 _ (not-not _ (fit-bytes (state .settings) _ _ _ (h .bytes)))
+      ∙ first-pass _ 10 _ (not-not _ (fit-cells (state .settings) _ _ _ (h .cells)))
+      ∙ first-pass _ 11 _ (not-not _ (h .spares))
+      ∙ first-pass _ 12 0 (not-not _ (in-order state memory (h .order)))
+
+  -- What an accepted and what a refused call yields.
+  pub code-accepts : codeRefusal state memory c ≡ 0 → codeOf state memory c ≡ codeAccepted state memory c
+  unfolding codeOf
+  code-accepts h = rw (eq-eqb (codeRefusal state memory c) 0 h)
+
+  pub code-refuses : (r : ℕ) → codeRefusal state memory c ≡ r → 0 < r → codeOf state memory c ≡ codeRefused r state memory c
+  unfolding codeOf
+  code-refuses r h p = rw (ne-eqb (codeRefusal state memory c) 0 (λ e. omega arith), h)
+
+-- Read: the same of the numbers up to 12.
+module _ (state : State) (memory : List ℤ) (c : ReadCall) where
+  pub read-fits : orderRefusal state memory c ≡ 0 → ReadFits state memory c
+  unfolding orderRefusal
+  read-fits h =
+      let s = state .settings in
+      let a = first-own (refusal s) _ h in
+      let b = first-zero (not (eqb (length memory) (memoryLength s))) 8 _ (omega arith) (a .1) in
+      let d = first-zero (not (cellLengths s (c .faccells) (c .sdccells) (c .msccells))) 9 _ (omega arith) (b .1) in
+      let e = first-zero (not (inputLengths s (c .fac) (c .sdc) (c .msc))) 10 _ (omega arith) (d .1) in
+      let g = first-zero (not (inOrder state memory)) 12 0 (omega arith) (e .1) in
+      record {
+        fits = record { settings = a .0; long = eqb-true _ _ (not-false _ (b .0)) };
+        cells = cells-fit s _ _ _ (not-false _ (d .0));
+        bytes = bytes-fit s _ _ _ (not-false _ (e .0));
+        order = ordered state memory (not-false _ (g .0));
+      }
+
+  pub fits-read : ReadFits state memory c → orderRefusal state memory c ≡ 0
+  unfolding orderRefusal
+  fits-read h =
+      first-own-pass (refusal (state .settings)) _ (h .fits .settings)
+      ∙ first-pass _ 8 _ (not-not _ (eq-eqb _ _ (h .fits .long)))
+      ∙ first-pass _ 9 _ (not-not _ (fit-cells (state .settings) _ _ _ (h .cells)))
+      ∙ first-pass _ 10 _ (not-not _ (fit-bytes (state .settings) _ _ _ (h .bytes)))
+      ∙ first-pass _ 12 0 (not-not _ (in-order state memory (h .order)))
+
+  -- The answer, case by case.
+  pub answer-order : (r : ℕ) → orderRefusal state memory c ≡ r → 0 < r → answerOf state memory c ≡ Refused r 0
+  unfolding answerOf
+  answer-order r h p = rw (h, lt-ltb 0 r p)
+
+  pub answer-points : orderRefusal state memory c ≡ 0 → every (pointTests (state .settings) (state .count) c) ≡ false
+      → answerOf state memory c ≡ Refused 13 (firstFault (pointTests (state .settings) (state .count) c))
+  unfolding answerOf
+  answer-points h p = rw (h, p)
+
+  pub answer-blocks : orderRefusal state memory c ≡ 0 → every (pointTests (state .settings) (state .count) c) ≡ true
+      → every (givenTests (state .settings) (progressOf state memory) c) ≡ false
+      → answerOf state memory c ≡ Refused 14 (firstFault (givenTests (state .settings) (progressOf state memory) c))
+  unfolding answerOf
+  answer-blocks h p g = rw (h, p, g)
+
+  pub answer-finished : orderRefusal state memory c ≡ 0 → every (pointTests (state .settings) (state .count) c) ≡ true
+      → every (givenTests (state .settings) (progressOf state memory) c) ≡ true
+      → answerOf state memory c ≡ Finished (length (finishedFrames (state .settings) (progressOf state memory) (rowsOf (state .settings) (c .msccells))))
+  unfolding answerOf
+  answer-finished h p g = rw (h, p, g)
+
+  -- What an accepted and what a refused call yields.
+  pub read-accepts : orderRefusal state memory c ≡ 0 → every (pointTests (state .settings) (state .count) c) ≡ true
+      → every (givenTests (state .settings) (progressOf state memory) c) ≡ true
+      → readOf state memory c ≡ readAccepted state memory c
+  unfolding readOf answerNumber
+  read-accepts h p g = rw (answer-finished h p g)
+
+  pub read-refuses : (r b : ℕ) → answerOf state memory c ≡ Refused r b → 0 < r → readOf state memory c ≡ readRefused state memory c
+  unfolding readOf answerNumber
+  read-refuses r b h p = rw (h, ne-eqb r 0 (λ e. omega arith))

@@ -1,0 +1,342 @@
+-- Runs of Code calls: the bits that they bring, and that the cells which they send are the standard's. Assumes the coding's record.
+use Prim.Native.Nat.{ℕ, suc, _+_, _*_, _≤_, _<_}
+use mathlib.Core.Path.{_≡_, refl, sym, ap, ap₂, _∙_}
+use mathlib.Core.Logic.{_⊎_, inl, inr}
+use mathlib.Core.Bool.{Bool, true, false, not}
+use mathlib.Core.List.{List, [], _∷_, _++_, map}
+use native.Mathlib.Nat.{add-zero, zero-add}
+use native.Mathlib.Decide.{ℕ-discrete}
+use native.Mathlib.Omega.{arith}
+use lib.ListN.{length, getD, drop, length-drop, length-append, List·getD-append}
+use lib.Seq.{getD-drop, drop-drop, drop-at}
+use lib.IntN.{ℤ}
+use borrow.Author.Tests.{ne-eqb, eq-eqb}
+use Rattle.component.specs.Lists.{table}
+use Rattle.component.proofs.Tables.{length-table}
+use Rattle.settings.specs.declared.Settings.{Settings}
+use Rattle.settings.specs.Refusal.{first, refusal}
+use Rattle.settings.specs.Sizes.{frameBytes}
+use Rattle.block.specs.Block.{Block, cellsOf, cellsFrom}
+use Rattle.block.specs.Points.{every}
+use Rattle.frame.specs.Fac.{facBlock}
+use Rattle.frame.specs.Sdc.{sdcBlock}
+use Rattle.frame.specs.Msc.{mscBlock}
+use Rattle.superframe.specs.Interleaving.{Progress, afterFrames, sentRows, fillers}
+use Rattle.superframe.specs.declared.State.{State}
+use Rattle.superframe.specs.Call.{part, parts, joined, memoryLength}
+use Rattle.superframe.specs.Code.{CodeCall, codeRefusal, codeAccepted, codeRefused, codeOf, progressOf, stateOf, frameCells, inputLengths, cellLengths, sparesZero}
+use Rattle.superframe.specs.Facts.{Fits, Ordered}
+use Rattle.superframe.specs.Runs.{Bits, noBits, bitsOf, codes, brought, sent, refusals}
+use Rattle.superframe.specs.Standard.{standardRow, superFrame}
+use Rattle.superframe.specs.Demand3.{ofARun}
+use Rattle.block.proofs.Block.{bits-block}
+use Rattle.block.proofs.Lists.{getD-table, table-ext, table-from, map-table}
+use Rattle.superframe.proofs.Lists.{both}
+use Rattle.block.specs.Fits.{BlockBits}
+use Rattle.superframe.proofs.Coding.{AllBits, none, more, all-at, all-append, Coding}
+use Rattle.superframe.proofs.History.{frameAt, Keeps, keeps-ordered}
+use Rattle.superframe.proofs.Coder.{storedAge, coder-rows, coder-after}
+use Rattle.superframe.proofs.Calls.{code-accepts, code-refuses, first-own-pass, in-order}
+
+-- What an accepted call brings, before what the calls after it bring.
+unfoldable pub bringing : Settings → CodeCall → Bits → Bits
+bringing s c rest =
+    record {
+      fac = map (bitsOf facBlock) (parts 9 (c .fac)) ++ rest .fac;
+      sdc = bitsOf (sdcBlock s) (c .sdc) ∷ rest .sdc;
+      frames = map (bitsOf (mscBlock s)) (parts (frameBytes s) (c .msc)) ++ rest .frames;
+    }
+
+-- Memory and state after an accepted call.
+unfoldable pub coded : Settings → Progress → CodeCall → Progress
+coded s q c = afterFrames s q (frameCells s (c .msc))
+
+-- An accepted call, and a refused one, in a list of calls.
+module _ (s : Settings) (q : Progress) (c : CodeCall) (cs : List CodeCall) where
+  pub accepts-or : (codeRefusal (stateOf s q) (q .memory) c ≡ 0) ⊎ (0 < codeRefusal (stateOf s q) (q .memory) c)
+  accepts-or = elim (ℕ-discrete (codeRefusal (stateOf s q) (q .memory) c) 0) [ yes h ↦ inl h | no h ↦ inr (omega arith) ]
+
+  module _ (h : codeRefusal (stateOf s q) (q .memory) c ≡ 0) where
+    pub brought-accepted : brought (stateOf s q) (q .memory) (c ∷ cs) ≡ bringing s c (brought (stateOf s (coded s q c)) (coded s q c .memory) cs)
+    unfolding brought codes bringing codeAccepted coded stateOf progressOf
+    brought-accepted = rw (code-accepts (stateOf s q) (q .memory) c h)
+
+    pub sent-accepted : sent (stateOf s q) (q .memory) (c ∷ cs)
+        ≡ record {
+          fac = joined (map (cellsFrom facBlock) (parts 9 (c .fac)));
+          sdc = cellsFrom (sdcBlock s) (c .sdc);
+          msc = sentRows s q (frameCells s (c .msc)) ++ fillers s;
+        } ∷ sent (stateOf s (coded s q c)) (coded s q c .memory) cs
+    unfolding sent codes codeAccepted coded stateOf progressOf
+    sent-accepted = rw (code-accepts (stateOf s q) (q .memory) c h)
+
+    pub refusals-accepted : refusals (stateOf s q) (q .memory) (c ∷ cs) ≡ 0 ∷ refusals (stateOf s (coded s q c)) (coded s q c .memory) cs
+    unfolding refusals codeAccepted coded stateOf progressOf
+    refusals-accepted = rw (code-accepts (stateOf s q) (q .memory) c h)
+
+  module _ (h : 0 < codeRefusal (stateOf s q) (q .memory) c) where
+    refused : codeOf (stateOf s q) (q .memory) c ≡ codeRefused (codeRefusal (stateOf s q) (q .memory) c) (stateOf s q) (q .memory) c
+    refused = code-refuses (stateOf s q) (q .memory) c _ refl h
+
+    not-coded : codes (stateOf s q) (q .memory) c ≡ false
+    unfolding codes codeRefused
+    not-coded = rw (refused, ne-eqb (codeRefusal (stateOf s q) (q .memory) c) 0 (λ e. omega arith))
+
+    pub brought-refused : brought (stateOf s q) (q .memory) (c ∷ cs) ≡ brought (stateOf s q) (q .memory) cs
+    unfolding brought codeRefused
+    brought-refused = rw (not-coded, refused)
+
+    pub sent-refused : sent (stateOf s q) (q .memory) (c ∷ cs) ≡ sent (stateOf s q) (q .memory) cs
+    unfolding sent codeRefused
+    sent-refused = rw (not-coded, refused)
+
+    pub refusals-refused : refusals (stateOf s q) (q .memory) (c ∷ cs) ≡ codeRefusal (stateOf s q) (q .memory) c ∷ refusals (stateOf s q) (q .memory) cs
+    unfolding refusals codeRefused
+    refusals-refused = rw refused
+
+-- The bits b are those of B from super frame m on.
+pub record Ahead (B : Bits) (m : ℕ) (b : Bits) : Type 0 where
+  pub fac : drop (3 * m) (B .fac) ≡ b .fac
+  pub sdc : drop m (B .sdc) ≡ b .sdc
+  pub frames : drop (3 * m) (B .frames) ≡ b .frames
+
+-- What stands at a place from which a list goes on.
+at-front : {A : Type 0} (l xs ys : List A) (a i : ℕ) (z : A) → drop a l ≡ xs ++ ys → i < length xs → getD l (a + i) z ≡ getD xs i z
+at-front l xs ys a i z e h = sym (getD-drop a l i z) ∙ ap (λ r. getD r i z) e ∙ List·getD-append xs ys z i h
+
+-- And where the list goes on after it.
+past-front : {A : Type 0} (l xs ys : List A) (a n : ℕ) → drop a l ≡ xs ++ ys → length xs ≡ n → drop (a + n) l ≡ ys
+past-front l xs ys a n e h = sym (drop-drop n a l) ∙ ap (drop n) e ∙ drop-at xs ys n h
+
+-- The cells of packed bytes are those of their bits.
+pub from-bits : (k : Block) (bytes : List ℕ) → cellsFrom k bytes ≡ cellsOf k (bitsOf k bytes)
+unfolding cellsFrom bitsOf
+from-bits k bytes = refl
+
+-- A call has three blocks of a kind.
+three-more : (k : Block) (n : ℕ) (bytes : List ℕ) (ys : List (List ℕ)) → length (map (bitsOf k) (parts n bytes) ++ ys) ≡ 3 + length ys
+unfolding parts
+three-more k n bytes ys = rw (length-append, map-table (bitsOf k) (part n bytes) 0 3, length-table)
+
+-- The bits of a call's three blocks of one kind stand in a list from place a on.
+module _ (k : Block) (n : ℕ) (bytes : List ℕ) (l ys : List (List ℕ)) (a : ℕ) (e : drop a l ≡ map (bitsOf k) (parts n bytes) ++ ys) where
+  three : map (bitsOf k) (parts n bytes) ≡ table (λ i. bitsOf k (part n bytes i)) 0 3
+  unfolding parts
+  three = map-table (bitsOf k) (part n bytes) 0 3
+
+  three-long : length (map (bitsOf k) (parts n bytes)) ≡ 3
+  three-long = ap length three ∙ length-table _ 0 3
+
+  pub three-bits : (i : ℕ) → i < 3 → getD l (a + i) [] ≡ bitsOf k (part n bytes i)
+  three-bits i h =
+      at-front l (map (bitsOf k) (parts n bytes)) ys a i [] e (rw three-long h)
+      ∙ ap (λ r. getD r i []) three ∙ getD-table (λ i. bitsOf k (part n bytes i)) 0 3 i [] h ∙ rw zero-add
+
+  pub three-after : drop (a + 3) l ≡ ys
+  three-after = past-front l (map (bitsOf k) (parts n bytes)) ys a 3 e three-long
+
+  pub three-cells : map (cellsFrom k) (parts n bytes) ≡ table (λ i. cellsOf k (getD l (a + i) [])) 0 3
+  unfolding parts
+  three-cells =
+      map-table (cellsFrom k) (part n bytes) 0 3
+      ∙ table-ext _ _ 0 3 (λ i x y. from-bits k (part n bytes i) ∙ ap (cellsOf k) (sym (three-bits i (omega arith))))
+
+-- A call that is accepted stands ahead; after it stand the bits that the calls after it bring.
+module _ (s : Settings) (B : Bits) (m : ℕ) (call : CodeCall) (rest : Bits) (A : Ahead B m (bringing s call rest)) where
+  fac-ahead : drop (3 * m) (B .fac) ≡ map (bitsOf facBlock) (parts 9 (call .fac)) ++ rest .fac
+  unfolding bringing
+  fac-ahead = A .fac
+
+  sdc-ahead : drop m (B .sdc) ≡ (bitsOf (sdcBlock s) (call .sdc) ∷ []) ++ rest .sdc
+  unfolding bringing
+  sdc-ahead = A .sdc
+
+  frames-ahead : drop (3 * m) (B .frames) ≡ map (bitsOf (mscBlock s)) (parts (frameBytes s) (call .msc)) ++ rest .frames
+  unfolding bringing
+  frames-ahead = A .frames
+
+  pub ahead-next : Ahead B (suc m) rest
+  ahead-next =
+      let e : 3 * suc m ≡ 3 * m + 3 = omega arith in
+      let g : suc m ≡ m + 1 = omega arith in
+      record {
+        fac = rw e (three-after facBlock 9 (call .fac) (B .fac) (rest .fac) (3 * m) fac-ahead);
+        sdc = rw g (past-front (B .sdc) (bitsOf (sdcBlock s) (call .sdc) ∷ []) (rest .sdc) m 1 sdc-ahead refl);
+        frames = rw e (three-after (mscBlock s) (frameBytes s) (call .msc) (B .frames) (rest .frames) (3 * m) frames-ahead);
+      }
+
+  -- There are three frames more.
+  pub more-frames : 3 * suc m ≤ length (B .frames)
+  more-frames =
+      let e = ap length frames-ahead in
+      omega (arith, rw length-drop at e, three-more (mscBlock s) (frameBytes s) (call .msc) (rest .frames))
+
+  -- Its frames are frames 3m to 3m + 2.
+  pub frames-of : frameCells s (call .msc) ≡ table (frameAt s (B .frames)) (3 * m) 3
+  unfolding frameCells frameAt
+  frames-of =
+      three-cells (mscBlock s) (frameBytes s) (call .msc) (B .frames) (rest .frames) (3 * m) frames-ahead
+      ∙ sym (table-from (frameAt s (B .frames)) (3 * m) 3)
+
+  -- With memory as the frames before leave it, its cells are the standard's super frame m, and memory goes on.
+  module _ (c : Coding s) (q : Progress) (K : Keeps s (B .frames) storedAge (3 * m) q) where
+    pub frame-of : record {
+      fac = joined (map (cellsFrom facBlock) (parts 9 (call .fac)));
+      sdc = cellsFrom (sdcBlock s) (call .sdc);
+      msc = sentRows s q (frameCells s (call .msc)) ++ fillers s;
+    } ≡ superFrame s B m
+    unfolding superFrame
+    frame-of = λ i. record { fac = fac-of i; sdc = sdc-of i; msc = msc-of i }
+      where
+        fac-of : joined (map (cellsFrom facBlock) (parts 9 (call .fac))) ≡ joined (table (λ i. cellsOf facBlock (getD (B .fac) (3 * m + i) [])) 0 3)
+        fac-of = ap joined (three-cells facBlock 9 (call .fac) (B .fac) (rest .fac) (3 * m) fac-ahead)
+
+        sdc-of : cellsFrom (sdcBlock s) (call .sdc) ≡ cellsOf (sdcBlock s) (getD (B .sdc) m [])
+        sdc-of =
+            from-bits (sdcBlock s) (call .sdc)
+            ∙ ap (cellsOf (sdcBlock s)) (sym (rw add-zero at (at-front (B .sdc) (bitsOf (sdcBlock s) (call .sdc) ∷ []) (rest .sdc) m 0 [] sdc-ahead (omega arith))))
+
+        msc-of : sentRows s q (frameCells s (call .msc)) ++ fillers s ≡ joined (table (λ i. standardRow s (B .frames) (3 * m + i)) 0 3) ++ fillers s
+        msc-of =
+            ap (λ l. l ++ fillers s)
+            (ap (sentRows s q) frames-of ∙ coder-rows s c (B .frames) 3 (3 * m) q K ∙ ap joined (table-from (standardRow s (B .frames)) (3 * m) 3))
+
+    pub coded-keeps : Keeps s (B .frames) storedAge (3 * suc m) (coded s q call)
+    unfolding coded
+    coded-keeps =
+        let e : 3 * suc m ≡ 3 * m + 3 = omega arith in
+        rw (e, frames-of) (coder-after s c (B .frames) 3 (3 * m) q K)
+
+-- Nothing is brought or sent by no calls.
+module _ (s : Settings) (q : Progress) where
+  brought-none : brought (stateOf s q) (q .memory) [] ≡ noBits
+  unfolding brought
+  brought-none = refl
+
+  refusals-none : refusals (stateOf s q) (q .memory) [] ≡ []
+  unfolding refusals
+  refusals-none = refl
+
+  sent-none : sent (stateOf s q) (q .memory) [] ≡ []
+  unfolding sent
+  sent-none = refl
+
+-- The cells that a list of calls sends are the standard's super frames from m on.
+module _ (s : Settings) (c : Coding s) (B : Bits) where
+  pub sent-standard : (calls : List CodeCall) (m : ℕ) (q : Progress)
+      → Keeps s (B .frames) storedAge (3 * m) q
+      → Ahead B m (brought (stateOf s q) (q .memory) calls)
+      → sent (stateOf s q) (q .memory) calls ≡ table (superFrame s B) m (length (brought (stateOf s q) (q .memory) calls .sdc))
+  unfolding table bringing noBits
+  sent-standard [] m q K A = rw (sent-none s q, brought-none s q)
+  sent-standard (call ∷ calls) m q K A = go (accepts-or s q call calls) (sent-standard calls (suc m) (coded s q call)) (sent-standard calls m q K)
+    where
+      rest : Bits
+      rest = brought (stateOf s (coded s q call)) (coded s q call .memory) calls
+
+      go : (codeRefusal (stateOf s q) (q .memory) call ≡ 0) ⊎ (0 < codeRefusal (stateOf s q) (q .memory) call)
+          → (Keeps s (B .frames) storedAge (3 * suc m) (coded s q call)
+          → Ahead B (suc m) (brought (stateOf s (coded s q call)) (coded s q call .memory) calls)
+          → sent (stateOf s (coded s q call)) (coded s q call .memory) calls
+          ≡ table (superFrame s B) (suc m) (length (brought (stateOf s (coded s q call)) (coded s q call .memory) calls .sdc)))
+          → (Ahead B m (brought (stateOf s q) (q .memory) calls)
+          → sent (stateOf s q) (q .memory) calls ≡ table (superFrame s B) m (length (brought (stateOf s q) (q .memory) calls .sdc)))
+          → sent (stateOf s q) (q .memory) (call ∷ calls) ≡ table (superFrame s B) m (length (brought (stateOf s q) (q .memory) (call ∷ calls) .sdc))
+      go (inl h) next same =
+          let a : Ahead B m (bringing s call rest) = rw (brought-accepted s q call calls h) at A in
+          rw (sent-accepted s q call calls h, brought-accepted s q call calls h)
+          (ap₂ _∷_ (frame-of s B m call rest a c q K) (next (coded-keeps s B m call rest a c q K) (ahead-next s B m call rest a)))
+      go (inr h) next same = rw (sent-refused s q call calls h, brought-refused s q call calls h) (same (rw (brought-refused s q call calls h) at A))
+
+-- Whole super frames of bits: three FAC blocks and three multiplex frames for each SDC block.
+pub record Whole (s : Settings) (B : Bits) : Type 0 where
+  pub fac : length (B .fac) ≡ 3 * length (B .sdc)
+  pub frames : length (B .frames) ≡ 3 * length (B .sdc)
+  pub facBits : AllBits facBlock (B .fac)
+  pub sdcBits : AllBits (sdcBlock s) (B .sdc)
+  pub frameBits : AllBits (mscBlock s) (B .frames)
+
+-- Unpacked bytes are bits of the block.
+bits-of : (k : Block) (bytes : List ℕ) → BlockBits k (bitsOf k bytes)
+unfolding bitsOf
+bits-of k bytes = bits-block bytes
+
+all-unpacked : (k : Block) (l : List (List ℕ)) → AllBits k (map (bitsOf k) l)
+all-unpacked k [] = none
+all-unpacked k (x ∷ l) = more (bits-of k x) (all-unpacked k l)
+
+bringing-whole : (s : Settings) (c : CodeCall) (B : Bits) → Whole s B → Whole s (bringing s c B)
+unfolding bringing
+bringing-whole s c B w =
+    record {
+      fac = three-more facBlock 9 (c .fac) (B .fac) ∙ omega (arith, w .fac);
+      frames = three-more (mscBlock s) (frameBytes s) (c .msc) (B .frames) ∙ omega (arith, w .frames);
+      facBits = all-append (all-unpacked facBlock (parts 9 (c .fac))) (w .facBits);
+      sdcBits = more (bits-of (sdcBlock s) (c .sdc)) (w .sdcBits);
+      frameBits = all-append (all-unpacked (mscBlock s) (parts (frameBytes s) (c .msc))) (w .frameBits);
+    }
+
+-- A list of calls brings whole super frames of bits.
+pub brought-whole : (s : Settings) (calls : List CodeCall) (q : Progress) → Whole s (brought (stateOf s q) (q .memory) calls)
+unfolding noBits
+brought-whole s [] q = rw (brought-none s q) (record { fac = refl; frames = refl; facBits = none; sdcBits = none; frameBits = none })
+brought-whole s (c ∷ cs) q = go (accepts-or s q c cs) (brought-whole s cs (coded s q c)) (brought-whole s cs q)
+  where
+    go : (codeRefusal (stateOf s q) (q .memory) c ≡ 0) ⊎ (0 < codeRefusal (stateOf s q) (q .memory) c)
+        → Whole s (brought (stateOf s (coded s q c)) (coded s q c .memory) cs)
+        → Whole s (brought (stateOf s q) (q .memory) cs)
+        → Whole s (brought (stateOf s q) (q .memory) (c ∷ cs))
+    go (inl h) next same = rw (brought-accepted s q c cs h) (bringing-whole s c _ next)
+    go (inr h) next same = rw (brought-refused s q c cs h) same
+
+-- With allowed settings, and memory of their length and in order, a call is refused by 9, 10 or 11 only.
+of-a-run : (a b d : Bool) → ofARun (first (not a) 9 (first (not b) 10 (first (not d) 11 0))) ≡ true
+unfolding first ofARun
+of-a-run true true true = refl
+of-a-run true true false = refl
+of-a-run true false d = refl
+of-a-run false b d = refl
+
+run-refusal : (state : State) (memory : List ℤ) (c : CodeCall) → Fits (state .settings) memory → Ordered state memory → ofARun (codeRefusal state memory c) ≡ true
+unfolding codeRefusal first
+run-refusal state memory c f o =
+    let s = state .settings in
+    rw (first-own-pass (refusal s) _ (f .settings), eq-eqb _ _ (f .long), in-order state memory o)
+    (of-a-run (inputLengths s (c .fac) (c .sdc) (c .msc)) (cellLengths s (c .faccells) (c .sdccells) (c .msccells)) (sparesZero s (c .sdc) (c .msc)))
+
+-- So are the calls of a run, at each of which memory keeps the frames before.
+module _ (s : Settings) (c : Coding s) (allowed : refusal s ≡ 0) (B : Bits) (w : Whole s B) where
+  keeps-run : (m : ℕ) (q : Progress) → Keeps s (B .frames) storedAge (3 * m) q → 3 * m ≤ length (B .frames) → (call : CodeCall)
+      → ofARun (codeRefusal (stateOf s q) (q .memory) call) ≡ true
+  unfolding stateOf memoryLength
+  keeps-run m q K low call =
+      run-refusal (stateOf s q) (q .memory) call
+      (record { settings = allowed; long = K .long })
+      (keeps-ordered s c (B .frames) storedAge (λ d i. refl) (3 * m) q K (λ i h. all-at (w .frameBits) i (omega arith)))
+
+  pub run-refusals : (calls : List CodeCall) (m : ℕ) (q : Progress)
+      → Keeps s (B .frames) storedAge (3 * m) q
+      → 3 * m ≤ length (B .frames)
+      → Ahead B m (brought (stateOf s q) (q .memory) calls)
+      → every (map ofARun (refusals (stateOf s q) (q .memory) calls)) ≡ true
+  unfolding every
+  run-refusals [] m q K low A = rw (refusals-none s q)
+  run-refusals (call ∷ calls) m q K low A = go (accepts-or s q call calls) (run-refusals calls (suc m) (coded s q call)) (run-refusals calls m q K low)
+    where
+      rest : Bits
+      rest = brought (stateOf s (coded s q call)) (coded s q call .memory) calls
+
+      go : (codeRefusal (stateOf s q) (q .memory) call ≡ 0) ⊎ (0 < codeRefusal (stateOf s q) (q .memory) call)
+          → (Keeps s (B .frames) storedAge (3 * suc m) (coded s q call)
+          → 3 * suc m ≤ length (B .frames)
+          → Ahead B (suc m) (brought (stateOf s (coded s q call)) (coded s q call .memory) calls)
+          → every (map ofARun (refusals (stateOf s (coded s q call)) (coded s q call .memory) calls)) ≡ true)
+          → (Ahead B m (brought (stateOf s q) (q .memory) calls) → every (map ofARun (refusals (stateOf s q) (q .memory) calls)) ≡ true)
+          → every (map ofARun (refusals (stateOf s q) (q .memory) (call ∷ calls))) ≡ true
+      go (inl h) next same =
+          let a : Ahead B m (bringing s call rest) = rw (brought-accepted s q call calls h) at A in
+          let run = keeps-run m q K low call in
+          rw (refusals-accepted s q call calls h)
+          (both (rw h at run) (next (coded-keeps s B m call rest a c q K) (more-frames s B m call rest a) (ahead-next s B m call rest a)))
+      go (inr h) next same =
+          rw (refusals-refused s q call calls h) (both (keeps-run m q K low call) (same (rw (brought-refused s q call calls h) at A)))

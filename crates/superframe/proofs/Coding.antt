@@ -1,0 +1,110 @@
+-- What the laws of runs use of a settings' coding: of each kind of block that reading undoes coding, and of the sizes how they fit.
+use Prim.Native.Nat.{ℕ, zero, suc, _+_, _*_, _%_, _≤_, _<_}
+use mathlib.Core.Path.{_≡_, sym, _∙_}
+use mathlib.Core.Bool.{Bool, true, false, cond}
+use mathlib.Core.List.{List, [], _∷_, _++_}
+use native.Mathlib.Nat.{zero-add}
+use native.Mathlib.Omega.{arith}
+use lib.ListN.{length, getD}
+use lib.IntN.{ℤ, pos}
+use lib.Dec.{eqb}
+use Rattle.settings.specs.declared.Settings.{Settings}
+use Rattle.settings.specs.Cells.{facCells}
+use Rattle.settings.specs.Lengths.{nMux, nSfa, nSdc, lSdc}
+use Rattle.settings.specs.Sizes.{depth, frameBits, frameBytes, sdcBytes}
+use Rattle.block.specs.Mapping.{Constellation, axis}
+use Rattle.block.specs.Block.{Block, bitCount, cellsOf}
+use Rattle.block.specs.Points.{onAxis, isPoint, arePoints}
+use Rattle.block.specs.Reading.{given, bytesRead}
+use Rattle.frame.specs.Fac.{facBlock}
+use Rattle.frame.specs.Sdc.{sdcBlock}
+use Rattle.frame.specs.Msc.{mscBlock}
+use Rattle.superframe.specs.Memory.{slotSize}
+use Rattle.superframe.specs.Runs.{bitsOf}
+use Rattle.block.specs.Fits.{BlockBits}
+use Rattle.block.specs.Reads.{ReadsBytes}
+use Rattle.block.proofs.Block.{length-cells}
+use Rattle.block.proofs.Lists.{getD-table}
+use Rattle.superframe.proofs.Lists.{both, every-at}
+
+-- Bits of a block, each of a list.
+pub data AllBits (k : Block) : List (List ℕ) → Type 0 where
+  none : AllBits k []
+  more : {x : List ℕ} {l : List (List ℕ)} → BlockBits k x → AllBits k l → AllBits k (x ∷ l)
+
+pub all-at : {k : Block} {l : List (List ℕ)} → AllBits k l → (i : ℕ) → i < length l → BlockBits k (getD l i [])
+all-at none i h = absurd (omega arith)
+all-at (more b a) zero h = b
+all-at (more b a) (suc i) h = all-at a i (omega arith)
+
+pub all-append : {k : Block} {l r : List (List ℕ)} → AllBits k l → AllBits k r → AllBits k (l ++ r)
+all-append none c = c
+all-append (more b a) c = more b (all-append a c)
+
+-- Reading undoes coding: the cells of a block's bits are points, are given by bits, and give those bits again; what is read are so many bytes.
+pub record Recovers (k : Block) (bytes : ℕ) : Type 0 where
+  pub points : (x : List ℕ) → BlockBits k x → arePoints (k .points) (cellsOf k x) ≡ true
+  pub gives : (x : List ℕ) → BlockBits k x → given k (cellsOf k x) ≡ true
+  pub back : (x : List ℕ) → BlockBits k x → bitsOf k (bytesRead k (cellsOf k x)) ≡ x
+  pub reads : ReadsBytes k
+  pub long : (cells : List ℤ) → length (bytesRead k cells) ≡ bytes
+
+-- A settings' coding: frames long enough to be interleaved, room for three of them and at most two fillers, and three kinds of block that are recovered.
+pub record Coding (s : Settings) : Type 0 where
+  pub big : 5 ≤ nMux s
+  pub room : 3 * nMux s ≤ nSfa s
+  pub few : nSfa s ≤ 3 * nMux s + 2
+  pub fac : Recovers facBlock 9
+  pub sdc : Recovers (sdcBlock s) (sdcBytes s)
+  pub msc : Recovers (mscBlock s) (frameBytes s)
+  pub sdcBits : bitCount (sdcBlock s) ≡ lSdc s
+  pub mscBits : bitCount (mscBlock s) ≡ frameBits s
+
+-- The cells of each kind of block are as many as it says.
+pub fac-long : (x : List ℕ) → length (cellsOf facBlock x) ≡ 2 * facCells
+unfolding facBlock
+fac-long x = length-cells facBlock x
+
+pub sdc-long : (s : Settings) (x : List ℕ) → length (cellsOf (sdcBlock s) x) ≡ 2 * nSdc s
+unfolding sdcBlock
+sdc-long s x = length-cells (sdcBlock s) x
+
+pub msc-long : (s : Settings) (x : List ℕ) → length (cellsOf (mscBlock s) x) ≡ slotSize s
+unfolding mscBlock slotSize
+msc-long s x = length-cells (mscBlock s) x
+
+-- The depth is at least 1 and at most 5.
+pub depth-low : (s : Settings) → 1 ≤ depth s
+unfolding depth
+depth-low s = go (eqb (s .interleaving) 0)
+  where
+    go : (b : Bool) → 1 ≤ cond b 5 1
+    go true = omega arith
+    go false = omega arith
+
+pub depth-high : (s : Settings) → depth s ≤ 5
+unfolding depth
+depth-high s = go (eqb (s .interleaving) 0)
+  where
+    go : (b : Bool) → cond b 5 1 ≤ 5
+    go true = omega arith
+    go false = omega arith
+
+-- If all cells are points then each is.
+on-axis : (k : Constellation) (cells : List ℤ) → arePoints k cells ≡ true → (j : ℕ) → j < length cells → onAxis (axis k j) (getD cells j (pos 0)) ≡ true
+unfolding arePoints
+on-axis k cells h j b = sym (getD-table (λ j. onAxis (axis k j) (getD cells j (pos 0))) 0 (length cells) j true b ∙ rw zero-add) ∙ every-at _ h j
+
+axis-real : (k : Constellation) (j : ℕ) → axis k (2 * j) ≡ k .real
+unfolding axis
+axis-real k j = let e : 2 * j % 2 ≡ 0 = omega arith in rw e
+
+axis-imaginary : (k : Constellation) (j : ℕ) → axis k (2 * j + 1) ≡ k .imaginary
+unfolding axis
+axis-imaginary k j = let e : (2 * j + 1) % 2 ≡ 1 = omega arith in rw e
+
+pub point-at : (k : Constellation) (cells : List ℤ) → arePoints k cells ≡ true → (j : ℕ) → 2 * j + 1 < length cells
+    → isPoint k (getD cells (2 * j) (pos 0)) (getD cells (2 * j + 1) (pos 0)) ≡ true
+unfolding isPoint
+point-at k cells h j b =
+    both (rw axis-real at (on-axis k cells h (2 * j) (omega arith))) (rw axis-imaginary at (on-axis k cells h (2 * j + 1) b))

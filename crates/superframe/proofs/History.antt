@@ -1,0 +1,214 @@
+-- The frames of a run before a frame, newest first, and what memory keeps of them. Assumes the coding's record.
+use Prim.Native.Nat.{ℕ, zero, suc, _+_, _-_, _*_, _/_, _%_, _≤_, _<_, min}
+use mathlib.Core.Path.{_≡_, refl, sym, ap, _∙_}
+use mathlib.Core.Logic.{_⊎_, inl, inr}
+use mathlib.Core.Bool.{Bool, true, false, _||_}
+use mathlib.Core.List.{List, [], _∷_, append-nil}
+use native.Mathlib.Nat.{zero-add, mul-comm, suc-sub-suc, div-add-mod', mod-lt, div-lt-iff-lt-mul}
+use native.Mathlib.Omega.{arith}
+use lib.ListN.{length, getD, length-replicate, getD-replicate}
+use lib.IntN.{ℤ, pos}
+use borrow.Author.Tests.{le-leb, lt-leb}
+use Rattle.component.specs.Lists.{table}
+use Rattle.component.proofs.Counting.{below-or}
+use Rattle.settings.specs.declared.Settings.{Settings}
+use Rattle.settings.specs.Lengths.{nMux}
+use Rattle.settings.specs.Sizes.{depth}
+use Rattle.block.specs.Block.{cellsOf}
+use Rattle.block.specs.Points.{isPoint, isNumber, every}
+use Rattle.frame.specs.Msc.{mscBlock}
+use Rattle.superframe.specs.Memory.{slotSize, numberIn, startFrame, slotOf}
+use Rattle.superframe.specs.Interleaving.{Progress, sentPlace, delay, slotBefore}
+use Rattle.superframe.specs.Call.{part, joined, isStart, memoryCell}
+use Rattle.superframe.specs.Reset.{startMemory}
+use Rattle.superframe.specs.Code.{stateOf}
+use Rattle.superframe.specs.Facts.{Ordered}
+use Rattle.superframe.specs.Standard.{earlierCells, standardRow}
+use Rattle.block.proofs.Lists.{getD-table}
+use Rattle.superframe.proofs.Lists.{part-joined, length-joined, replicate-table, every-table}
+use Rattle.superframe.proofs.Memory.{getD-slot}
+use Rattle.superframe.proofs.Slots.{slot-low, slot-cover}
+use Rattle.superframe.proofs.Places.{sent-real, sent-imaginary, cell-sent, sent-low}
+use Rattle.block.specs.Fits.{BlockBits}
+use Rattle.superframe.proofs.Coding.{Coding, msc-long, depth-low, point-at}
+
+-- The cells of frame f, and the frames before frame f, newest first.
+unfoldable pub frameAt : Settings → List (List ℕ) → ℕ → List ℤ
+frameAt s F f = cellsOf (mscBlock s) (getD F f [])
+
+unfoldable pub past : Settings → List (List ℕ) → ℕ → List (List ℤ)
+past s F zero = []
+past s F (suc f) = frameAt s F f ∷ past s F f
+
+-- The frame of an age: 0 for the newest before frame f; a start frame before the first.
+unfoldable pub aged : Settings → List (List ℕ) → ℕ → ℕ → List ℤ
+aged s F f d = getD (past s F f) d (startFrame s)
+
+pub start-long : (s : Settings) → length (startFrame s) ≡ slotSize s
+unfolding startFrame
+start-long s = length-replicate (slotSize s) (pos 0)
+
+module _ (s : Settings) (F : List (List ℕ)) where
+  -- One frame later each frame is one older.
+  pub aged-zero : (f : ℕ) → aged s F (suc f) 0 ≡ frameAt s F f
+  unfolding aged past
+  aged-zero f = refl
+
+  pub aged-suc : (f d : ℕ) → aged s F (suc f) (suc d) ≡ aged s F f d
+  unfolding aged past
+  aged-suc f d = refl
+
+  -- A frame of an age below f is one of the run's, any other a start frame.
+  pub aged-run : (f d : ℕ) → d < f → aged s F f d ≡ frameAt s F (f - suc d)
+  aged-run zero d h = absurd (omega arith)
+  aged-run (suc f) zero h = aged-zero f ∙ rw (suc-sub-suc) (ap (frameAt s F) (omega arith))
+  aged-run (suc f) (suc d) h = aged-suc f d ∙ aged-run f d (omega arith) ∙ rw suc-sub-suc
+
+  pub aged-start : (f d : ℕ) → f ≤ d → aged s F f d ≡ startFrame s
+  unfolding aged past
+  aged-start zero d h = refl
+  aged-start (suc f) zero h = absurd (omega arith)
+  aged-start (suc f) (suc d) h = aged-start f d (omega arith)
+
+  -- Every frame has the numbers of a slot.
+  pub aged-long : (f d : ℕ) → length (aged s F f d) ≡ slotSize s
+  unfolding frameAt
+  aged-long f d = go (below-or d f)
+    where
+      go : (d < f) ⊎ (f ≤ d) → length (aged s F f d) ≡ slotSize s
+      go (inl h) = ap length (aged-run f d h) ∙ msc-long s _
+      go (inr h) = ap length (aged-start f d h) ∙ start-long s
+
+  -- The standard's sent cells by age.
+  pub earlier-aged : (f d : ℕ) → earlierCells s F f d ≡ aged s F (suc f) d
+  unfolding earlierCells frameAt
+  earlier-aged f d = go (below-or f d)
+    where
+      go : (f < d) ⊎ (d ≤ f) → earlierCells s F f d ≡ aged s F (suc f) d
+      go (inl h) = rw (lt-leb d f h) (sym (aged-start (suc f) d h))
+      go (inr h) = rw (le-leb d f h) (sym (aged-run (suc f) d (omega arith) ∙ rw suc-sub-suc))
+
+  pub row-number : (f k : ℕ) → k < slotSize s
+      → getD (standardRow s F f) k (pos 0) ≡ getD (aged s F (suc f) (delay (depth s) k)) (sentPlace (nMux s) k) (pos 0)
+  unfolding standardRow
+  row-number f k h =
+      getD-table (λ k. getD (earlierCells s F f (delay (depth s) k)) (sentPlace (nMux s) k) (pos 0)) 0 (slotSize s) k (pos 0) h
+      ∙ rw (zero-add, earlier-aged)
+
+-- What memory keeps before frame f, if the number at sent place k of the slot written d + 1 frames before the position is of the frame of age a d k.
+pub record Keeps (s : Settings) (F : List (List ℕ)) (a : ℕ → ℕ → ℕ) (f : ℕ) (q : Progress) : Type 0 where
+  pub long : length (q .memory) ≡ depth s * slotSize s
+  pub low : q .position < depth s
+  pub counted : q .count ≡ min f (depth s - 1)
+  pub number : (d k : ℕ) → d < depth s → k < slotSize s
+      → numberIn (slotSize s) (q .memory) (slotBefore (depth s) (q .position) (suc d)) (sentPlace (nMux s) k)
+      ≡ getD (aged s F f (a d k)) (sentPlace (nMux s) k) (pos 0)
+
+-- A start frame in every slot.
+start-table : (s : Settings) → startMemory s ≡ joined (table (λ i. startFrame s) 0 (depth s))
+unfolding startMemory
+start-table s = ap joined (replicate-table (startFrame s) 0 (depth s))
+
+pub start-memory : (s : Settings) → length (startMemory s) ≡ depth s * slotSize s
+start-memory s = ap length (start-table s) ∙ length-joined (slotSize s) (λ i. startFrame s) 0 (depth s) (λ i x y. start-long s)
+
+pub start-number : (s : Settings) (slot r : ℕ) → slot < depth s → r < slotSize s → numberIn (slotSize s) (startMemory s) slot r ≡ getD (startFrame s) r (pos 0)
+unfolding slotOf part
+start-number s slot r h b =
+    let e = part-joined (slotSize s) (λ i. startFrame s) 0 (depth s) (λ i x y. start-long s) [] slot h in
+    let m : slotOf (slotSize s) (startMemory s) slot ≡ startFrame s = rw (start-table s, mul-comm slot (slotSize s)) (rw append-nil at e) in
+    sym (getD-slot (slotSize s) (depth s) (startMemory s) (start-memory s) slot r b) ∙ ap (λ l. getD l r (pos 0)) m
+
+-- After a reset no frame has been seen, and memory keeps start frames.
+pub keeps-start : (s : Settings) (c : Coding s) (F : List (List ℕ)) (a : ℕ → ℕ → ℕ) → Keeps s F a 0 (record { memory = startMemory s; position = 0; count = 0 })
+unfolding slotSize
+keeps-start s c F a =
+    record {
+      long = start-memory s;
+      low = depth-low s;
+      counted = omega arith;
+      number = λ d k h b.
+          start-number s _ _ (slot-low (depth s) 0 (depth-low s) (suc d)) (sent-low (nMux s) (c .big) k)
+          ∙ ap (λ l. getD l (sentPlace (nMux s) k) (pos 0)) (sym (aged-start s F 0 (a d k) (omega arith)));
+    }
+
+-- A frame that memory may hold: each of its cells is (0, 0) or an MSC point.
+unfoldable pub goodCell : Settings → ℤ → ℤ → Bool
+goodCell s re im = isStart re im || isPoint (mscBlock s .points) re im
+
+pub record Good (s : Settings) (l : List ℤ) : Type 0 where
+  pub cell : (j : ℕ) → j < nMux s → goodCell s (getD l (2 * j) (pos 0)) (getD l (2 * j + 1) (pos 0)) ≡ true
+
+pub start-good : (s : Settings) → Good s (startFrame s)
+unfolding startFrame slotSize goodCell isStart isNumber
+start-good s =
+    record { cell = λ j h. rw (getD-replicate (2 * nMux s) (2 * j) (pos 0) (pos 0) (omega arith), getD-replicate (2 * nMux s) (2 * j + 1) (pos 0) (pos 0) (omega arith)) }
+
+-- A slot's numbers are twice its cells.
+pub twice : (s : Settings) (j : ℕ) → j < nMux s → 2 * j + 1 < slotSize s
+unfolding slotSize
+twice s j h = omega arith
+
+or-right : (a b : Bool) → b ≡ true → (a || b) ≡ true
+or-right true b h = refl
+or-right false b h = h
+
+pub good-point : (s : Settings) (re im : ℤ) → isPoint (mscBlock s .points) re im ≡ true → goodCell s re im ≡ true
+unfolding goodCell
+good-point s re im h = or-right (isStart re im) (isPoint (mscBlock s .points) re im) h
+
+pub bits-good : (s : Settings) (c : Coding s) (x : List ℕ) → BlockBits (mscBlock s) x → Good s (cellsOf (mscBlock s) x)
+bits-good s c x b =
+    record {
+      cell = λ j h. good-point s _ _ (point-at (mscBlock s .points) (cellsOf (mscBlock s) x) (c .msc .points x b) j (rw (msc-long s x) (twice s j h)));
+    }
+
+module _ (s : Settings) (c : Coding s) (F : List (List ℕ)) where
+  -- All frames of an age are good where those of the run are.
+  pub aged-good : (f : ℕ) → ((i : ℕ) → i < f → BlockBits (mscBlock s) (getD F i [])) → (d : ℕ) → Good s (aged s F f d)
+  unfolding frameAt
+  aged-good f ok d = go (below-or d f)
+    where
+      go : (d < f) ⊎ (f ≤ d) → Good s (aged s F f d)
+      go (inl h) = rw (aged-run s F f d h) (bits-good s c _ (ok (f - suc d) (omega arith)))
+      go (inr h) = rw (aged-start s F f d h) (start-good s)
+
+  -- So memory is in order: each of its cells is (0, 0) or an MSC point.
+  module _ (a : ℕ → ℕ → ℕ) (same : (d i : ℕ) → a d (2 * i + 1) ≡ a d (2 * i)) where
+    pub keeps-cell : (f : ℕ) (q : Progress) → Keeps s F a f q → ((i : ℕ) → i < f → BlockBits (mscBlock s) (getD F i []))
+        → (slot j : ℕ) → slot < depth s → j < nMux s
+        → goodCell s (numberIn (slotSize s) (q .memory) slot (2 * j)) (numberIn (slotSize s) (q .memory) slot (2 * j + 1)) ≡ true
+    keeps-cell f q K ok slot j h b =
+        let w = cell-sent (nMux s) (c .big) j b in
+        let i = w .index in
+        let v = slot-cover (depth s) (q .position) (K .low) slot h in
+        let r : sentPlace (nMux s) (2 * i) ≡ 2 * j = sent-real (nMux s) i ∙ ap (λ x. 2 * x) (w .value) in
+        let m : sentPlace (nMux s) (2 * i + 1) ≡ 2 * j + 1 = sent-imaginary (nMux s) i ∙ ap (λ x. 2 * x + 1) (w .value) in
+        let t = twice s i (w .low) in
+        let re = rw (v .2, r) at (K .number (v .0) (2 * i) (v .1) (omega arith)) in
+        let im = rw (v .2, m, same (v .0) i) at (K .number (v .0) (2 * i + 1) (v .1) t) in
+        rw (re, im) (aged-good f ok (a (v .0) (2 * i)) .cell j b)
+
+    pub keeps-in-order : (f : ℕ) (q : Progress) → Keeps s F a f q → ((i : ℕ) → i < f → BlockBits (mscBlock s) (getD F i []))
+        → every (table (memoryCell s (q .memory)) 0 (depth s * nMux s)) ≡ true
+    unfolding memoryCell goodCell numberIn slotSize
+    keeps-in-order f q K ok = every-table (memoryCell s (q .memory)) 0 (depth s * nMux s) (λ i x y. at i (rw zero-add at y))
+      where
+        at : (i : ℕ) → i < depth s * nMux s → memoryCell s (q .memory) i ≡ true
+        at i h =
+            let n = nMux s in
+            let p = c .big in
+            let e : i / n * n + i % n ≡ i = div-add-mod' i n in
+            let re : i / n * (2 * n) + 2 * (i % n) ≡ 2 * i = omega arith in
+            let im : i / n * (2 * n) + (2 * (i % n) + 1) ≡ 2 * i + 1 = omega arith in
+            rw (re, im) at (keeps-cell f q K ok (i / n) (i % n) (div-lt-iff-lt-mul (omega arith) .1 h) (mod-lt i (omega arith)))
+
+    -- Position, count and memory are those that 12 lets pass.
+    pub keeps-ordered : (f : ℕ) (q : Progress) → Keeps s F a f q → ((i : ℕ) → i < f → BlockBits (mscBlock s) (getD F i [])) → Ordered (stateOf s q) (q .memory)
+    unfolding stateOf
+    keeps-ordered f q K ok =
+        record {
+          position = K .low;
+          count = omega (arith, K .counted, depth-low s);
+          cells = keeps-in-order f q K ok;
+        }

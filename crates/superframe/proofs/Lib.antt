@@ -1,0 +1,15 @@
+pub mod Lists
+pub mod Memory
+pub mod Slots
+pub mod Places
+pub mod Coding
+pub mod History
+pub mod Coder
+pub mod Reader
+pub mod Calls
+pub mod CodeRuns
+pub mod ReadCalls
+pub mod ReadRuns
+pub mod Demand3
+pub mod Demand2
+pub mod Accepted

@@ -1,0 +1,120 @@
+-- Tables, lists cut in parts and put together, and lists of tests. Assumes nothing.
+use Prim.Native.Nat.{ℕ, zero, suc, _+_, _*_, _≤_, _<_}
+use mathlib.Core.Path.{_≡_, refl, sym, ap, _∙_}
+use mathlib.Core.Bool.{Bool, true, false, _&&_}
+use mathlib.Core.List.{List, [], _∷_, _++_, append-assoc, append-nil}
+use native.Mathlib.Nat.{add-zero, zero-add, add-suc, suc-add, mul-zero, mul-suc, zero-mul}
+use native.Mathlib.Omega.{arith}
+use lib.ListN.{length, getD, take, drop, replicate, length-append, length-take}
+use lib.Seq.{getD-take, take-at, drop-append-add}
+use Rattle.component.specs.Lists.{table}
+use Rattle.block.specs.Points.{every}
+use Rattle.block.proofs.Lists.{table-is, table-ext, table-from}
+use Rattle.superframe.specs.Call.{part, parts, joined}
+
+-- The first of a list's elements.
+pub take-table : {A : Type 0} (d : A) (l : List A) (n : ℕ) → n ≤ length l → table (λ i. getD l i d) 0 n ≡ take n l
+take-table d l n h =
+    table-is (λ i. getD l i d) d n (take n l) (rw length-take (omega arith)) (λ i b. sym (getD-take n l i d b))
+
+-- The first values of a table.
+pub take-of-table : {A : Type 0} (f : ℕ → A) (k n m : ℕ) → m ≤ n → take m (table f k n) ≡ table f k m
+unfolding table
+take-of-table f k zero zero h = refl
+take-of-table f k zero (suc m) h = absurd (omega arith)
+take-of-table f k (suc n) zero h = refl
+take-of-table f k (suc n) (suc m) h = ap (λ l. f k ∷ l) (take-of-table f (suc k) n m (omega arith))
+
+-- Parts of n put together, and cut again: the part, the rest after them, and the length.
+module _ {A : Type 0} (n : ℕ) (f : ℕ → List A) where
+  pub part-joined : (k m : ℕ) → ((i : ℕ) → k ≤ i → i < k + m → length (f i) ≡ n) → (rest : List A) (i : ℕ) → i < m
+      → part n (joined (table f k m) ++ rest) i ≡ f (k + i)
+  unfolding table joined part
+  part-joined k zero long rest i h = absurd (omega arith)
+  part-joined k (suc m) long rest zero h =
+      rw (mul-zero, add-zero, append-assoc (f k) (joined (table f (suc k) m)) rest) (take-at (f k) _ n (long k (omega arith) (omega arith)))
+  part-joined k (suc m) long rest (suc i) h =
+      let e : n * suc i ≡ length (f k) + n * i = rw (mul-suc, long k (omega arith) (omega arith)) (omega arith) in
+      rw (append-assoc (f k) (joined (table f (suc k) m)) rest, e, drop-append-add (f k) (joined (table f (suc k) m) ++ rest) (n * i), add-suc, ← suc-add)
+      (part-joined (suc k) m (λ i a b. long i (omega arith) (omega arith)) rest i (omega arith))
+
+  pub after-joined : (k m : ℕ) → ((i : ℕ) → k ≤ i → i < k + m → length (f i) ≡ n) → (rest : List A) → drop (m * n) (joined (table f k m) ++ rest) ≡ rest
+  unfolding table joined
+  after-joined k zero long rest = rw zero-mul
+  after-joined k (suc m) long rest =
+      let e : suc m * n ≡ length (f k) + m * n = rw (long k (omega arith) (omega arith)) (omega arith) in
+      rw (append-assoc (f k) (joined (table f (suc k) m)) rest, e, drop-append-add (f k) (joined (table f (suc k) m) ++ rest) (m * n))
+      (after-joined (suc k) m (λ i a b. long i (omega arith) (omega arith)) rest)
+
+  pub length-joined : (k m : ℕ) → ((i : ℕ) → k ≤ i → i < k + m → length (f i) ≡ n) → length (joined (table f k m)) ≡ m * n
+  unfolding table joined
+  length-joined k zero long = rw zero-mul
+  length-joined k (suc m) long =
+      rw (length-append, length-joined (suc k) m (λ i a b. long i (omega arith) (omega arith)), long k (omega arith) (omega arith)) (omega arith)
+
+-- Equal elements are a table.
+pub replicate-table : {A : Type 0} (a : A) (k n : ℕ) → replicate n a ≡ table (λ i. a) k n
+unfolding table
+replicate-table a k zero = refl
+replicate-table a k (suc n) = ap (λ l. a ∷ l) (replicate-table a (suc k) n)
+
+-- Two tests that hold, one of two that hold.
+pub both : {a b : Bool} → a ≡ true → b ≡ true → (a && b) ≡ true
+both p q = rw (p, q)
+
+pub and-left : (a b : Bool) → (a && b) ≡ true → a ≡ true
+and-left true b h = refl
+and-left false b h = h
+
+pub and-right : (a b : Bool) → (a && b) ≡ true → b ≡ true
+and-right true b h = h
+and-right false b h = absurd (let z : _≡_ {A = ℕ} 0 1 = cc in omega arith)
+
+-- Every test of a table holds if each does; and then each does.
+pub every-table : (f : ℕ → Bool) (k n : ℕ) → ((i : ℕ) → k ≤ i → i < k + n → f i ≡ true) → every (table f k n) ≡ true
+unfolding table every
+every-table f k zero h = refl
+every-table f k (suc n) h =
+    both (h k (omega arith) (omega arith)) (every-table f (suc k) n (λ i a b. h i (omega arith) (omega arith)))
+
+pub every-at : (l : List Bool) → every l ≡ true → (i : ℕ) → getD l i true ≡ true
+unfolding every
+every-at [] h i = refl
+every-at (b ∷ l) h zero = and-left b (every l) h
+every-at (b ∷ l) h (suc i) = every-at l (and-right b (every l) h) i
+
+pub every-append : (l r : List Bool) → every (l ++ r) ≡ (every l && every r)
+unfolding every
+every-append [] r = refl
+every-append (true ∷ l) r = every-append l r
+every-append (false ∷ l) r = refl
+
+-- Three parts put together, and cut again.
+module _ {A : Type 0} (n : ℕ) (f : ℕ → List A) (long : (i : ℕ) → i < 3 → length (f i) ≡ n) where
+  ranged : (i : ℕ) → 0 ≤ i → i < 0 + 3 → length (f i) ≡ n
+  ranged i a b = long i (omega arith)
+
+  pub three-part : (rest : List A) (i : ℕ) → i < 3 → part n (joined (table f 0 3) ++ rest) i ≡ f i
+  three-part rest i h = part-joined n f 0 3 ranged rest i h ∙ rw zero-add
+
+  pub three-parts : (rest : List A) → parts n (joined (table f 0 3) ++ rest) ≡ table f 0 3
+  unfolding parts
+  three-parts rest = table-ext _ _ 0 3 (λ i a b. three-part rest i (omega arith))
+
+  pub only-parts : parts n (joined (table f 0 3)) ≡ table f 0 3
+  only-parts = rw append-nil at (three-parts [])
+
+  pub three-rest : (rest : List A) → drop (3 * n) (joined (table f 0 3) ++ rest) ≡ rest
+  three-rest rest = after-joined n f 0 3 ranged rest
+
+  pub three-length : length (joined (table f 0 3)) ≡ 3 * n
+  three-length = length-joined n f 0 3 ranged
+
+-- Of fewer parts put together, the first of three that are cut.
+pub first-parts : {A : Type 0} (n : ℕ) (f : ℕ → List A) (a m : ℕ) → ((i : ℕ) → a ≤ i → i < a + m → length (f i) ≡ n) → m ≤ 3 → (rest : List A)
+    → take m (parts n (joined (table f a m) ++ rest)) ≡ table f a m
+unfolding parts
+first-parts n f a m long h rest =
+    take-of-table _ 0 3 m h
+    ∙ table-ext _ _ 0 m (λ i x y. part-joined n f a m long rest i (omega arith))
+    ∙ sym (table-from f a m)

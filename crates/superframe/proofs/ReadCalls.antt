@@ -1,0 +1,285 @@
+-- A Read call that is lent the standard's super frame m: it is accepted, and hands out the bits of its blocks and of the frames that it finishes. Assumes the coding's record.
+use Prim.Native.Nat.{ℕ, suc, _+_, _-_, _*_, _≤_, _<_}
+use mathlib.Core.Path.{_≡_, refl, sym, ap, ap₂, _∙_}
+use mathlib.Core.Logic.{_⊎_, inl, inr}
+use mathlib.Core.Bool.{true}
+use mathlib.Core.List.{List, [], _∷_, _++_, map, append-nil}
+use native.Mathlib.Omega.{arith}
+use lib.ListN.{length, getD, take, length-append, length-take}
+use lib.IntN.{pos}
+use borrow.Author.Tests.{le-leb, lt-leb}
+use Rattle.component.specs.Lists.{table}
+use Rattle.component.specs.Interleaving.{place}
+use Rattle.component.proofs.Tables.{length-table}
+use Rattle.component.proofs.Places.{place-low}
+use Rattle.component.proofs.Counting.{below-or}
+use Rattle.settings.specs.declared.Settings.{Settings}
+use Rattle.settings.specs.Refusal.{refusal}
+use Rattle.settings.specs.Cells.{facCells}
+use Rattle.settings.specs.Lengths.{nMux, nSfa}
+use Rattle.settings.specs.Sizes.{depth, frameBytes}
+use Rattle.block.specs.Block.{Block, cellsOf}
+use Rattle.block.specs.Points.{sameNumbers, isPoint, arePoints, every}
+use Rattle.block.specs.Reading.{given, bytesRead}
+use Rattle.frame.specs.Fac.{facBlock}
+use Rattle.frame.specs.Sdc.{sdcBlock}
+use Rattle.frame.specs.Msc.{mscBlock}
+use Rattle.superframe.specs.Memory.{slotSize}
+use Rattle.superframe.specs.Interleaving.{Progress, delay, afterRows, finishedFrames, fillers}
+use Rattle.superframe.specs.Call.{part, parts, joined, memoryLength}
+use Rattle.superframe.specs.Code.{progressOf, stateOf}
+use Rattle.superframe.specs.Read.{ReadCall, answerNumber, answerFrames, rowsOf, fillersOf, rowCell, rowPoints, countAt, pointTests, givenTests, orderRefusal, handedOut, readAccepted, readOf}
+use Rattle.superframe.specs.Facts.{BytesFit, CellsFit}
+use Rattle.superframe.specs.Runs.{Bits, SuperFrame, bitsOf, reads, handed}
+use Rattle.superframe.specs.Standard.{standardRow, superFrame}
+use Rattle.block.proofs.Mapping.{sameNumbers-refl}
+use Rattle.block.proofs.Lists.{table-ext, table-from, map-table}
+use Rattle.superframe.proofs.Lists.{take-of-table, every-table, every-append, three-part, three-parts, only-parts, three-rest, three-length, first-parts}
+use Rattle.superframe.proofs.Places.{delay-cell, sent-real, sent-imaginary}
+use Rattle.block.specs.Fits.{BlockBits}
+use Rattle.superframe.proofs.Coding.{AllBits, all-at, Recovers, Coding, fac-long, sdc-long, msc-long, point-at}
+use Rattle.superframe.proofs.History.{frameAt, aged-run, row-number, Keeps, keeps-ordered, twice}
+use Rattle.superframe.proofs.Reader.{sentAge, sentAge-cell, reader-after, reader-finished}
+use Rattle.superframe.proofs.Calls.{fits-read, read-accepts}
+use Rattle.superframe.proofs.CodeRuns.{Whole}
+
+-- A row has the numbers of a slot, and the fillers are those of the super frame's cells that are left.
+row-long : (s : Settings) (F : List (List ℕ)) (f : ℕ) → length (standardRow s F f) ≡ slotSize s
+unfolding standardRow
+row-long s F f = length-table _ 0 (slotSize s)
+
+pub fillers-long : (s : Settings) → Coding s → length (fillers s) ≡ 2 * (nSfa s - 3 * nMux s)
+unfolding fillers
+fillers-long s c = rw length-take (omega (arith, c .few))
+
+-- The cells of a row that are not ignored are points.
+module _ (s : Settings) (c : Coding s) (F : List (List ℕ)) (f : ℕ) (ok : (i : ℕ) → i ≤ f → BlockBits (mscBlock s) (getD F i [])) where
+  frame-point : (i j : ℕ) → i ≤ f → j < nMux s → isPoint (mscBlock s .points) (getD (frameAt s F i) (2 * j) (pos 0)) (getD (frameAt s F i) (2 * j + 1) (pos 0)) ≡ true
+  unfolding frameAt
+  frame-point i j h b =
+      point-at (mscBlock s .points) (cellsOf (mscBlock s) (getD F i [])) (c .msc .points _ (ok i h)) j (rw (msc-long s (getD F i [])) (twice s j b))
+
+  row-cell : (count i : ℕ) → count ≤ f → i < nMux s → rowCell s count (standardRow s F f) i ≡ true
+  unfolding rowCell
+  row-cell count i h b = go (below-or count (delay (depth s) (2 * i)))
+    where
+      go : (count < delay (depth s) (2 * i)) ⊎ (delay (depth s) (2 * i) ≤ count) → rowCell s count (standardRow s F f) i ≡ true
+      go (inl x) = rw (lt-leb (delay (depth s) (2 * i)) count x)
+      go (inr x) =
+          let t = twice s i b in
+          rw (
+            le-leb (delay (depth s) (2 * i)) count x,
+            row-number s F f (2 * i) (omega arith),
+            row-number s F f (2 * i + 1) t,
+            delay-cell (depth s) i,
+            sent-real (nMux s) i,
+            sent-imaginary (nMux s) i,
+            aged-run s F (suc f) (delay (depth s) (2 * i)) (omega arith),
+          )
+          (frame-point _ (place 5 (nMux s) i) (omega arith) (place-low 5 (nMux s) (record { low = c .big; factor = refl }) i))
+
+  row-points : (count : ℕ) → count ≤ f → rowPoints s count (standardRow s F f) ≡ true
+  unfolding rowPoints
+  row-points count h = every-table _ 0 (nMux s) (λ i x y. row-cell count i h (omega arith))
+
+-- A Read call that lends a super frame's cells, with buffers for bytes.
+unfoldable pub feeding : SuperFrame → List ℕ → List ℕ → List ℕ → ReadCall
+feeding f fac sdc msc = record { faccells = f .fac; sdccells = f .sdc; msccells = f .msc; fac = fac; sdc = sdc; msc = msc }
+
+-- Memory and state after it.
+unfoldable pub readOn : Settings → Progress → Bits → ℕ → Progress
+readOn s q B m = afterRows s q (table (standardRow s (B .frames)) (3 * m) 3)
+
+-- What it hands out, before what the calls after it hand out.
+unfoldable pub handing : Settings → Bits → ℕ → Bits → Bits
+handing s B m rest =
+    record {
+      fac = table (λ i. getD (B .fac) i []) (3 * m) 3 ++ rest .fac;
+      sdc = getD (B .sdc) m [] ∷ rest .sdc;
+      frames = table (λ i. getD (B .frames) i []) (3 * m - (depth s - 1)) (3 * m + 3 - (depth s - 1) - (3 * m - (depth s - 1))) ++ rest .frames;
+    }
+
+-- Of three blocks' bits: the bytes read from their cells are put together, cut, and unpacked to the bits again.
+module _ (k : Block) (n : ℕ) (r : Recovers k n) (l : List (List ℕ)) (all : AllBits k l) where
+  block-back : (i : ℕ) → i < length l → bitsOf k (bytesRead k (cellsOf k (getD l i []))) ≡ getD l i []
+  block-back i h = r .back (getD l i []) (all-at all i h)
+
+  pub back-parts : (a m : ℕ) → a + m ≤ length l → m ≤ 3 → (rest : List ℕ)
+      → map (bitsOf k) (take m (parts n (joined (table (λ i. bytesRead k (cellsOf k (getD l i []))) a m) ++ rest))) ≡ table (λ i. getD l i []) a m
+  back-parts a m h b rest =
+      ap (map (bitsOf k)) (first-parts n (λ i. bytesRead k (cellsOf k (getD l i []))) a m (λ i x y. r .long (cellsOf k (getD l i []))) b rest)
+      ∙ map-table (bitsOf k) (λ i. bytesRead k (cellsOf k (getD l i []))) a m
+      ∙ table-ext _ _ a m (λ i x y. block-back i (omega arith))
+
+-- Three parts are all of three.
+take-three : {A : Type 0} (n : ℕ) (l : List A) → take 3 (parts n l) ≡ parts n l
+unfolding parts
+take-three n l = take-of-table (part n l) 0 3 3 (omega arith)
+
+-- The frames that a call finishes are at most three, and among those brought.
+at-most : (a e : ℕ) → a + 3 - e - (a - e) ≤ 3
+at-most a e = omega arith
+
+all-in : (a e : ℕ) → (a - e) + (a + 3 - e - (a - e)) ≤ a + 3
+all-in a e = omega arith
+
+within : (a e i : ℕ) → i < (a - e) + (a + 3 - e - (a - e)) → i < a + 3
+within a e i h = omega arith
+
+module _ (s : Settings) (c : Coding s) (B : Bits) (w : Whole s B) (m : ℕ) (low : m < length (B .sdc)) where
+  fac-at : (i : ℕ) → i < 3 → BlockBits facBlock (getD (B .fac) (3 * m + i) [])
+  fac-at i h = all-at (w .facBits) (3 * m + i) (omega (arith, w .fac))
+
+  sdc-at : BlockBits (sdcBlock s) (getD (B .sdc) m [])
+  sdc-at = all-at (w .sdcBits) m low
+
+  frame-at : (i : ℕ) → i < 3 * m + 3 → BlockBits (mscBlock s) (getD (B .frames) i [])
+  frame-at i h = all-at (w .frameBits) i (omega (arith, w .frames))
+
+  -- The parts of the super frame's cells.
+  fac-parts : parts (2 * facCells) (superFrame s B m .fac) ≡ table (λ i. cellsOf facBlock (getD (B .fac) (3 * m + i) [])) 0 3
+  unfolding superFrame
+  fac-parts = only-parts (2 * facCells) (λ i. cellsOf facBlock (getD (B .fac) (3 * m + i) [])) (λ i h. fac-long _)
+
+  sdc-part : superFrame s B m .sdc ≡ cellsOf (sdcBlock s) (getD (B .sdc) m [])
+  unfolding superFrame
+  sdc-part = refl
+
+  row-part : (i : ℕ) → i < 3 → part (slotSize s) (superFrame s B m .msc) i ≡ standardRow s (B .frames) (3 * m + i)
+  unfolding superFrame
+  row-part = three-part (slotSize s) (λ i. standardRow s (B .frames) (3 * m + i)) (λ i h. row-long s (B .frames) (3 * m + i)) (fillers s)
+
+  rows-are : rowsOf s (superFrame s B m .msc) ≡ table (standardRow s (B .frames)) (3 * m) 3
+  unfolding superFrame rowsOf
+  rows-are =
+      three-parts (slotSize s) (λ i. standardRow s (B .frames) (3 * m + i)) (λ i h. row-long s (B .frames) (3 * m + i)) (fillers s)
+      ∙ sym (table-from (standardRow s (B .frames)) (3 * m) 3)
+
+  fillers-are : fillersOf s (superFrame s B m .msc) ≡ fillers s
+  unfolding superFrame fillersOf
+  fillers-are = three-rest (slotSize s) (λ i. standardRow s (B .frames) (3 * m + i)) (λ i h. row-long s (B .frames) (3 * m + i)) (fillers s)
+
+  -- Their lengths.
+  cells-long : CellsFit s (superFrame s B m .fac) (superFrame s B m .sdc) (superFrame s B m .msc)
+  unfolding superFrame slotSize
+  cells-long =
+      record {
+        faclong = three-length (2 * facCells) (λ i. cellsOf facBlock (getD (B .fac) (3 * m + i) [])) (λ i h. fac-long _);
+        sdclong = sdc-long s _;
+        msclong =
+            length-append (joined (table (λ i. standardRow s (B .frames) (3 * m + i)) 0 3)) (fillers s)
+            ∙ ap₂ _+_ (three-length (slotSize s) (λ i. standardRow s (B .frames) (3 * m + i)) (λ i h. row-long s (B .frames) (3 * m + i))) (fillers-long s c)
+            ∙ sum (nMux s) (nSfa s) (c .room);
+      }
+    where
+      sum : (n a : ℕ) → 3 * n ≤ a → 3 * (2 * n) + 2 * (a - 3 * n) ≡ 2 * a
+      sum n a h = omega arith
+
+  module _ (allowed : refusal s ≡ 0) (q : Progress) (K : Keeps s (B .frames) (sentAge (depth s)) (3 * m) q) (fac sdc msc : List ℕ) (bytes : BytesFit s fac sdc msc) where
+    -- No number up to 12 refuses the call.
+    fed-order : orderRefusal (stateOf s q) (q .memory) (feeding (superFrame s B m) fac sdc msc) ≡ 0
+    unfolding stateOf feeding memoryLength
+    fed-order =
+        fits-read (stateOf s q) (q .memory) (feeding (superFrame s B m) fac sdc msc)
+        (record {
+          fits = record { settings = allowed; long = K .long };
+          cells = cells-long;
+          bytes = bytes;
+          order = keeps-ordered s c (B .frames) (sentAge (depth s)) (sentAge-cell (depth s)) (3 * m) q K (λ i h. frame-at i (omega arith));
+        })
+
+    -- Nor does 13.
+    fac-points : every (map (arePoints (facBlock .points)) (parts (2 * facCells) (superFrame s B m .fac))) ≡ true
+    fac-points =
+        rw (fac-parts, map-table (arePoints (facBlock .points)) (λ i. cellsOf facBlock (getD (B .fac) (3 * m + i) [])) 0 3)
+        (every-table _ 0 3 (λ i x y. c .fac .points _ (fac-at i (omega arith))))
+
+    sdc-points : arePoints (sdcBlock s .points) (superFrame s B m .sdc) ≡ true
+    sdc-points = rw sdc-part (c .sdc .points _ sdc-at)
+
+    count-low : (i : ℕ) → countAt s (q .count) i ≤ 3 * m + i
+    unfolding countAt
+    count-low i = omega (arith, K .counted)
+
+    rows-points : every (table (λ i. rowPoints s (countAt s (q .count) i) (part (slotSize s) (superFrame s B m .msc) i)) 0 3) ≡ true
+    rows-points = every-table _ 0 3 (λ i x y. row i (omega arith))
+      where
+        row : (i : ℕ) → i < 3 → rowPoints s (countAt s (q .count) i) (part (slotSize s) (superFrame s B m .msc) i) ≡ true
+        row i h = rw (row-part i h) (row-points s c (B .frames) (3 * m + i) (λ j x. frame-at j (omega arith)) (countAt s (q .count) i) (count-low i))
+
+    fillers-points : sameNumbers (fillersOf s (superFrame s B m .msc)) (fillers s) ≡ true
+    fillers-points = rw fillers-are (sameNumbers-refl (fillers s))
+
+    fed-points : every (pointTests s (q .count) (feeding (superFrame s B m) fac sdc msc)) ≡ true
+    unfolding pointTests feeding every
+    fed-points = rw (every-append, every-append, fac-points, sdc-points, rows-points, fillers-points)
+
+    -- Nor does 14.
+    fed-finished : finishedFrames s q (rowsOf s (superFrame s B m .msc)) ≡ table (frameAt s (B .frames)) (3 * m - (depth s - 1)) (3 * m + 3 - (depth s - 1) - (3 * m - (depth s - 1)))
+    fed-finished = ap (finishedFrames s q) rows-are ∙ reader-finished s c (B .frames) 3 (3 * m) q K
+
+    fac-given : every (map (given facBlock) (parts (2 * facCells) (superFrame s B m .fac))) ≡ true
+    fac-given =
+        rw (fac-parts, map-table (given facBlock) (λ i. cellsOf facBlock (getD (B .fac) (3 * m + i) [])) 0 3)
+        (every-table _ 0 3 (λ i x y. c .fac .gives _ (fac-at i (omega arith))))
+
+    sdc-given : given (sdcBlock s) (superFrame s B m .sdc) ≡ true
+    sdc-given = rw sdc-part (c .sdc .gives _ sdc-at)
+
+    frames-given : every (map (given (mscBlock s)) (finishedFrames s q (rowsOf s (superFrame s B m .msc)))) ≡ true
+    unfolding frameAt
+    frames-given =
+        rw (fed-finished, map-table (given (mscBlock s)) (frameAt s (B .frames)) (3 * m - (depth s - 1)) (3 * m + 3 - (depth s - 1) - (3 * m - (depth s - 1))))
+        (every-table _ (3 * m - (depth s - 1)) _ (λ i x y. c .msc .gives _ (frame-at i (within (3 * m) (depth s - 1) i y))))
+
+    fed-given : every (givenTests s q (feeding (superFrame s B m) fac sdc msc)) ≡ true
+    unfolding givenTests feeding every
+    fed-given = rw (every-append, fac-given, sdc-given, frames-given)
+
+    -- So it is accepted.
+    pub fed-accepted : readOf (stateOf s q) (q .memory) (feeding (superFrame s B m) fac sdc msc) ≡ readAccepted (stateOf s q) (q .memory) (feeding (superFrame s B m) fac sdc msc)
+    unfolding stateOf progressOf
+    fed-accepted = read-accepts (stateOf s q) (q .memory) (feeding (superFrame s B m) fac sdc msc) fed-order fed-points fed-given
+
+    -- And it hands out its FAC blocks' bits, its SDC block's and those of the frames that it finishes.
+    fac-out : map (bitsOf facBlock) (parts 9 (joined (map (bytesRead facBlock) (parts (2 * facCells) (superFrame s B m .fac))))) ≡ table (λ i. getD (B .fac) i []) (3 * m) 3
+    fac-out =
+        let e = back-parts facBlock 9 (c .fac) (B .fac) (w .facBits) (3 * m) 3 (omega (arith, w .fac)) (omega arith) [] in
+        rw (
+          fac-parts,
+          map-table (bytesRead facBlock) (λ i. cellsOf facBlock (getD (B .fac) (3 * m + i) [])) 0 3,
+          ← table-from (λ i. bytesRead facBlock (cellsOf facBlock (getD (B .fac) i []))) (3 * m) 3,
+        )
+        (rw (append-nil, take-three) at e)
+
+    sdc-out : bitsOf (sdcBlock s) (bytesRead (sdcBlock s) (superFrame s B m .sdc)) ≡ getD (B .sdc) m []
+    sdc-out = rw sdc-part (c .sdc .back _ sdc-at)
+
+    frames-out : map (bitsOf (mscBlock s)) (take (length (finishedFrames s q (rowsOf s (superFrame s B m .msc)))) (parts (frameBytes s) (handedOut s (finishedFrames s q (rowsOf s (superFrame s B m .msc))))))
+        ≡ table (λ i. getD (B .frames) i []) (3 * m - (depth s - 1)) (3 * m + 3 - (depth s - 1) - (3 * m - (depth s - 1)))
+    unfolding handedOut frameAt
+    frames-out =
+        rw (fed-finished, length-table, map-table (bytesRead (mscBlock s)) (frameAt s (B .frames)) (3 * m - (depth s - 1)) (3 * m + 3 - (depth s - 1) - (3 * m - (depth s - 1))))
+        (back-parts (mscBlock s) (frameBytes s) (c .msc) (B .frames) (w .frameBits) (3 * m - (depth s - 1)) (3 * m + 3 - (depth s - 1) - (3 * m - (depth s - 1)))
+        (let e = all-in (3 * m) (depth s - 1) in omega (arith, w .frames)) (at-most (3 * m) (depth s - 1)) _)
+
+    pub fed-reads : reads (stateOf s q) (q .memory) (feeding (superFrame s B m) fac sdc msc) ≡ true
+    unfolding reads readAccepted answerNumber
+    fed-reads = rw fed-accepted
+
+    pub fed-handed : (rest : List ReadCall) → handed (stateOf s q) (q .memory) (feeding (superFrame s B m) fac sdc msc ∷ rest) ≡ handing s B m (handed (stateOf s (readOn s q B m)) (readOn s q B m .memory) rest)
+    unfolding handed readAccepted answerFrames progressOf stateOf feeding handing readOn
+    fed-handed rest = rw (fed-reads, fed-accepted, fac-out, sdc-out, frames-out, rows-are)
+
+    pub fed-state : readOf (stateOf s q) (q .memory) (feeding (superFrame s B m) fac sdc msc) .reading .state ≡ stateOf s (readOn s q B m)
+    unfolding readAccepted progressOf stateOf feeding readOn
+    fed-state = rw (fed-accepted, rows-are)
+
+    pub fed-memory : readOf (stateOf s q) (q .memory) (feeding (superFrame s B m) fac sdc msc) .memory ≡ readOn s q B m .memory
+    unfolding readAccepted progressOf stateOf feeding readOn
+    fed-memory = rw (fed-accepted, rows-are)
+
+    -- Memory keeps the numbers of the next super frame's row.
+    pub fed-keeps : Keeps s (B .frames) (sentAge (depth s)) (3 * suc m) (readOn s q B m)
+    unfolding readOn
+    fed-keeps = let e : 3 * suc m ≡ 3 * m + 3 = omega arith in rw e (reader-after s c (B .frames) 3 (3 * m) q K)

@@ -1,0 +1,49 @@
+-- What the calls share: parts of a buffer, and the tests of state and memory. 01 "Buffers and state" and "Operations".
+use Prim.Native.Nat.{ℕ, zero, suc, _+_, _-_, _*_}
+use mathlib.Core.Bool.{Bool, true, false, cond, not, _&&_, _||_}
+use mathlib.Core.List.{List, [], _∷_, _++_, map}
+use lib.ListN.{length, getD, take, drop}
+use lib.IntN.{ℤ, pos}
+use lib.Dec.{eqb, ltb}
+use Rattle.component.specs.Lists.{table}
+use Rattle.settings.specs.declared.Settings.{Settings}
+use Rattle.settings.specs.Lengths.{nMux}
+use Rattle.settings.specs.Sizes.{depth}
+use Rattle.block.specs.Block.{Block}
+use Rattle.block.specs.Points.{isNumber, isPoint, every}
+use Rattle.frame.specs.Msc.{mscBlock}
+use Rattle.superframe.specs.declared.State.{State}
+use Rattle.superframe.specs.Memory.{slotSize}
+
+-- Part i of a buffer that is cut in parts of n.
+unfoldable pub part : {A : Type 0} → ℕ → List A → ℕ → List A
+part n l i = take n (drop (n * i) l)
+
+-- The three parts of a buffer.
+unfoldable pub parts : {A : Type 0} → ℕ → List A → List (List A)
+parts n l = table (part n l) 0 3
+
+-- Lists one after the other.
+unfoldable pub joined : {A : Type 0} → List (List A) → List A
+joined [] = []
+joined (l ∷ ls) = l ++ joined ls
+
+-- The length that memory must have.
+unfoldable pub memoryLength : Settings → ℕ
+memoryLength s = depth s * slotSize s
+
+-- A cell of a frame before the first is (0, 0).
+unfoldable pub isStart : ℤ → ℤ → Bool
+isStart re im = isNumber (pos 0) re && isNumber (pos 0) im
+
+-- Refusal 12: position or count above 4 (above 0 in short), or a memory cell neither (0, 0) nor an MSC point.
+unfoldable pub memoryCell : Settings → List ℤ → ℕ → Bool
+memoryCell s memory i =
+    isStart (getD memory (2 * i) (pos 0)) (getD memory (2 * i + 1) (pos 0))
+    || isPoint (mscBlock s .points) (getD memory (2 * i) (pos 0)) (getD memory (2 * i + 1) (pos 0))
+
+unfoldable pub inOrder : State → List ℤ → Bool
+inOrder state memory =
+    ltb (state .position) (depth (state .settings))
+    && (ltb (state .count) (depth (state .settings))
+    && every (table (memoryCell (state .settings) memory) 0 (depth (state .settings) * nMux (state .settings))))

@@ -1,0 +1,11 @@
+pub mod Memory
+pub mod Interleaving
+pub mod Call
+pub mod Reset
+pub mod Code
+pub mod Read
+pub mod Facts
+pub mod Runs
+pub mod Standard
+pub mod Demand2
+pub mod Demand3

@@ -1,0 +1,32 @@
+-- The interleaving memory. 01 "Buffers and state": slots of N_MUX cells in mapping order, five in long interleaving and one in short.
+use Prim.Native.Nat.{ℕ, _+_, _*_}
+use mathlib.Core.List.{List}
+use lib.ListN.{getD, set, take, drop, replicate}
+use lib.Seq.{sets}
+use lib.IntN.{ℤ, pos}
+use Rattle.settings.specs.declared.Settings.{Settings}
+use Rattle.settings.specs.Lengths.{nMux}
+
+-- The numbers of a slot: a real and an imaginary one for each cell.
+unfoldable pub slotSize : Settings → ℕ
+slotSize s = 2 * nMux s
+
+-- The number at a slot and index.
+unfoldable pub numberIn : ℕ → List ℤ → ℕ → ℕ → ℤ
+numberIn size memory slot k = getD memory (slot * size + k) (pos 0)
+
+-- Memory with the number at a slot and index replaced.
+unfoldable pub replaced : ℕ → List ℤ → ℕ → ℕ → ℤ → List ℤ
+replaced size memory slot k v = set memory (slot * size + k) v
+
+-- Memory with a frame's numbers in a slot, and no other memory changed.
+unfoldable pub stored : ℕ → List ℤ → ℕ → List ℤ → List ℤ
+stored size memory slot numbers = sets memory (slot * size) numbers
+
+-- The numbers of a slot.
+unfoldable pub slotOf : ℕ → List ℤ → ℕ → List ℤ
+slotOf size memory slot = take size (drop (slot * size) memory)
+
+-- The cells of a frame before the first: (0, 0).
+unfoldable pub startFrame : Settings → List ℤ
+startFrame s = replicate (slotSize s) (pos 0)

@@ -1,0 +1,151 @@
+-- The call Read. 01 "Buffers and state" and "Operations".
+use Prim.Native.Nat.{ℕ, zero, suc, _+_, _-_, _*_}
+use mathlib.Core.Bool.{Bool, true, false, cond, not, _&&_, _||_}
+use mathlib.Core.List.{List, [], _∷_, _++_, map}
+use lib.ListN.{length, getD, take, drop, replicate}
+use lib.IntN.{ℤ, pos}
+use lib.Dec.{eqb, ltb, leb}
+use Rattle.component.specs.Lists.{table}
+use Rattle.settings.specs.declared.Settings.{Settings}
+use Rattle.settings.specs.Refusal.{first, refusal}
+use Rattle.settings.specs.Cells.{facCells}
+use Rattle.settings.specs.Lengths.{nMux}
+use Rattle.settings.specs.Sizes.{depth, frameBytes}
+use Rattle.block.specs.Block.{Block}
+use Rattle.block.specs.Points.{isPoint, arePoints, sameNumbers, every}
+use Rattle.block.specs.Reading.{given, bytesRead}
+use Rattle.frame.specs.Fac.{facBlock}
+use Rattle.frame.specs.Sdc.{sdcBlock}
+use Rattle.frame.specs.Msc.{mscBlock}
+use Rattle.superframe.specs.declared.State.{State}
+use Rattle.superframe.specs.declared.Answer.{Answer}
+use Rattle.superframe.specs.declared.Answer.the-variants.{Finished, Refused}
+use Rattle.superframe.specs.declared.Reading.{Reading}
+use Rattle.superframe.specs.Memory.{slotSize}
+use Rattle.superframe.specs.Interleaving.{Progress, advanced, delay, afterRows, finishedFrames, fillers}
+use Rattle.superframe.specs.Call.{part, parts, joined, memoryLength, inOrder}
+use Rattle.superframe.specs.Code.{inputLengths, cellLengths, progressOf, stateOf}
+
+-- What a Read call is lent beside the memory: the cells of three FAC blocks, an SDC block and the MSC sequence, and three buffers for packed bytes.
+pub record ReadCall : Type 0 where
+  pub faccells : List ℤ
+  pub sdccells : List ℤ
+  pub msccells : List ℤ
+  pub fac : List ℕ
+  pub sdc : List ℕ
+  pub msc : List ℕ
+
+-- All that a Read call yields: its answer, and memory and outputs as it leaves them.
+pub record ReadYield : Type 0 where
+  pub reading : Reading
+  pub memory : List ℤ
+  pub fac : List ℕ
+  pub sdc : List ℕ
+  pub msc : List ℕ
+
+-- 01's number and values of an answer: 0 and the finished frames, or the refusal's number and its block.
+unfoldable pub answerNumber : Answer → ℕ
+answerNumber (Finished n) = 0
+answerNumber (Refused r b) = r
+
+unfoldable pub answerFrames : Answer → ℕ
+answerFrames (Finished n) = n
+answerFrames (Refused r b) = 0
+
+unfoldable pub answerBlock : Answer → ℕ
+answerBlock (Finished n) = 0
+answerBlock (Refused r b) = b
+
+-- The three sent rows of MSC cells, and the fillers after them.
+unfoldable pub rowsOf : Settings → List ℤ → List (List ℤ)
+rowsOf s msccells = parts (slotSize s) msccells
+
+unfoldable pub fillersOf : Settings → List ℤ → List ℤ
+fillersOf s msccells = drop (3 * slotSize s) msccells
+
+-- A cell of a row is ignored where it is of a frame before the first; any other must be an MSC point.
+unfoldable pub rowCell : Settings → ℕ → List ℤ → ℕ → Bool
+rowCell s count row i =
+    not (leb (delay (depth s) (2 * i)) count)
+    || isPoint (mscBlock s .points) (getD row (2 * i) (pos 0)) (getD row (2 * i + 1) (pos 0))
+
+unfoldable pub rowPoints : Settings → ℕ → List ℤ → Bool
+rowPoints s count row = every (table (rowCell s count row) 0 (nMux s))
+
+-- The frames seen before row i of a call begun at a count.
+unfoldable pub countAt : Settings → ℕ → ℕ → ℕ
+countAt s count i = Prim.Native.Nat.min (count + i) (depth s - 1)
+
+-- 13 by block: 0 to 2 FAC, 3 SDC, 4 to 6 the sent rows, 7 the fillers.
+unfoldable pub pointTests : Settings → ℕ → ReadCall → List Bool
+pointTests s count c =
+    map (arePoints (facBlock .points)) (parts (2 * facCells) (c .faccells))
+    ++ (arePoints (sdcBlock s .points) (c .sdccells)
+    ∷ (table (λ i. rowPoints s (countAt s count i) (part (slotSize s) (c .msccells) i)) 0 3
+    ++ (sameNumbers (fillersOf s (c .msccells)) (fillers s) ∷ [])))
+
+-- 14 by block: 0 to 2 FAC, 3 SDC, then the finished frames.
+unfoldable pub givenTests : Settings → Progress → ReadCall → List Bool
+givenTests s q c =
+    map (given facBlock) (parts (2 * facCells) (c .faccells))
+    ++ (given (sdcBlock s) (c .sdccells) ∷ map (given (mscBlock s)) (finishedFrames s q (rowsOf s (c .msccells))))
+
+-- The place of the first test that fails: the lowest block at fault.
+unfoldable pub firstFault : List Bool → ℕ
+firstFault [] = 0
+firstFault (b ∷ bs) = cond b (suc (firstFault bs)) 0
+
+-- 1 to 10, and 12.
+unfoldable pub orderRefusal : State → List ℤ → ReadCall → ℕ
+orderRefusal state memory c =
+    let s = state .settings in
+    first (ltb 0 (refusal s)) (refusal s)
+    (first (not (eqb (length memory) (memoryLength s))) 8
+    (first (not (cellLengths s (c .faccells) (c .sdccells) (c .msccells))) 9
+    (first (not (inputLengths s (c .fac) (c .sdc) (c .msc))) 10 (first (not (inOrder state memory)) 12 0))))
+
+-- The answer: the lowest number that applies, with its block; refusals below 13 name 0.
+unfoldable pub answerOf : State → List ℤ → ReadCall → Answer
+answerOf state memory c =
+    let s = state .settings in
+    let q = progressOf state memory in
+    let points = pointTests s (state .count) c in
+    let blocks = givenTests s q c in
+    cond (ltb 0 (orderRefusal state memory c)) (Refused (orderRefusal state memory c) 0)
+    (cond (not (every points)) (Refused 13 (firstFault points))
+    (cond (not (every blocks)) (Refused 14 (firstFault blocks))
+    (Finished (length (finishedFrames s q (rowsOf s (c .msccells)))))))
+
+-- Frames stand first in the output; bytes beyond them are zero.
+unfoldable pub handedOut : Settings → List (List ℤ) → List ℕ
+handedOut s frames =
+    joined (map (bytesRead (mscBlock s)) frames) ++ replicate ((3 - length frames) * frameBytes s) 0
+
+-- What an accepted call yields.
+unfoldable pub readAccepted : State → List ℤ → ReadCall → ReadYield
+readAccepted state memory c =
+    let s = state .settings in
+    let q = progressOf state memory in
+    let rows = rowsOf s (c .msccells) in
+    record {
+      reading = record { answer = Finished (length (finishedFrames s q rows)); state = stateOf s (afterRows s q rows) };
+      memory = afterRows s q rows .memory;
+      fac = joined (map (bytesRead facBlock) (parts (2 * facCells) (c .faccells)));
+      sdc = bytesRead (sdcBlock s) (c .sdccells);
+      msc = handedOut s (finishedFrames s q rows);
+    }
+
+-- A refusal leaves everything as it was.
+unfoldable pub readRefused : State → List ℤ → ReadCall → ReadYield
+readRefused state memory c =
+    record {
+      reading = record { answer = answerOf state memory c; state = state };
+      memory = memory;
+      fac = c .fac;
+      sdc = c .sdc;
+      msc = c .msc;
+    }
+
+unfoldable pub readOf : State → List ℤ → ReadCall → ReadYield
+readOf state memory c =
+    cond (eqb (answerNumber (answerOf state memory c)) 0) (readAccepted state memory c) (readRefused state memory c)

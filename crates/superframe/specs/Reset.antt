@@ -1,0 +1,39 @@
+-- The call Reset. 01 "Operations".
+use Prim.Native.Nat.{ℕ}
+use mathlib.Core.Bool.{not, cond}
+use mathlib.Core.List.{List}
+use lib.ListN.{length, replicate}
+use lib.IntN.{ℤ, pos}
+use lib.Dec.{eqb, ltb}
+use Rattle.settings.specs.declared.Settings.{Settings}
+use Rattle.settings.specs.Refusal.{first, refusal}
+use Rattle.settings.specs.Sizes.{depth}
+use Rattle.superframe.specs.declared.State.{State}
+use Rattle.superframe.specs.declared.Done.{Done}
+use Rattle.superframe.specs.Memory.{startFrame}
+use Rattle.superframe.specs.Call.{memoryLength, joined}
+
+-- All that a reset yields: its answer, and memory as it leaves it.
+pub record ResetYield : Type 0 where
+  pub done : Done
+  pub memory : List ℤ
+
+-- Reset: 1 to 7; 8 memory of the wrong length.
+unfoldable pub resetRefusal : Settings → List ℤ → ℕ
+resetRefusal s memory =
+    first (ltb 0 (refusal s)) (refusal s) (first (not (eqb (length memory) (memoryLength s))) 8 0)
+
+-- The state after an accepted reset: the settings, position 0 and count 0.
+unfoldable pub startState : Settings → State
+startState s = record { settings = s; position = 0; count = 0 }
+
+-- Memory after an accepted reset: a start frame in every slot.
+unfoldable pub startMemory : Settings → List ℤ
+startMemory s = joined (replicate (depth s) (startFrame s))
+
+-- Acceptance fills memory, takes the settings and sets position and count to 0; a refusal gives the old state back.
+unfoldable pub resetOf : State → Settings → List ℤ → ResetYield
+resetOf old s memory =
+    cond (eqb (resetRefusal s memory) 0)
+    (record { done = record { refusal = 0; state = startState s }; memory = startMemory s })
+    (record { done = record { refusal = resetRefusal s memory; state = old }; memory = memory })

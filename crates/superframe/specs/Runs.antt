@@ -1,0 +1,148 @@
+-- Runs of calls. 01 "Runs".
+use Prim.Native.Nat.{ℕ, suc, _+_, _-_, _*_, _≤_}
+use mathlib.Core.Path.{_≡_}
+use mathlib.Core.Bool.{Bool, true, false, cond}
+use mathlib.Core.Logic.{_⊎_}
+use mathlib.Core.List.{List, [], _∷_, _++_, map}
+use lib.ListN.{length, take, drop, replicate}
+use lib.IntN.{ℤ}
+use lib.Dec.{eqb}
+use Rattle.settings.specs.declared.Settings.{Settings}
+use Rattle.settings.specs.Sizes.{frameBytes}
+use Rattle.block.specs.Packing.{unpacked}
+use Rattle.block.specs.Block.{Block, bitCount}
+use Rattle.frame.specs.Fac.{facBlock}
+use Rattle.frame.specs.Sdc.{sdcBlock}
+use Rattle.frame.specs.Msc.{mscBlock}
+use Rattle.superframe.specs.declared.State.{State}
+use Rattle.superframe.specs.Call.{parts}
+use Rattle.superframe.specs.Reset.{resetOf}
+use Rattle.superframe.specs.Code.{CodeCall, codeOf, inputLengths}
+use Rattle.superframe.specs.Read.{ReadCall, readOf, answerNumber, answerFrames}
+
+-- Settings that an accepted Reset took, with what it was handed.
+pub record Begun : Type 0 where
+  pub old : State
+  pub settings : Settings
+  pub lent : List ℤ
+  pub accepted : resetOf old settings lent .done .refusal ≡ 0
+
+-- State and memory as that Reset gave them.
+unfoldable pub stateAt : Begun → State
+stateAt b = resetOf (b .old) (b .settings) (b .lent) .done .state
+
+unfoldable pub memoryAt : Begun → List ℤ
+memoryAt b = resetOf (b .old) (b .settings) (b .lent) .memory
+
+-- The bits of FAC blocks, SDC blocks and multiplex frames.
+pub record Bits : Type 0 where
+  pub fac : List (List ℕ)
+  pub sdc : List (List ℕ)
+  pub frames : List (List ℕ)
+
+unfoldable pub noBits : Bits
+noBits = record { fac = []; sdc = []; frames = [] }
+
+-- The cells of a super frame: those of three FAC blocks, of one SDC block, and the MSC sequence.
+pub record SuperFrame : Type 0 where
+  pub fac : List ℤ
+  pub sdc : List ℤ
+  pub msc : List ℤ
+
+-- The bits of a block from its packed bytes.
+unfoldable pub bitsOf : Block → List ℕ → List ℕ
+bitsOf k bytes = unpacked (bitCount k) bytes
+
+-- A Code call of a run is accepted.
+unfoldable pub codes : State → List ℤ → CodeCall → Bool
+codes state memory c = eqb (codeOf state memory c .done .refusal) 0
+
+-- The bits that the accepted calls of a list bring; each call is handed the state that the last one returned and the memory as that one left it.
+unfoldable pub brought : State → List ℤ → List CodeCall → Bits
+brought state memory [] = noBits
+brought state memory (c ∷ cs) =
+    let y = codeOf state memory c in
+    let s = state .settings in
+    let rest = brought (y .done .state) (y .memory) cs in
+    cond (codes state memory c)
+    (record {
+      fac = map (bitsOf facBlock) (parts 9 (c .fac)) ++ rest .fac;
+      sdc = bitsOf (sdcBlock s) (c .sdc) ∷ rest .sdc;
+      frames = map (bitsOf (mscBlock s)) (parts (frameBytes s) (c .msc)) ++ rest .frames;
+    })
+    rest
+
+-- The cells that the accepted calls leave in their outputs.
+unfoldable pub sent : State → List ℤ → List CodeCall → List SuperFrame
+sent state memory [] = []
+sent state memory (c ∷ cs) =
+    let y = codeOf state memory c in
+    let rest = sent (y .done .state) (y .memory) cs in
+    cond (codes state memory c) (record { fac = y .faccells; sdc = y .sdccells; msc = y .msccells } ∷ rest) rest
+
+-- The answers of the calls of a list.
+unfoldable pub refusals : State → List ℤ → List CodeCall → List ℕ
+refusals state memory [] = []
+refusals state memory (c ∷ cs) =
+    let y = codeOf state memory c in
+    y .done .refusal ∷ refusals (y .done .state) (y .memory) cs
+
+-- A run is closed if its last two accepted calls, that is its last six multiplex frames, have all MSC bits zero.
+pub record Closed (s : Settings) (b : Bits) : Type 0 where
+  pub two : 6 ≤ length (b .frames)
+  pub zeros : drop (length (b .frames) - 6) (b .frames) ≡ replicate 6 (replicate (bitCount (mscBlock s)) 0)
+
+-- A Read call is accepted.
+unfoldable pub reads : State → List ℤ → ReadCall → Bool
+reads state memory c = eqb (answerNumber (readOf state memory c .reading .answer)) 0
+
+-- How many calls of a reader's run are accepted.
+unfoldable pub readCount : State → List ℤ → List ReadCall → ℕ
+readCount state memory [] = 0
+readCount state memory (c ∷ cs) =
+    let y = readOf state memory c in
+    let rest = readCount (y .reading .state) (y .memory) cs in
+    cond (reads state memory c) (suc rest) rest
+
+-- The bits that the accepted calls of a reader's run hand out: of the multiplex frames, as many as the answer says.
+unfoldable pub handed : State → List ℤ → List ReadCall → Bits
+handed state memory [] = noBits
+handed state memory (c ∷ cs) =
+    let y = readOf state memory c in
+    let s = state .settings in
+    let rest = handed (y .reading .state) (y .memory) cs in
+    cond (reads state memory c)
+    (record {
+      fac = map (bitsOf facBlock) (parts 9 (y .fac)) ++ rest .fac;
+      sdc = bitsOf (sdcBlock s) (y .sdc) ∷ rest .sdc;
+      frames = map (bitsOf (mscBlock s)) (take (answerFrames (y .reading .answer)) (parts (frameBytes s) (y .msc))) ++ rest .frames;
+    })
+    rest
+
+-- A Read call lends the cells of the first super frame not yet read, with an output of the right length.
+pub record Feeds (s : Settings) (cells : List SuperFrame) (c : ReadCall) : Type 0 where
+  pub frame : SuperFrame
+  pub rest : List SuperFrame
+  pub unread : cells ≡ frame ∷ rest
+  pub fac : c .faccells ≡ frame .fac
+  pub sdc : c .sdccells ≡ frame .sdc
+  pub msc : c .msccells ≡ frame .msc
+  pub room : inputLengths s (c .fac) (c .sdc) (c .msc) ≡ true
+
+-- The super frames not yet read after a call.
+unfoldable pub unreadAfter : List SuperFrame → State → List ℤ → ReadCall → List SuperFrame
+unreadAfter cells state memory c = cond (reads state memory c) (drop 1 cells) cells
+
+-- A reader's run is fed cells in order: every call feeds, or is refused.
+abbrev pub Fed : List SuperFrame → State → List ℤ → List ReadCall → Type 0
+Fed cells state memory [] = Unit {0}
+Fed cells state memory (c ∷ cs) =
+    (Feeds (state .settings) cells c ⊎ (reads state memory c ≡ false))
+    × Fed (unreadAfter cells state memory c) (readOf state memory c .reading .state) (readOf state memory c .memory) cs
+
+-- Every call that feeds is accepted.
+abbrev pub Accepts : List SuperFrame → State → List ℤ → List ReadCall → Type 0
+Accepts cells state memory [] = Unit {0}
+Accepts cells state memory (c ∷ cs) =
+    (Feeds (state .settings) cells c → reads state memory c ≡ true)
+    × Accepts (unreadAfter cells state memory c) (readOf state memory c .reading .state) (readOf state memory c .memory) cs
