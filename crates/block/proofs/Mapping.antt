@@ -18,25 +18,25 @@ use Rattle.component.proofs.Bits.{bits-nil}
 use Rattle.component.proofs.Counting.{below-or}
 use Rattle.component.proofs.Tables.{length-table}
 use Rattle.block.specs.Mapping.{coordinate, qam4, qam16, standard64, symmetric64, Constellation, constellation, axis, numberAt, mapped, weave, woven}
-use Rattle.block.specs.Points.{isNumber, sameNumbers, onAxis, every, arePoints}
+use Rattle.block.specs.Points.{sameNumber, sameNumbers, onAxis, every, arePoints}
 use Rattle.block.specs.Reading.{placeOf, numbersOf, streamIn, unmapped}
 use Rattle.block.specs.Fits.{Streams, Labelling, Labels}
 use Rattle.block.proofs.Lists.{getD-table, table-is, bits-table}
 use Rattle.block.proofs.Packing.{shr-suc}
 
 -- a number is the number that it is
-pub isNumber-refl : (v : ℤ) → isNumber v v ≡ true
-unfolding isNumber
-isNumber-refl (pos n) = eq-eqb n n refl
-isNumber-refl (negsuc n) = eq-eqb n n refl
+pub sameNumber-refl : (v : ℤ) → sameNumber v v ≡ true
+unfolding sameNumber
+sameNumber-refl (pos n) = eq-eqb n n refl
+sameNumber-refl (negsuc n) = eq-eqb n n refl
 
 -- and no other
-pub isNumber-true : (v w : ℤ) → isNumber v w ≡ true → v ≡ w
-unfolding isNumber
-isNumber-true (pos a) (pos b) e = ap pos (eqb-true a b e)
-isNumber-true (pos a) (negsuc b) e = cc
-isNumber-true (negsuc a) (pos b) e = cc
-isNumber-true (negsuc a) (negsuc b) e = ap negsuc (eqb-true a b e)
+pub sameNumber-true : (v w : ℤ) → sameNumber v w ≡ true → v ≡ w
+unfolding sameNumber
+sameNumber-true (pos a) (pos b) e = ap pos (eqb-true a b e)
+sameNumber-true (pos a) (negsuc b) e = cc
+sameNumber-true (negsuc a) (pos b) e = cc
+sameNumber-true (negsuc a) (negsuc b) e = ap negsuc (eqb-true a b e)
 
 both : (a b : Bool) → a && b ≡ true → (a ≡ true) × (b ≡ true)
 both true b e = (refl, e)
@@ -46,7 +46,7 @@ both false b e = (e, cc)
 pub sameNumbers-refl : (l : List ℤ) → sameNumbers l l ≡ true
 unfolding sameNumbers
 sameNumbers-refl [] = refl
-sameNumbers-refl (v ∷ l) = rw (isNumber-refl v) (sameNumbers-refl l)
+sameNumbers-refl (v ∷ l) = rw (sameNumber-refl v) (sameNumbers-refl l)
 
 pub sameNumbers-true : (l m : List ℤ) → sameNumbers l m ≡ true → l ≡ m
 unfolding sameNumbers
@@ -54,8 +54,8 @@ sameNumbers-true [] [] e = refl
 sameNumbers-true [] (w ∷ m) e = cc
 sameNumbers-true (v ∷ l) [] e = cc
 sameNumbers-true (v ∷ l) (w ∷ m) e =
-    let b = both (isNumber v w) (sameNumbers l m) e in
-    ap₂ _∷_ (isNumber-true v w (b .0)) (sameNumbers-true l m (b .1))
+    let b = both (sameNumber v w) (sameNumbers l m) e in
+    ap₂ _∷_ (sameNumber-true v w (b .0)) (sameNumbers-true l m (b .1))
 
 -- THE TEST that no two coordinates of a labelling are equal
 labelling : (n : ℕ) (l : List ℤ) → length l ≡ n → table (λ i. placeOf l (getD l i (pos 0))) 0 n ≡ table (λ i. i) 0 n → Labelling n l
@@ -69,19 +69,19 @@ labelling n l e t = record { size = e; found = λ i h. found i h }
         sym (getD-table f 0 n i 0 h ∙ rw zero-add) ∙ ap (λ (v : List ℕ). getD v i 0) t ∙ getD-table (λ j. j) 0 n i 0 h ∙ zero-add i
 
 labels4 : Labelling 2 qam4
-unfolding qam4 table coordinate placeOf isNumber
+unfolding qam4 table coordinate placeOf sameNumber
 labels4 = labelling 2 qam4 refl refl
 
 labels16 : Labelling 4 qam16
-unfolding qam16 table coordinate placeOf isNumber
+unfolding qam16 table coordinate placeOf sameNumber
 labels16 = labelling 4 qam16 refl refl
 
 labels64 : Labelling 8 standard64
-unfolding standard64 table coordinate placeOf isNumber
+unfolding standard64 table coordinate placeOf sameNumber
 labels64 = labelling 8 standard64 refl refl
 
 labels64s : Labelling 8 symmetric64
-unfolding symmetric64 table coordinate placeOf isNumber
+unfolding symmetric64 table coordinate placeOf sameNumber
 labels64s = labelling 8 symmetric64 refl refl
 
 -- the levels of a constellation by its number
@@ -275,8 +275,8 @@ unmapped-mapped {k = k} {ys} false c L S e = table-is (streamIn false (numbersOf
 onAxis-getD : (l : List ℤ) (i : ℕ) → i < length l → onAxis l (getD l i (pos 0)) ≡ true
 unfolding onAxis
 onAxis-getD [] i h = absurd (omega arith)
-onAxis-getD (w ∷ l) zero h = rw (isNumber-refl w)
-onAxis-getD (w ∷ l) (suc i) h = rw (onAxis-getD l i (omega arith)) (or-true (isNumber w (getD l i (pos 0))))
+onAxis-getD (w ∷ l) zero h = rw (sameNumber-refl w)
+onAxis-getD (w ∷ l) (suc i) h = rw (onAxis-getD l i (omega arith)) (or-true (sameNumber w (getD l i (pos 0))))
   where
     or-true : (b : Bool) → b || true ≡ true
     or-true true = refl

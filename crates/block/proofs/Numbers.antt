@@ -16,10 +16,10 @@ use mir.Facts.{toZ-ofZ}
 use Rattle.component.specs.Lists.{table}
 use Rattle.component.proofs.Tables.{Filled, filled-start, filled-turn, filled-end, length-table, getD-table}
 use Rattle.block.specs.Mapping.{Constellation, coordinate, qam4, qam16, standard64, symmetric64, constellation, axis}
-use Rattle.block.specs.Points.{isNumber, onAxis, every, arePoints}
+use Rattle.block.specs.Points.{sameNumber, onAxis, every, arePoints}
 use Rattle.block.specs.Reading.{placeOf, numbersOf}
 use Rattle.block.specs.Numbers.{axisNumbers, numbersBy}
-use Rattle.block.proofs.Mapping.{isNumber-true, length-numbers}
+use Rattle.block.proofs.Mapping.{sameNumber-true, length-numbers}
 use Rattle.block.proofs.Lists.{table-is}
 use Rattle.block.proofs.Coordinates.{axis-even, axis-odd}
 
@@ -42,7 +42,7 @@ one-labelling K l e f a = go (eqb (a % 2) 0)
 pub place-low : (l : List ℤ) (v : ℤ) → placeOf l v ≤ length l
 unfolding placeOf
 place-low [] v = omega arith
-place-low (w ∷ l) v = go (isNumber w v) (place-low l v)
+place-low (w ∷ l) v = go (sameNumber w v) (place-low l v)
   where
     go : (b : Bool) → placeOf l v ≤ length l → cond b 0 (suc (placeOf l v)) ≤ suc (length l)
     go true h = omega arith
@@ -50,14 +50,14 @@ place-low (w ∷ l) v = go (isNumber w v) (place-low l v)
 
 -- none of 7, 5, .. -7
 record None (v : ℤ) : Type 0 where
-  p7 : isNumber (pos 7) v ≡ false
-  p5 : isNumber (pos 5) v ≡ false
-  p3 : isNumber (pos 3) v ≡ false
-  p1 : isNumber (pos 1) v ≡ false
-  n1 : isNumber (negsuc 0) v ≡ false
-  n3 : isNumber (negsuc 2) v ≡ false
-  n5 : isNumber (negsuc 4) v ≡ false
-  n7 : isNumber (negsuc 6) v ≡ false
+  p7 : sameNumber (pos 7) v ≡ false
+  p5 : sameNumber (pos 5) v ≡ false
+  p3 : sameNumber (pos 3) v ≡ false
+  p1 : sameNumber (pos 1) v ≡ false
+  n1 : sameNumber (negsuc 0) v ≡ false
+  n3 : sameNumber (negsuc 2) v ≡ false
+  n5 : sameNumber (negsuc 4) v ≡ false
+  n7 : sameNumber (negsuc 6) v ≡ false
 
 -- a rule of numbers, at the eight coordinates and at what is none of them
 coordinates-all : (P : ℤ → Type 0) → P (pos 7) → P (pos 5) → P (pos 3) → P (pos 1) → P (negsuc 0) → P (negsuc 2) → P (negsuc 4) → P (negsuc 6)
@@ -67,12 +67,12 @@ coordinates-all P a b c d e f g h n v =
     or (negsuc 0) e (λ j1. or (negsuc 2) f (λ j3. or (negsuc 4) g (λ j5. or (negsuc 6) h (λ j7.
     n v (record { p7 = i7; p5 = i5; p3 = i3; p1 = i1; n1 = j1; n3 = j3; n5 = j5; n7 = j7 })))))))))
   where
-    go : (w : ℤ) → P w → (b : Bool) → isNumber w v ≡ b → (isNumber w v ≡ false → P v) → P v
-    go w p true e k = rw (sym (isNumber-true w v e)) p
+    go : (w : ℤ) → P w → (b : Bool) → sameNumber w v ≡ b → (sameNumber w v ≡ false → P v) → P v
+    go w p true e k = rw (sym (sameNumber-true w v e)) p
     go w p false e k = k e
 
-    or : (w : ℤ) → P w → (isNumber w v ≡ false → P v) → P v
-    or w p k = go w p (isNumber w v) refl k
+    or : (w : ℤ) → P w → (sameNumber w v ≡ false → P v) → P v
+    or w p k = go w p (sameNumber w v) refl k
 
 none-qam4 : (v : ℤ) → None v → placeOf qam4 v ≡ 2
 unfolding placeOf table qam4 coordinate
@@ -107,7 +107,7 @@ known-axis (suc (suc (suc (suc zero)))) = both-axes _ symmetric standard
 known-axis (suc (suc (suc (suc (suc c))))) = both-axes _ k4 k4
 
 none-known : {l : List ℤ} → Known l → (v : ℤ) → None v → placeOf l v ≡ placeOf l (pos 0)
-unfolding placeOf isNumber table qam4 qam16 standard64 symmetric64 coordinate
+unfolding placeOf sameNumber table qam4 qam16 standard64 symmetric64 coordinate
 none-known k4 v n = none-qam4 v n
 none-known k16 v n = none-qam16 v n
 none-known standard v n = none-standard v n
@@ -115,7 +115,7 @@ none-known symmetric v n = none-symmetric v n
 
 -- the number of a coordinate is found by its place among 7, 5, .. -7
 by-place : {l : List ℤ} → Known l → (v : ℤ) → placeOf l (getD standard64 (placeOf standard64 v) (pos 0)) ≡ placeOf l v
-unfolding placeOf isNumber table standard64 coordinate
+unfolding placeOf sameNumber table standard64 coordinate
 by-place {l} K =
     coordinates-all (λ v. placeOf l (getD standard64 (placeOf standard64 v) (pos 0)) ≡ placeOf l v)
     refl refl refl refl refl refl refl refl
@@ -186,7 +186,7 @@ done {c} {cells} {d} {out} {k} P e h =
 on-axis : (l : List ℤ) (v : ℤ) → onAxis l v ≡ ltb (placeOf l v) (length l)
 unfolding onAxis placeOf
 on-axis [] v = refl
-on-axis (w ∷ l) v = go (isNumber w v) (on-axis l v)
+on-axis (w ∷ l) v = go (sameNumber w v) (on-axis l v)
   where
     go : (b : Bool) → onAxis l v ≡ ltb (placeOf l v) (length l) → b || onAxis l v ≡ ltb (cond b 0 (suc (placeOf l v))) (suc (length l))
     go true e = sym (lt-ltb 0 (suc (length l)) (omega arith))

@@ -42,7 +42,7 @@ module _ (v : List ℕ) (s n d : ℕ) (e : s ≡ d) where
   part-is : take (s + n - s) (drop s v) ≡ take n (drop d v)
   part-is = let f : d + n - d ≡ n = omega arith in rw (e, f)
 
-  part-long : d + n ≤ length v → length (take (s + n - s) (drop s v)) ≡ n
+  pub part-long : d + n ≤ length v → length (take (s + n - s) (drop s v)) ≡ n
   part-long h = rw (part-is, length-take, length-drop) (omega arith)
 
   part-bits : Bits v → Bits (take (s + n - s) (drop s v))

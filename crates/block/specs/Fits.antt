@@ -1,4 +1,4 @@
--- What is needed of bytes, streams, labellings, levels and blocks for reading to undo coding, by name.
+-- What is needed of bytes, streams, labellings, levels and blocks for reading to undo coding, by name. 01 "Operations", refusal 14, rests on BlockBits; the rest are hypotheses of laws.
 use Prim.Native.Nat.{ℕ, _+_, _*_, _^_, _≤_, _<_}
 use mathlib.Core.Path.{_≡_}
 use mathlib.Core.Bool.{true, cond}

@@ -1,4 +1,4 @@
--- One level as its functions are given it, what they require and what they promise.
+-- One level as its functions are given it, what they require and what they promise: nothing of 01 is stated here.
 use Prim.Native.Nat.{ℕ, _+_, _≤_, _<_}
 use mathlib.Core.Path.{_≡_}
 use mathlib.Core.List.{List, [], _∷_}

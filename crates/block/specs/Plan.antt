@@ -1,4 +1,4 @@
--- A block's levels as the code is lent them: a flat table with six numbers a level.
+-- A block's levels as the code is lent them: a flat table with six numbers a level. Nothing of 01 is stated here.
 use Prim.Native.Nat.{ℕ, zero, suc, _+_, _*_, _/_, _≤_, _<_}
 use mathlib.Core.List.{List, [], _∷_}
 use lib.ListN.{length, getD, take, drop}

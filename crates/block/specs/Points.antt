@@ -9,23 +9,23 @@ use Rattle.component.specs.Lists.{table}
 use Rattle.block.specs.Mapping.{Constellation, axis}
 
 -- Two signed numbers are equal.
-unfoldable pub isNumber : ℤ → ℤ → Bool
-isNumber (pos a) (pos b) = eqb a b
-isNumber (pos a) (negsuc b) = false
-isNumber (negsuc a) (pos b) = false
-isNumber (negsuc a) (negsuc b) = eqb a b
+unfoldable pub sameNumber : ℤ → ℤ → Bool
+sameNumber (pos a) (pos b) = eqb a b
+sameNumber (pos a) (negsuc b) = false
+sameNumber (negsuc a) (pos b) = false
+sameNumber (negsuc a) (negsuc b) = eqb a b
 
 -- Two lists of signed numbers are equal.
 unfoldable pub sameNumbers : List ℤ → List ℤ → Bool
 sameNumbers [] [] = true
 sameNumbers [] (b ∷ bs) = false
 sameNumbers (a ∷ l) [] = false
-sameNumbers (a ∷ l) (b ∷ bs) = isNumber a b && sameNumbers l bs
+sameNumbers (a ∷ l) (b ∷ bs) = sameNumber a b && sameNumbers l bs
 
 -- A number is one of a labelling's coordinates.
 unfoldable pub onAxis : List ℤ → ℤ → Bool
 onAxis [] v = false
-onAxis (w ∷ ws) v = isNumber w v || onAxis ws v
+onAxis (w ∷ ws) v = sameNumber w v || onAxis ws v
 
 -- A cell is a point of a constellation.
 unfoldable pub isPoint : Constellation → ℤ → ℤ → Bool

@@ -1,4 +1,4 @@
--- Reading a block: every stage is undone, last stage first. What this gives is the one candidate that could give the cells.
+-- Reading a block, 01 "Operations", Read: every stage is undone, last stage first. What this gives is the one candidate that could give the cells.
 use Prim.Native.Nat.{ℕ, suc, _+_, _*_, _/_, _%_, _^_}
 use mathlib.Core.Bool.{Bool, cond}
 use mathlib.Core.Option.{Option, some, none}
@@ -15,13 +15,13 @@ use Rattle.block.specs.Packing.{packed}
 use Rattle.block.specs.Dispersal.{dispersedParts}
 use Rattle.block.specs.Levels.{Level}
 use Rattle.block.specs.Mapping.{Constellation, axis}
-use Rattle.block.specs.Points.{isNumber, sameNumbers}
+use Rattle.block.specs.Points.{sameNumber, sameNumbers}
 use Rattle.block.specs.Block.{Block, cellsOf}
 
 -- Mapping: the number i0 + 2 × i1 + 4 × i2 of the level bits of a coordinate, its place in the labelling; past the end where the labelling hasn't it.
 unfoldable pub placeOf : List ℤ → ℤ → ℕ
 placeOf [] v = 0
-placeOf (w ∷ ws) v = cond (isNumber w v) 0 (suc (placeOf ws v))
+placeOf (w ∷ ws) v = cond (sameNumber w v) 0 (suc (placeOf ws v))
 
 -- These numbers of all cells, flat, real before imaginary.
 unfoldable pub numbersOf : Constellation → List ℤ → List ℕ

@@ -1,4 +1,4 @@
--- What reading a block gives, of bits and of packed bytes.
+-- What reading a block gives, of bits and of packed bytes. 01 "Operations", refusal 14.
 use mathlib.Core.Path.{_≡_}
 use mathlib.Core.Bool.{true, false}
 use mathlib.Core.Logic.{_↔_}

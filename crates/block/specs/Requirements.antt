@@ -1,4 +1,4 @@
--- What the functions of this crate require of the buffers that they are lent.
+-- What the functions of this crate require of the buffers that they are lent: nothing of 01 is stated here.
 use Prim.Native.Nat.{ℕ, _+_, _*_, _%_, _≤_, _<_}
 use mathlib.Core.Path.{_≡_}
 use mathlib.Core.List.{List}

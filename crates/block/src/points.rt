@@ -4,6 +4,9 @@ ghost use Prim.Native.Nat.{_<_};
 ghost use lib.ListN.{length, getD};
 ghost use lib.Dec.{ltb};
 ghost use lib.IntN.{pos};
+ghost use lib.Bits.{bitAnd};
+ghost use mir.Syntax.{w16};
+ghost use mir.Val.{ofZ};
 ghost use Rattle.component.specs.Lists.{table};
 ghost use Rattle.block.specs.Mapping.{standard64, constellation, axis, weave};
 ghost use Rattle.block.specs.Points.{arePoints};
@@ -81,21 +84,27 @@ pub fn map_axes(c: u8, re: &[u8], im: &[u8], out: &mut [i16])
     }
 }
 
-// The place of a coordinate among 7, 5, .. -7; 8 where it is none of them.
-fn place_of(v: i16) -> usize
+// The coordinates by their four lowest binary digits, 0 where there is none, and their places among 7, 5, .. -7.
+const COORDINATES: [i16; 16] = [0, 1, 0, 3, 0, 5, 0, 7, 0, -7, 0, -5, 0, -3, 0, -1];
+
+const PLACES: [u8; 16] = [8, 3, 8, 2, 8, 1, 8, 0, 8, 7, 8, 6, 8, 5, 8, 4];
+
+// The four lowest binary digits of a number.
+fn low_digits(v: i16) -> usize
+    ensures { λ r. ⌜ (r ≡ bitAnd (ofZ w16 v) 15) × (r < 16) ⌝ }
+{
+    (v & 15) as usize
+}
+
+// The place of a coordinate among 7, 5, .. -7; 8 where it is none of them. By a table, since a processor does not foresee jumps that follow cells.
+pub fn place_of(v: i16) -> usize
     ensures { λ r. ⌜ r ≡ placeOf standard64 v ⌝ }
 {
-    match v {
-        7 => 0,
-        5 => 1,
-        3 => 2,
-        1 => 3,
-        -1 => 4,
-        -3 => 5,
-        -5 => 6,
-        -7 => 7,
-        _ => 8,
+    let k = low_digits(v);
+    if v == COORDINATES[k] {
+        return PLACES[k] as usize;
     }
+    8
 }
 
 // Numbers of level bits by a coordinate's place among 7, 5, .. -7; the last one stands for what is no coordinate.

@@ -3,12 +3,12 @@ use libc::STDOUT_FILENO;
 use settings::Lengths;
 use settings::Settings;
 use settings::Sizes;
+use vectors::digests::taken;
 
 const XS: [u16; 8] = [0, 1, 2, 285, 1000, 2000, 3577, 65535];
 
-// A digest takes numbers v one after another by d = (d * 31 + v) mod 4294967291.
 fn take(d: u64, v: u32) -> u64 {
-    (d % 4294967291 * 31 + v as u64) % 4294967291
+    taken(d, v as u64)
 }
 
 fn take_lengths(d: u64, l: Lengths) -> u64 {

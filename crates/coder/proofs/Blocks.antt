@@ -120,7 +120,7 @@ levels-low (suc (suc (suc zero))) = omega arith
 levels-low (suc (suc (suc (suc zero)))) = omega arith
 levels-low (suc (suc (suc (suc (suc c))))) = omega arith
 
-labels-low : (c m : ℕ) → Labels m (constellation c) → m ≤ 3
+pub labels-low : (c m : ℕ) → Labels m (constellation c) → m ≤ 3
 labels-low c m L = go (below-or m 4)
   where
     go : (m < 4) ⊎ (4 ≤ m) → m ≤ 3

@@ -1,4 +1,4 @@
--- What the functions below `code_block` require.
+-- What the functions below `code_block` require: nothing of 01 is stated here.
 use Prim.Native.Nat.{ℕ, _*_, _/_, _%_, _≤_, _<_}
 use mathlib.Core.Path.{_≡_}
 use mathlib.Core.Bool.{Bool}

@@ -6,7 +6,7 @@ use native.Mathlib.Nat.{add-zero, zero-add, suc-add, mul-zero, mul-suc, mul-comm
 use native.Mathlib.Omega.{arith}
 use borrow.Author.Tests.{lt-ltb, le-ltb}
 use lib.Dec.{lit<}
-use lib.ListN.{length}
+use lib.ListN.{length, getD}
 use lib.Count.{ones, onesIn}
 use Rattle.component.specs.Register.{next, after}
 use Rattle.component.specs.Patterns.{columns, numerators, denominators, RX, RY, table65, pattern, tail, table66, tailPattern, R3/5}
@@ -33,6 +33,12 @@ pub codedLength-add : (p : List ℕ) (i m n : ℕ) → codedLength p i (m + n) �
 unfolding codedLength columnAfter
 codedLength-add p i zero n = simp zero-add
 codedLength-add p i (suc m) n = rw suc-add (omega (arith, codedLength-add p (following p i) m n))
+
+-- one more input bit
+pub codedLength-more : (p : List ℕ) (i n : ℕ) → 0 < n → codedLength p i n ≡ ones (getD p i 0) + codedLength p (following p i) (n - 1)
+unfolding codedLength
+codedLength-more p i zero h = absurd (omega arith)
+codedLength-more p i (suc n) h = let e : suc n - 1 ≡ n = omega arith in rw e
 
 columnAfter-add : (p : List ℕ) (i m n : ℕ) → columnAfter p i (m + n) ≡ columnAfter p (columnAfter p i m) n
 unfolding columnAfter

@@ -1,4 +1,4 @@
--- Bits are the numbers 0 and 1.
+-- Bits are the numbers 0 and 1. 01 "From bits to cells".
 use Prim.Native.Nat.{ℕ, _<_}
 use mathlib.Core.List.{List}
 use lib.ListN.{getD}

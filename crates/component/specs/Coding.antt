@@ -1,4 +1,4 @@
--- What the coding functions require, and what they promise.
+-- What the functions of the component code require and promise: nothing of 01 is stated here.
 use Prim.Native.Nat.{ℕ, _+_, _≤_, _<_}
 use mathlib.Core.Path.{_≡_}
 use mathlib.Core.List.{List}

@@ -1,4 +1,4 @@
--- Lists that the definitions are written with.
+-- Lists that all definitions are written with: a list by its places, and the sum of a list.
 use Prim.Native.Nat.{ℕ, zero, suc, _+_}
 use mathlib.Core.List.{List, [], _∷_}
 

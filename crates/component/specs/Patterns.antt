@@ -51,6 +51,7 @@ numerators = 1 ∷ 3 ∷ 1 ∷ 4 ∷ 1 ∷ 4 ∷ 3 ∷ 2 ∷ 8 ∷ 3 ∷ 4 ∷ 7
 unfoldable pub denominators : List ℕ
 denominators = 4 ∷ 10 ∷ 3 ∷ 11 ∷ 2 ∷ 7 ∷ 5 ∷ 3 ∷ 11 ∷ 4 ∷ 5 ∷ 8 ∷ 9 ∷ []
 
+-- RX and RY of a rate.
 unfoldable pub RX : ℕ → ℕ
 RX rate = getD numerators rate 1
 

@@ -9,7 +9,7 @@ ghost use lib.Dec.{ltb};
 ghost use lib.Count.{ones};
 ghost use Rattle.component.specs.Register.{next, parity, parities};
 ghost use Rattle.component.specs.Codeword.{kept};
-ghost use Rattle.component.specs.Decoding.{patternAt, padded, newest};
+ghost use Rattle.component.specs.Decoding.{patternAt, padded, codedLength, newest, Sound};
 ghost use Rattle.component.specs.Coding.{Encodes, Encoded, EncodesWith, Decodes, Decoded, DecodesWith};
 
 // The kept bits of each pattern's columns, filled up with zeros: the rates of table 65 and then the rows of table 66.
@@ -86,7 +86,7 @@ fn columns(k: usize) -> usize
     COLUMNS[k]
 }
 
-// Where a coder stands: its register, and the place of the next coded bit.
+// A coder's register, and the place of the next coded bit.
 pub struct Coder {
     pub register: u32,
     pub at: usize,
@@ -213,4 +213,30 @@ pub fn decode_with(k: usize, register: u32, coded: &[u8], at: usize, out: &mut [
     let pattern = row(k);
     let n = columns(k);
     decode(&pattern[0..n], register, coded, at, out)
+}
+
+// How many coded bits n input bits give with a pattern.
+fn count_coded(pattern: &[u8], n: usize) -> usize
+    requires { ⌜ Sound (now pattern) × (codedLength (now pattern) 0 n ≤ 65536) ⌝ }
+    ensures { λ r. ⌜ r ≡ codedLength (now (pattern .entry)) 0 n ⌝ }
+{
+    let mut sum = 0;
+    let mut i = 0;
+    let mut left = n;
+    while 0 < left {
+        sum += width(pattern[i]);
+        i = following(pattern.len(), i);
+        left -= 1;
+    }
+    sum
+}
+
+// The same with the pattern of number k.
+pub fn coded_length(k: usize, n: usize) -> usize
+    requires { ⌜ (k < 25) × (codedLength (patternAt k) 0 n ≤ 65536) ⌝ }
+    ensures { λ r. ⌜ r ≡ codedLength (patternAt k) 0 n ⌝ }
+{
+    let pattern = row(k);
+    let columns = columns(k);
+    count_coded(&pattern[0..columns], n)
 }

@@ -1,6 +1,6 @@
--- What coding a block requires, for FAC block, SDC block and multiplex frame. Assumes nothing.
+-- What coding and reading a block require and give, for FAC block, SDC block and multiplex frame. Assumes nothing.
 use Prim.Native.Nat.{ℕ, _-_, _*_, _/_, _≤_, _<_}
-use mathlib.Core.Path.{_≡_, ap, _∙_}
+use mathlib.Core.Path.{_≡_, ap, subst, _∙_}
 use mathlib.Core.Bool.{Bool, false}
 use mathlib.Core.List.{List, [], _∷_}
 use native.Mathlib.Omega.{arith}
@@ -20,6 +20,7 @@ use Rattle.block.specs.Block.{Block, bitCount, cellsFrom}
 use Rattle.block.specs.Fits.{BlockFits}
 use Rattle.coder.specs.Coder.{blockOf, Known, CodesBlock}
 use Rattle.coder.proofs.Lists.{from-start}
+use Rattle.reader.specs.Reader.{BlockRead}
 use Rattle.frame.specs.Fac.{facBlock}
 use Rattle.frame.specs.Sdc.{sdcBlock}
 use Rattle.frame.specs.Msc.{mscConstellation, mscBlock}
@@ -71,6 +72,10 @@ module _ {plan : List ℕ} {v : ℕ} {one : Bool} {c n bits : ℕ} {k : Block} (
   pub coded : {out′ : List ℤ} → out′ ≡ cellsFrom (blockOf plan v one c (length out / 2)) bytes → out′ ≡ cellsFrom k bytes
   coded e = e ∙ ap (λ b. cellsFrom b bytes) block
 
+  -- and read
+  pub read : {r : Bool} {bytes′ : List ℕ} → BlockRead (blockOf plan v one c (length out / 2)) out bytes r bytes′ → BlockRead k out bytes r bytes′
+  read {r} {bytes′} R = subst (λ b. BlockRead b out bytes r bytes′) block R
+
 -- the front of the table in which a plan was stored
 pub front-is : (d p d′ : List ℕ) (n : ℕ) → d′ ≡ sets d 0 p → n ≡ length p → n ≤ length d → take (n - 0) d′ ≡ p
 front-is d p d′ n e f h = rw (from-start n, e) (plan-front d p n f h)
@@ -114,6 +119,10 @@ module _ {s : Settings} {plan bytes : List ℕ} {out : List ℤ} (P : FramePlann
       → out′ ≡ cellsFrom (mscBlock s) bytes
   frame-coded e = coded frame-is (P .frame .lent) e
 
+  pub frame-read : {r : Bool} {bytes′ : List ℕ} → BlockRead (blockOf plan v (eqb (s .msc) 1) c (length out / 2)) out bytes r bytes′
+      → BlockRead (mscBlock s) out bytes r bytes′
+  frame-read R = read frame-is (P .frame .lent) R
+
 -- the SDC block's
 module _ {s : Settings} {plan bytes : List ℕ} {out : List ℤ} (P : SdcPlanned s plan bytes out) where
   sdc-is : Planned plan 0 false (1 - s .sdc) (nSdc s) (lSdc s) (sdcBlock s)
@@ -138,6 +147,10 @@ module _ {s : Settings} {plan bytes : List ℕ} {out : List ℤ} (P : SdcPlanned
       → out′ ≡ cellsFrom (sdcBlock s) bytes
   sdc-coded e = coded sdc-is (P .block .lent) e
 
+  pub sdc-read : {r : Bool} {bytes′ : List ℕ} → BlockRead (blockOf plan 0 false (1 - s .sdc) (length out / 2)) out bytes r bytes′
+      → BlockRead (sdcBlock s) out bytes r bytes′
+  sdc-read R = read sdc-is (P .block .lent) R
+
 -- the FAC block's
 module _ {plan bytes : List ℕ} {out : List ℤ} (P : FacPlanned plan bytes out) where
   fac-is : Planned plan 0 false 0 facCells facBits facBlock
@@ -159,6 +172,9 @@ module _ {plan bytes : List ℕ} {out : List ℤ} (P : FacPlanned plan bytes out
 
   pub fac-coded : {out′ : List ℤ} → out′ ≡ cellsFrom (blockOf plan 0 false 0 (length out / 2)) bytes → out′ ≡ cellsFrom facBlock bytes
   fac-coded e = coded fac-is (P .block .lent) e
+
+  pub fac-read : {r : Bool} {bytes′ : List ℕ} → BlockRead (blockOf plan 0 false 0 (length out / 2)) out bytes r bytes′ → BlockRead facBlock out bytes r bytes′
+  fac-read R = read fac-is (P .block .lent) R
 
 -- a plan in front of the buffer d in which it was stored
 module _ (d p : List ℕ) {d′ : List ℕ} (r : ℕ) (room : 36 ≤ length d) (e : (d′ ≡ sets d 0 p) × (6 * r ≡ length p) × (r ≤ 6)) where

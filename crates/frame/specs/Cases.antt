@@ -15,7 +15,7 @@ use Rattle.settings.specs.Refusal.{refusal}
 use Rattle.block.specs.Dispersal.{p}
 use Rattle.block.specs.Mapping.{standard64, symmetric64, numberAt}
 
--- Settings by their ten numbers in 01's order, X as one number.
+-- Settings by their numbers in 01's order, X as one number.
 unfoldable pub settingsOf : ℕ → ℕ → ℕ → ℕ → ℕ → ℕ → ℕ → ℕ → ℕ → Settings
 settingsOf mode occupancy msc levela levelb vspp x sdc interleaving =
     record {

@@ -1,4 +1,4 @@
--- What the calls that turn a block's packed bytes into cells and back require of the buffers that they are lent.
+-- What the calls that turn a block's packed bytes into cells and back require of the buffers that they are lent. Lengths: 01 "Buffers and state".
 use Prim.Native.Nat.{ℕ, _*_, _≤_}
 use mathlib.Core.Path.{_≡_}
 use mathlib.Core.List.{List}

@@ -31,7 +31,7 @@ protectedLevels w cells1 cells2 (rateA ∷ ratesA) ratesB ts =
     protectedLevel w cells1 cells2 rateA (getD ratesB 0 0) (getD ts 0 0)
     ∷ protectedLevels w cells1 cells2 ratesA (drop 1 ratesB) (drop 1 ts)
 
--- The level of the very strongly protected part, over all n cells with one pattern and not interleaved. Its bits count with part A, so that they come first.
+-- The level of the very strongly protected part, over all n cells with one pattern and not interleaved; the remainder is that of all n cells. Its bits count with part A, so that they come first.
 unfoldable pub vsppLevel : ℕ → ℕ → ℕ → Level
 vsppLevel w n rate =
     record {
@@ -43,7 +43,7 @@ vsppLevel w n rate =
       t = 0;
     }
 
--- t of the standard protected part's levels by MSC mode, in the order of partition: 64-QAM's level 0 isn't interleaved, its levels 1 and 2 have 13 and 21,
+-- 001 clause 7.3.3: t of the standard protected part's levels by MSC mode, in the order of partition: 64-QAM's level 0 isn't interleaved, its levels 1 and 2 have 13 and 21,
 -- in HMmix on both axes; 16-QAM's levels 0 and 1 have 13 and 21.
 unfoldable pub mscSteps : ℕ → List ℕ
 mscSteps msc =
@@ -59,6 +59,7 @@ mscLevels s =
 unfoldable pub mscConstellation : ℕ → ℕ
 mscConstellation msc = getD (2 ∷ 4 ∷ 3 ∷ 1 ∷ []) msc 0
 
+-- A multiplex frame: the VSPP is dispersed by itself, and in HMmix each level has one axis only.
 unfoldable pub mscBlock : Settings → Block
 mscBlock s =
     record {

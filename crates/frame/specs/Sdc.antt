@@ -29,7 +29,7 @@ unfoldable pub sdcLevels : ℕ → List ℕ → List ℕ → List Level
 sdcLevels n [] ts = []
 sdcLevels n (rate ∷ rates) ts = sdcLevel n rate (getD ts 0 0) ∷ sdcLevels n rates (lib.ListN.drop 1 ts)
 
--- t is 13 and 21 for 16-QAM's levels 0 and 1, and 21 for 4-QAM.
+-- 001 clause 7.3.3: t is 13 and 21 for 16-QAM's levels 0 and 1, and 21 for 4-QAM.
 unfoldable pub sdcSteps : ℕ → List ℕ
 sdcSteps sdc = getD ((13 ∷ 21 ∷ []) ∷ (21 ∷ []) ∷ []) sdc []
 

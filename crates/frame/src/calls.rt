@@ -18,14 +18,14 @@ ghost use Rattle.frame.specs.Lent.{FrameLent, SdcLent, FacLent, FramePla
 const MSC_POINTS: [u8; 4] = [2, 4, 3, 1];
 
 // The constellation by MSC mode.
-fn msc_points(msc: u8) -> u8
+pub fn msc_points(msc: u8) -> u8
     requires { ⌜ msc < 4 ⌝ }
     ensures { λ r. ⌜ r ≡ mscConstellation msc ⌝ }
 {
     MSC_POINTS[msc as usize]
 }
 
-fn plan_buffer() -> [usize; 36] {
+pub fn plan_buffer() -> [usize; 36] {
     [0usize; 36]
 }
 

@@ -1,10 +1,11 @@
 // FAC blocks, SDC blocks and multiplex frames: bits to cells and back.
 pub mod calls;
 pub mod plan;
+pub mod readers;
 
 ghost use Rattle.frame.specs.Cases.{Cases};
 
-// The marked cases of 01, proved of the definitions by one statement; the code is not asked.
+// The marked cases of 01, proved of the definitions by one statement; the function is empty and promises it.
 pub fn cases()
     ensures { λ _. ⌜ Cases ⌝ }
 {}

@@ -1,4 +1,4 @@
--- What is known of settings that are not refused.
+-- What is known of settings that are not refused: nothing of 01 is stated here, all follows from Refusal and Lengths.
 use Prim.Native.Nat.{ℕ, _+_, _-_, _*_, _%_, _≤_}
 use mathlib.Core.Path.{_≡_}
 use mathlib.Core.Bool.{true, false}

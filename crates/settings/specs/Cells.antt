@@ -7,7 +7,7 @@ use lib.ListN.{getD}
 unfoldable pub entry : List (List ℕ) → ℕ → ℕ → ℕ
 entry rows mode occupancy = getD (getD rows mode []) occupancy 0
 
--- N_MUX: MSC cells per multiplex frame.
+-- N_MUX: MSC cells per multiplex frame, 001 tables 75 to 78.
 unfoldable pub muxTable : List (List ℕ)
 muxTable =
     (1259 ∷ 1422 ∷ 2632 ∷ 2959 ∷ 5464 ∷ 6118 ∷ [])
@@ -16,7 +16,7 @@ muxTable =
     ∷ (0 ∷ 0 ∷ 0 ∷ 1226 ∷ 0 ∷ 2606 ∷ [])
     ∷ []
 
--- N_SFA: MSC cells per super frame.
+-- N_SFA: MSC cells per super frame, 001 tables 75 to 78.
 unfoldable pub superTable : List (List ℕ)
 superTable =
     (3778 ∷ 4268 ∷ 7897 ∷ 8877 ∷ 16394 ∷ 18354 ∷ [])

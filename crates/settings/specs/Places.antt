@@ -1,4 +1,4 @@
--- Where the code's flat tables hold an entry of a table with rows.
+-- Where the code's flat tables hold an entry of a table with rows: nothing of 01 is stated here.
 use Prim.Native.Nat.{ℕ, _+_, _*_}
 use mathlib.Core.Bool.{cond, _&&_}
 use lib.Dec.{ltb}

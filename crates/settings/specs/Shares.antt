@@ -1,4 +1,4 @@
--- The input bits of levels from their coded bits.
+-- The input bits of levels from their coded bits, as the code sums them: nothing of 01 is stated here.
 use Prim.Native.Nat.{ℕ, _*_, _/_}
 use mathlib.Core.List.{List, map}
 use Rattle.component.specs.Lists.{total}

@@ -3,7 +3,7 @@ use mathlib.Core.Path.{_≡_, refl, sym, ap}
 use native.Mathlib.Omega.{arith}
 use Rattle.component.specs.Lists.{table}
 use Rattle.block.specs.Mapping.{coordinate, qam4, qam16, standard64, symmetric64, constellation, axis}
-use Rattle.block.specs.Points.{isNumber}
+use Rattle.block.specs.Points.{sameNumber}
 use Rattle.block.specs.Reading.{placeOf}
 use Rattle.block.specs.Numbers.{numbersBy}
 use Rattle.block.proofs.Numbers.{one-labelling}
@@ -11,7 +11,7 @@ use Rattle.block.proofs.points.axis_numbers.Statement.{statement}
 use Rattle.block.proofs.points.axis_numbers.Tie as tie
 
 pub axis-numbers-spec : {M : Type 1} → statement M
-unfolding table constellation axis coordinate qam4 qam16 standard64 symmetric64 numbersBy placeOf isNumber
+unfolding table constellation axis coordinate qam4 qam16 standard64 symmetric64 numbersBy placeOf sameNumber
 axis-numbers-spec =
     tie.close
     (tie.spec

@@ -1,0 +1,126 @@
+-- The candidate's bits: levels read from the cells, both parts joined, and dispersal undone. Assumes nothing.
+use Prim.Native.Nat.{ℕ, _+_, _-_, _/_, _%_, _^_, _≤_, _<_}
+use mathlib.Core.Path.{_≡_, refl, sym, ap, ap₂, _∙_}
+use mathlib.Core.Bool.{Bool, true, false, cond}
+use mathlib.Core.List.{List, _++_, append-nil}
+use native.Mathlib.Omega.{arith}
+use lib.Dec.{eqb}
+use lib.IntN.{ℤ}
+use lib.ListN.{length, getD, take, drop, length-append}
+use lib.Seq.{take-at, take-length, length-take-le, drop-at, drop-length}
+use Rattle.component.specs.Lists.{table}
+use Rattle.component.specs.Weights.{taken}
+use Rattle.component.proofs.Tables.{Filled, filled-end, length-table}
+use Rattle.block.specs.Dispersal.{dispersed, dispersedParts}
+use Rattle.block.specs.Mapping.{constellation}
+use Rattle.block.specs.Numbers.{axisNumbers}
+use Rattle.block.specs.Reading.{numbersOf, streamIn, unmapped, inputsA, inputsB, candidate}
+use Rattle.block.specs.Plan.{levelAt, levelsOf}
+use Rattle.coder.specs.Coder.{blockOf}
+use Rattle.candidate.specs.Candidate.{digitAt, imaginaryAt, streamFrom, ReadsLevels, ReadsCells, CellsRead}
+use Rattle.block.proofs.Dispersal.{length-dispersed}
+use Rattle.block.proofs.Lists.{table-is, table-ext}
+use Rattle.block.proofs.Numbers.{both-axes}
+
+-- only the lengths of the buffers count
+pub relent : {plan : List ℕ} {one : Bool} {re im coded a b re′ im′ : List ℕ} → ReadsLevels plan one re im coded a b
+    → length re′ ≡ length re → length im′ ≡ length re → ReadsLevels plan one re′ im′ coded a b
+relent R e f =
+    record {
+      few = R .few;
+      ready = λ l h. rw e (R .ready l h);
+      digits = R .digits;
+      same = f ∙ sym e;
+      long = R .long;
+      short = R .short;
+      buffer = omega (arith, e, R .buffer);
+      high = omega (arith, e, R .high);
+    }
+
+-- the numbers of an axis
+axis-of : (numbers : List ℕ) (a : ℕ) → a < 2 → cond (eqb a 1) (axisNumbers 1 numbers) (axisNumbers 0 numbers) ≡ axisNumbers a numbers
+axis-of numbers = both-axes (λ a. cond (eqb a 1) (axisNumbers 1 numbers) (axisNumbers 0 numbers) ≡ axisNumbers a numbers) refl refl
+
+-- the levels' streams from the numbers of both axes, and from those of each
+streams-both : (numbers im : List ℕ) (m : ℕ) → table (streamFrom false numbers im) 0 m ≡ table (streamIn false numbers) 0 m
+unfolding streamFrom digitAt imaginaryAt streamIn
+streams-both numbers im m = table-ext (streamFrom false numbers im) (streamIn false numbers) 0 m (λ l h k. refl)
+
+streams-each : (numbers : List ℕ) (m : ℕ) → table (streamFrom true (axisNumbers 0 numbers) (axisNumbers 1 numbers)) 0 m ≡ table (streamIn true numbers) 0 m
+unfolding streamFrom digitAt imaginaryAt streamIn axisNumbers
+streams-each numbers m =
+    table-ext (streamFrom true (axisNumbers 0 numbers) (axisNumbers 1 numbers)) (streamIn true numbers) 0 m
+    (λ l h k. ap (taken (2 ^ (l / 2))) (axis-of numbers (l % 2) (omega arith)))
+
+module _ {plan : List ℕ} {c : ℕ} {cells : List ℤ} {a b : List ℕ} where
+  -- what is read from them
+  pub read-both : {numbers : List ℕ} → numbers ≡ numbersOf (constellation c) cells
+      → (a ≡ inputsA (levelsOf plan) (table (streamFrom false numbers numbers) 0 (length plan / 6)))
+      × (b ≡ inputsB (levelsOf plan) (table (streamFrom false numbers numbers) 0 (length plan / 6)))
+      → CellsRead plan false c cells a b
+  unfolding unmapped
+  read-both {numbers} e P =
+      record { partA = rw (streams-both numbers numbers (length plan / 6), e) at (P .0); partB = rw (streams-both numbers numbers (length plan / 6), e) at (P .1) }
+
+  pub read-each : {re im : List ℕ} → re ≡ axisNumbers 0 (numbersOf (constellation c) cells) → im ≡ axisNumbers 1 (numbersOf (constellation c) cells)
+      → (a ≡ inputsA (levelsOf plan) (table (streamFrom true re im) 0 (length plan / 6)))
+      × (b ≡ inputsB (levelsOf plan) (table (streamFrom true re im) 0 (length plan / 6)))
+      → CellsRead plan true c cells a b
+  unfolding unmapped
+  read-each e f P =
+      record {
+        partA = rw (e, f, streams-each (numbersOf (constellation c) cells) (length plan / 6)) at (P .0);
+        partB = rw (e, f, streams-each (numbersOf (constellation c) cells) (length plan / 6)) at (P .1);
+      }
+
+  -- both parts one after the other, dispersed, are the candidate
+  pub candidate-is : (v n : ℕ) {one : Bool} {bits out : List ℕ} → CellsRead plan one c cells a b → bits ≡ a ++ b → out ≡ dispersedParts v bits
+      → out ≡ candidate (blockOf plan v one c n) cells
+  unfolding candidate levelsOf
+  candidate-is v n R e f = rw (f, e, length-table (levelAt plan) 0 (length plan / 6), ← R .partA, ← R .partB)
+
+-- both axes need one buffer of numbers
+pub one-buffer : {plan : List ℕ} {c : ℕ} {cells : List ℤ} {re im coded a b : List ℕ} → ReadsCells plan false c cells re im coded a b
+    → ReadsCells plan false c cells re re coded a b
+one-buffer R = record { levels = relent (R .levels) refl refl; known = R .known; whole = R .whole; numbers = R .numbers }
+
+-- a part from the start of a list
+from-start : (n : ℕ) → n - 0 ≡ n
+from-start n = omega arith
+
+-- what is filled with a list's elements is this list
+pub copied : (from d out : List ℕ) (i : ℕ) → length d ≡ length from → i ≡ length from → Filled 0 (λ k. getD from k 0) d out i → out ≡ from
+copied from d out i e n F = filled-end 0 (λ k. getD from k 0) d out (length from) e (rw n at F) ∙ table-is (λ k. getD from k 0) 0 (length from) from refl (λ k h. refl)
+
+module _ (x v : List ℕ) (n : ℕ) (e : length x ≡ n) (h : n ≤ length v) where
+  -- x in place of the first n elements: what follows them
+  kept : drop n (x ++ drop (n - 0) v) ≡ drop n v
+  kept = rw (from-start n) (drop-at x (drop n v) n e)
+
+  rest-length : length (x ++ drop (n - 0) v) - n ≡ length (drop n v)
+  rest-length = rw (from-start n, length-append, e) (omega arith)
+
+  rest-part : take (length (x ++ drop (n - 0) v) - n) (drop n (x ++ drop (n - 0) v)) ≡ drop n v
+  rest-part = rw (rest-length, kept) (take-length (drop n v))
+
+  -- and with y in place of that
+  both-parts : (y : List ℕ) → take n (x ++ drop (n - 0) v) ++ (y ++ drop (length (x ++ drop (n - 0) v) - n) (drop n (x ++ drop (n - 0) v))) ≡ x ++ y
+  both-parts y = rw (rest-length, kept, drop-length (drop n v), append-nil y, take-at x (drop (n - 0) v) n e)
+
+-- two lists copied one behind the other
+pub joined-parts : (v : List ℕ) {a b x y : List ℕ} → x ≡ a → y ≡ b → length v ≡ length a + length b
+    → take (length a) (x ++ drop (length a - 0) v)
+    ++ (y ++ drop (length (x ++ drop (length a - 0) v) - length a) (drop (length a) (x ++ drop (length a - 0) v)))
+    ≡ a ++ b
+joined-parts v {a} {b} e f h = rw (e, f) (both-parts a v (length a) refl (omega arith) b)
+
+-- both parts of a list dispersed in place
+pub dispersed-both : (n : ℕ) (v : List ℕ) {x y : List ℕ} → n ≤ length v → x ≡ dispersed 0 (take (n - 0) v)
+    → y ≡ dispersed 0 (take (length (x ++ drop (n - 0) v) - n) (drop n (x ++ drop (n - 0) v)))
+    → take n (x ++ drop (n - 0) v) ++ (y ++ drop (length (x ++ drop (n - 0) v) - n) (drop n (x ++ drop (n - 0) v))) ≡ dispersedParts n v
+unfolding dispersedParts
+dispersed-both n v {x} {y} h e f =
+    let g : x ≡ dispersed 0 (take n v) = rw (from-start n) at e in
+    let k : length x ≡ n = rw g (length-dispersed 0 (take n v) ∙ length-take-le n v h) in
+    let z : y ≡ dispersed 0 (drop n v) = f ∙ ap (dispersed 0) (rest-part x v n k h) in
+    both-parts x v n k h y ∙ ap₂ _++_ g z

@@ -1,0 +1,2 @@
+pub mod LevelsRead
+pub mod CellsRead
