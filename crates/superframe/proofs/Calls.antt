@@ -20,7 +20,7 @@ use Rattle.superframe.specs.declared.Answer.the-variants.{Finished, Refu
 use Rattle.superframe.specs.Call.{memoryLength, memoryCell, inOrder}
 use Rattle.superframe.specs.Interleaving.{finishedFrames}
 use Rattle.superframe.specs.Reset.{resetRefusal, resetOf, startState, startMemory}
-use Rattle.superframe.specs.Code.{CodeCall, inputLengths, cellLengths, sparesZero, codeRefusal, codeAccepted, codeRefused, codeOf, progressOf}
+use Rattle.superframe.specs.Code.{CodeCall, byteLengths, cellLengths, sparesZero, codeRefusal, codeAccepted, codeRefused, codeOf, progressOf}
 use Rattle.superframe.specs.Read.{ReadCall, answerNumber, rowsOf, pointTests, givenTests, firstFault, orderRefusal, answerOf, readAccepted, readRefused, readOf}
 use Rattle.superframe.specs.Facts.{Fits, Ordered, BytesFit, CellsFit, CodeFits, ReadFits}
 use Rattle.superframe.proofs.Lists.{both, and-left, and-right}
@@ -55,8 +55,8 @@ not-not t h = rw h
 
 -- The tests of lengths and of order as facts, and back.
 module _ (s : Settings) where
-  pub bytes-fit : (fac sdc msc : List ℕ) → inputLengths s fac sdc msc ≡ true → BytesFit s fac sdc msc
-  unfolding inputLengths
+  pub bytes-fit : (fac sdc msc : List ℕ) → byteLengths s fac sdc msc ≡ true → BytesFit s fac sdc msc
+  unfolding byteLengths
   bytes-fit fac sdc msc h =
       let r = and-right (eqb (length fac) 27) _ h in
       record {
@@ -65,8 +65,8 @@ module _ (s : Settings) where
         msclong = eqb-true _ _ (and-right (eqb (length sdc) (sdcBytes s)) _ r);
       }
 
-  pub fit-bytes : (fac sdc msc : List ℕ) → BytesFit s fac sdc msc → inputLengths s fac sdc msc ≡ true
-  unfolding inputLengths
+  pub fit-bytes : (fac sdc msc : List ℕ) → BytesFit s fac sdc msc → byteLengths s fac sdc msc ≡ true
+  unfolding byteLengths
   fit-bytes fac sdc msc h = both (eq-eqb _ _ (h .faclong)) (both (eq-eqb _ _ (h .sdclong)) (eq-eqb _ _ (h .msclong)))
 
   pub cells-fit : (fac sdc msc : List ℤ) → cellLengths s fac sdc msc ≡ true → CellsFit s fac sdc msc
@@ -131,7 +131,7 @@ module _ (state : State) (memory : List ℤ) (c : CodeCall) where
       let s = state .settings in
       let a = first-own (refusal s) _ h in
       let b = first-zero (not (eqb (length memory) (memoryLength s))) 8 _ (omega arith) (a .1) in
-      let d = first-zero (not (inputLengths s (c .fac) (c .sdc) (c .msc))) 9 _ (omega arith) (b .1) in
+      let d = first-zero (not (byteLengths s (c .fac) (c .sdc) (c .msc))) 9 _ (omega arith) (b .1) in
       let e = first-zero (not (cellLengths s (c .faccells) (c .sdccells) (c .msccells))) 10 _ (omega arith) (d .1) in
       let f = first-zero (not (sparesZero s (c .sdc) (c .msc))) 11 _ (omega arith) (e .1) in
       let g = first-zero (not (inOrder state memory)) 12 0 (omega arith) (f .1) in
@@ -171,7 +171,7 @@ module _ (state : State) (memory : List ℤ) (c : ReadCall) where
       let a = first-own (refusal s) _ h in
       let b = first-zero (not (eqb (length memory) (memoryLength s))) 8 _ (omega arith) (a .1) in
       let d = first-zero (not (cellLengths s (c .faccells) (c .sdccells) (c .msccells))) 9 _ (omega arith) (b .1) in
-      let e = first-zero (not (inputLengths s (c .fac) (c .sdc) (c .msc))) 10 _ (omega arith) (d .1) in
+      let e = first-zero (not (byteLengths s (c .fac) (c .sdc) (c .msc))) 10 _ (omega arith) (d .1) in
       let g = first-zero (not (inOrder state memory)) 12 0 (omega arith) (e .1) in
       record {
         fits = record { settings = a .0; long = eqb-true _ _ (not-false _ (b .0)) };

@@ -24,11 +24,11 @@ use Rattle.frame.specs.Msc.{mscBlock}
 use Rattle.superframe.specs.Interleaving.{Progress, afterFrames, sentRows, fillers}
 use Rattle.superframe.specs.declared.State.{State}
 use Rattle.superframe.specs.Call.{part, parts, joined, memoryLength}
-use Rattle.superframe.specs.Code.{CodeCall, codeRefusal, codeAccepted, codeRefused, codeOf, progressOf, stateOf, frameCells, inputLengths, cellLengths, sparesZero}
+use Rattle.superframe.specs.Code.{CodeCall, codeRefusal, codeAccepted, codeRefused, codeOf, progressOf, stateOf, frameCells, byteLengths, cellLengths, sparesZero}
 use Rattle.superframe.specs.Facts.{Fits, Ordered}
 use Rattle.superframe.specs.Runs.{Bits, noBits, bitsOf, codes, brought, sent, refusals}
 use Rattle.superframe.specs.Standard.{standardRow, superFrame}
-use Rattle.superframe.specs.Demand3.{ofARun}
+use Rattle.superframe.specs.Demand3.{runNumber}
 use Rattle.block.proofs.Block.{bits-block}
 use Rattle.block.proofs.Lists.{getD-table, table-ext, table-from, map-table}
 use Rattle.superframe.proofs.Lists.{both}
@@ -290,24 +290,24 @@ brought-whole s (c ∷ cs) q = go (accepts-or s q c cs) (brought-whole s cs (cod
     go (inr h) next same = rw (brought-refused s q c cs h) same
 
 -- With allowed settings, and memory of their length and in order, a call is refused by 9, 10 or 11 only.
-of-a-run : (a b d : Bool) → ofARun (first (not a) 9 (first (not b) 10 (first (not d) 11 0))) ≡ true
-unfolding first ofARun
+of-a-run : (a b d : Bool) → runNumber (first (not a) 9 (first (not b) 10 (first (not d) 11 0))) ≡ true
+unfolding first runNumber
 of-a-run true true true = refl
 of-a-run true true false = refl
 of-a-run true false d = refl
 of-a-run false b d = refl
 
-run-refusal : (state : State) (memory : List ℤ) (c : CodeCall) → Fits (state .settings) memory → Ordered state memory → ofARun (codeRefusal state memory c) ≡ true
+run-refusal : (state : State) (memory : List ℤ) (c : CodeCall) → Fits (state .settings) memory → Ordered state memory → runNumber (codeRefusal state memory c) ≡ true
 unfolding codeRefusal first
 run-refusal state memory c f o =
     let s = state .settings in
     rw (first-own-pass (refusal s) _ (f .settings), eq-eqb _ _ (f .long), in-order state memory o)
-    (of-a-run (inputLengths s (c .fac) (c .sdc) (c .msc)) (cellLengths s (c .faccells) (c .sdccells) (c .msccells)) (sparesZero s (c .sdc) (c .msc)))
+    (of-a-run (byteLengths s (c .fac) (c .sdc) (c .msc)) (cellLengths s (c .faccells) (c .sdccells) (c .msccells)) (sparesZero s (c .sdc) (c .msc)))
 
 -- So are the calls of a run, at each of which memory keeps the frames before.
 module _ (s : Settings) (c : Coding s) (allowed : refusal s ≡ 0) (B : Bits) (w : Whole s B) where
   keeps-run : (m : ℕ) (q : Progress) → Keeps s (B .frames) storedAge (3 * m) q → 3 * m ≤ length (B .frames) → (call : CodeCall)
-      → ofARun (codeRefusal (stateOf s q) (q .memory) call) ≡ true
+      → runNumber (codeRefusal (stateOf s q) (q .memory) call) ≡ true
   unfolding stateOf memoryLength
   keeps-run m q K low call =
       run-refusal (stateOf s q) (q .memory) call
@@ -318,7 +318,7 @@ module _ (s : Settings) (c : Coding s) (allowed : refusal s ≡ 0) (B : Bits) (w
       → Keeps s (B .frames) storedAge (3 * m) q
       → 3 * m ≤ length (B .frames)
       → Ahead B m (brought (stateOf s q) (q .memory) calls)
-      → every (map ofARun (refusals (stateOf s q) (q .memory) calls)) ≡ true
+      → every (map runNumber (refusals (stateOf s q) (q .memory) calls)) ≡ true
   unfolding every
   run-refusals [] m q K low A = rw (refusals-none s q)
   run-refusals (call ∷ calls) m q K low A = go (accepts-or s q call calls) (run-refusals calls (suc m) (coded s q call)) (run-refusals calls m q K low)
@@ -330,9 +330,9 @@ module _ (s : Settings) (c : Coding s) (allowed : refusal s ≡ 0) (B : Bits) (w
           → (Keeps s (B .frames) storedAge (3 * suc m) (coded s q call)
           → 3 * suc m ≤ length (B .frames)
           → Ahead B (suc m) (brought (stateOf s (coded s q call)) (coded s q call .memory) calls)
-          → every (map ofARun (refusals (stateOf s (coded s q call)) (coded s q call .memory) calls)) ≡ true)
-          → (Ahead B m (brought (stateOf s q) (q .memory) calls) → every (map ofARun (refusals (stateOf s q) (q .memory) calls)) ≡ true)
-          → every (map ofARun (refusals (stateOf s q) (q .memory) (call ∷ calls))) ≡ true
+          → every (map runNumber (refusals (stateOf s (coded s q call)) (coded s q call .memory) calls)) ≡ true)
+          → (Ahead B m (brought (stateOf s q) (q .memory) calls) → every (map runNumber (refusals (stateOf s q) (q .memory) calls)) ≡ true)
+          → every (map runNumber (refusals (stateOf s q) (q .memory) (call ∷ calls))) ≡ true
       go (inl h) next same =
           let a : Ahead B m (bringing s call rest) = rw (brought-accepted s q call calls h) at A in
           let run = keeps-run m q K low call in

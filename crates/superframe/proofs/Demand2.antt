@@ -40,9 +40,9 @@ use Rattle.superframe.specs.Memory.{slotSize, stored}
 use Rattle.superframe.specs.Interleaving.{Progress, advanced, delay, sentRow, sentRows, taken, finishedBy, finishedFrames, fillers}
 use Rattle.superframe.specs.Call.{part, parts, joined}
 use Rattle.superframe.specs.Code.{CodeCall, codeAccepted, progressOf, frameCells}
-use Rattle.superframe.specs.Read.{ReadCall, rowsOf, fillersOf, rowCell, rowPoints, countAt, pointTests, givenTests, firstFault, orderRefusal, answerOf, handedOut, readAccepted, readOf}
+use Rattle.superframe.specs.Read.{ReadCall, rowsOf, fillersOf, rowCell, rowPoints, countAt, pointTests, givenTests, firstFault, answerNumber, answerFrames, answerBlock, orderRefusal, answerOf, handedOut, readAccepted, readOf}
 use Rattle.superframe.specs.Facts.{CellsFit, ReadFits}
-use Rattle.superframe.specs.Demand2.{cellIsPoint, NoPoint, inFac, inSdc, inRow, inFillers, NotGiven, ofFac, ofSdc, ofFrame, Lowest, Nowhere, finishedOf, Thirteen, Fourteen, HandsOut, Sends, Demand2}
+use Rattle.superframe.specs.Demand2.{cellIsPoint, NoPoint, inFac, inSdc, inRow, inFillers, NotGiven, ofFac, ofSdc, ofFrame, Lowest, Nowhere, finishedOf, Thirteen, Fourteen, HandsOut, Sends, RefusedBy, FinishedWith, Demand2}
 use Rattle.superframe.proofs.Coding.{Recovers, Coding, fac-long, sdc-long, point-at}
 use Rattle.superframe.proofs.Lists.{both, and-left, and-right, every-at, take-table, part-joined, after-joined, length-joined, three-part, three-length}
 use Rattle.superframe.proofs.ReadCalls.{fillers-long}
@@ -596,15 +596,54 @@ code-sends state memory c C =
     sum : 3 * slotSize (state .settings) + 2 * (nSfa (state .settings) - 3 * nMux (state .settings)) ≡ 2 * nSfa (state .settings)
     sum = slots-fill (state .settings) (C .room)
 
+-- An answer by its number and values is one of the two cases.
+refused-by : (a : Answer) (r b : ℕ) → 0 < r → RefusedBy a r b ↔ (a ≡ Refused r b)
+unfolding answerNumber answerBlock
+refused-by a r b h = (to a, λ e. (ap answerNumber e, ap answerBlock e))
+  where
+    to : (a : Answer) → RefusedBy a r b → a ≡ Refused r b
+    to (Finished n) (p, q) = absurd (omega arith)
+    to (Refused s d) (p, q) = ap₂ Refused p q
+
+finished-with : (a : Answer) (n : ℕ) → ((b : ℕ) → a ≡ Refused 0 b → ⊥) → FinishedWith a n ↔ (a ≡ Finished n)
+unfolding answerNumber answerFrames
+finished-with a n none = (to a none, λ e. (ap answerNumber e, ap answerFrames e))
+  where
+    to : (a : Answer) → ((b : ℕ) → a ≡ Refused 0 b → ⊥) → FinishedWith a n → a ≡ Finished n
+    to (Finished m) none (p, q) = ap Finished q
+    to (Refused s d) none (p, q) = absurd (none d (ap (λ r. Refused r d) p))
+
+-- No answer is a refusal by 0.
+never-zero : ((s : Settings) → refusal s ≡ 0 → Coding s) → (state : State) (memory : List ℤ) (c : ReadCall) (b : ℕ) → answerOf state memory c ≡ Refused 0 b → ⊥
+never-zero coding state memory c b e = go (ℕ-discrete (orderRefusal state memory c) 0)
+  where
+    at : orderRefusal state memory c ≡ 0 → Case coding state memory c (length (finishedOf state memory c)) (answerOf state memory c) → ⊥
+    at z (bad p a) = let y : _≡_ {A = ℕ} 0 13 = cc in omega arith
+    at z (wrong p g a) = let y : _≡_ {A = ℕ} 0 14 = cc in omega arith
+    at z (good p g a) = let y : _≡_ {A = ℕ} 0 1 = cc in omega arith
+
+    go : Dec (orderRefusal state memory c ≡ 0) → ⊥
+    go (yes z) = at z (answer-case coding state memory c z)
+    go (no h) =
+        let a = answer-order state memory c (orderRefusal state memory c) refl (omega arith) in
+        let y : 0 ≡ orderRefusal state memory c = cc in h (sym y)
+
+-- Two equivalences one after the other.
+then-iff : {A B C : Type 0} → A ↔ B → B ↔ C → A ↔ C
+then-iff p q = (λ a. q .0 (p .0 a), λ c. p .1 (q .1 c))
+
 -- Demand 2, of all settings whose coding is recovered.
 pub demand2-of : ((s : Settings) → refusal s ≡ 0 → Coding s) → Demand2
 demand2-of coding =
     record {
-      refuses13 = λ state memory c F b. answers13 coding state memory c F b;
-      refuses14 = λ state memory c F b. answers14 coding state memory c F b;
-      finishes = λ state memory c F n. answers0 coding state memory c F n;
-      handsOut = λ state memory c n e. hands-out coding state memory c n e;
+      refuses13 = λ state memory c z b. then-iff (refused-by (answerOf state memory c) 13 b (omega arith)) (answers13 coding state memory c (read-fits state memory c z) b);
+      refuses14 = λ state memory c z b. then-iff (refused-by (answerOf state memory c) 14 b (omega arith)) (answers14 coding state memory c (read-fits state memory c z) b);
+      finishes = λ state memory c z n.
+          then-iff (finished-with (answerOf state memory c) n (never-zero coding state memory c)) (answers0 coding state memory c (read-fits state memory c z) n);
+      handsOut = λ state memory c e.
+          hands-out coding state memory c _ (finished-with (answerOf state memory c) (answerFrames (answerOf state memory c)) (never-zero coding state memory c) .0 (e, refl));
       sends = λ state memory c h.
           subst (Sends (state .settings) c) (sym (code-accepts state memory c h))
           (code-sends state memory c (coding (state .settings) (code-fits state memory c h .fits .settings)));
+      recovers = λ s h. let C = coding s h in (C .fac .reads, C .sdc .reads, C .msc .reads);
     }

@@ -7,7 +7,7 @@ use mathlib.Core.List.{List, [], _∷_, _++_, map}
 use native.Mathlib.Nat.{zero-add, zero-sub, sub-zero}
 use native.Mathlib.Decide.{ℕ-discrete}
 use native.Mathlib.Omega.{arith}
-use lib.ListN.{length, getD, take, drop, replicate, take-append-drop}
+use lib.ListN.{length, getD, take, drop, replicate, take-append-drop, length-drop, length-replicate}
 use lib.Seq.{take-all, take-take, take-add}
 use Rattle.component.specs.Lists.{table}
 use Rattle.settings.specs.declared.Settings.{Settings}
@@ -22,7 +22,7 @@ use Rattle.superframe.specs.Code.{stateOf}
 use Rattle.superframe.specs.Read.{ReadCall}
 use Rattle.superframe.specs.Runs.{Begun, stateAt, memoryAt, Bits, brought, sent, refusals, Closed, readCount, handed, Fed, Accepts}
 use Rattle.superframe.specs.Standard.{superFrame, standard}
-use Rattle.superframe.specs.Demand3.{Run, bits, cells, standardCells, firstBits, ofARun, Demand3}
+use Rattle.superframe.specs.Demand3.{Run, bits, cells, standardCells, firstBits, runNumber, Demand3}
 use Rattle.superframe.proofs.Lists.{take-table}
 use Rattle.superframe.proofs.Coding.{Coding, depth-low, depth-high}
 use Rattle.superframe.proofs.History.{Keeps, keeps-start}
@@ -105,7 +105,7 @@ module _ (coding : (s : Settings) → refusal s ≡ 0 → Coding s) where
         ∙ ap (λ b. table (superFrame (run .begun .settings) (bits run)) 0 (length (b .sdc))) (sym bits-are)
 
     -- A call of a run is refused by 9, 10 or 11 only.
-    pub run-refuses : every (map ofARun (refusals (stateAt (run .begun)) (memoryAt (run .begun)) (run .calls))) ≡ true
+    pub run-refuses : every (map runNumber (refusals (stateAt (run .begun)) (memoryAt (run .begun)) (run .calls))) ≡ true
     run-refuses =
         rw (begun-state (run .begun), begun-memory (run .begun))
         (run-refusals (run .begun .settings) (coded-by (run .begun)) (begun-allowed (run .begun)) (bits run) bits-whole (run .calls) 0 (startOf (run .begun .settings))
@@ -187,6 +187,12 @@ take-equal z zero (suc m) h = absurd (omega arith)
 take-equal z (suc n) zero h = refl
 take-equal z (suc n) (suc m) h = ap (λ l. z ∷ l) (take-equal z n m (omega arith))
 
+-- A closed run has six frames.
+closed-six : (s : Settings) (b : Bits) → Closed s b → 6 ≤ length (b .frames)
+closed-six s b c =
+    let e : length (b .frames) - (length (b .frames) - 6) ≡ 6 = sym (length-drop (length (b .frames) - 6) (b .frames)) ∙ ap length (c .zeros) ∙ length-replicate 6 (replicate {A = ℕ} (bitCount (mscBlock s)) 0) in
+    omega arith
+
 -- Of a closed run's frames a reader hands out all before the closing, and of the closing's the first 7 - D.
 pub closed-frames : (s : Settings) (b : Bits) → Whole s b → Closed s b
     → take (3 * length (b .sdc) - (depth s - 1)) (b .frames)
@@ -194,7 +200,7 @@ pub closed-frames : (s : Settings) (b : Bits) → Whole s b → Closed s b
 closed-frames s b w c =
     let x = depth-low s in
     let y = depth-high s in
-    let e : 3 * length (b .sdc) - (depth s - 1) ≡ (length (b .frames) - 6) + (7 - depth s) = omega (arith, w .frames, c .two) in
+    let e : 3 * length (b .sdc) - (depth s - 1) ≡ (length (b .frames) - 6) + (7 - depth s) = omega (arith, w .frames, closed-six s b c) in
     rw (e, take-add (length (b .frames) - 6) (7 - depth s) (b .frames), c .zeros, take-equal (replicate {A = ℕ} (bitCount (mscBlock s)) 0) 6 (7 - depth s) (omega arith))
 
 -- Demand 3, of all settings whose coding is recovered.
@@ -206,6 +212,7 @@ demand3-of coding =
       same = same;
       readsBack = back;
       readsAll = all;
+      readable = fed;
       refuses = run-refuses coding;
     }
   where
@@ -238,6 +245,15 @@ demand3-of coding =
         let r = reader-back coding reader (bits run) (other run (reader .settings) (sym e)) calls
         (subst (λ x. Fed x (stateAt reader) (memoryAt reader) calls) (sym p) F) in
         (subst (λ x. Accepts x (stateAt reader) (memoryAt reader) calls) p (r .0), r .1)
+
+    fed : (run : Run) (reader : Begun) → reader .settings ≡ run .begun .settings
+        → (calls : List ReadCall)
+        × (Fed (standardCells run) (stateAt reader) (memoryAt reader) calls × (readCount (stateAt reader) (memoryAt reader) calls ≡ length (bits run .sdc)))
+    fed run reader e =
+        let p = ap (λ x. standard x (bits run)) e in
+        let r = reader-all coding reader (bits run) (other run (reader .settings) (sym e)) in
+        let calls = feedAll (reader .settings) (standard (reader .settings) (bits run)) in
+        (calls, (subst (λ x. Fed x (stateAt reader) (memoryAt reader) calls) p (r .0), r .1))
 
     all : (run : Run) (reader : Begun) (calls : List ReadCall)
         → reader .settings ≡ run .begun .settings

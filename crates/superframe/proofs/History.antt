@@ -15,7 +15,7 @@ use Rattle.settings.specs.declared.Settings.{Settings}
 use Rattle.settings.specs.Lengths.{nMux}
 use Rattle.settings.specs.Sizes.{depth}
 use Rattle.block.specs.Block.{cellsOf}
-use Rattle.block.specs.Points.{isPoint, isNumber, every}
+use Rattle.block.specs.Points.{isPoint, sameNumber, every}
 use Rattle.frame.specs.Msc.{mscBlock}
 use Rattle.superframe.specs.Memory.{slotSize, numberIn, startFrame, slotOf}
 use Rattle.superframe.specs.Interleaving.{Progress, sentPlace, delay, slotBefore}
@@ -140,7 +140,7 @@ pub record Good (s : Settings) (l : List ℤ) : Type 0 where
   pub cell : (j : ℕ) → j < nMux s → goodCell s (getD l (2 * j) (pos 0)) (getD l (2 * j + 1) (pos 0)) ≡ true
 
 pub start-good : (s : Settings) → Good s (startFrame s)
-unfolding startFrame slotSize goodCell isStart isNumber
+unfolding startFrame slotSize goodCell isStart sameNumber
 start-good s =
     record { cell = λ j h. rw (getD-replicate (2 * nMux s) (2 * j) (pos 0) (pos 0) (omega arith), getD-replicate (2 * nMux s) (2 * j + 1) (pos 0) (pos 0) (omega arith)) }
 

@@ -10,7 +10,7 @@ use Rattle.settings.specs.declared.Settings.{Settings}
 use Rattle.settings.specs.Lengths.{nMux}
 use Rattle.settings.specs.Sizes.{depth}
 use Rattle.block.specs.Block.{Block}
-use Rattle.block.specs.Points.{isNumber, isPoint, every}
+use Rattle.block.specs.Points.{sameNumber, isPoint, every}
 use Rattle.frame.specs.Msc.{mscBlock}
 use Rattle.superframe.specs.declared.State.{State}
 use Rattle.superframe.specs.Memory.{slotSize}
@@ -34,7 +34,7 @@ memoryLength s = depth s * slotSize s
 
 -- A cell of a frame before the first is (0, 0).
 unfoldable pub isStart : ℤ → ℤ → Bool
-isStart re im = isNumber (pos 0) re && isNumber (pos 0) im
+isStart re im = sameNumber (pos 0) re && sameNumber (pos 0) im
 
 -- Refusal 12: position or count above 4 (above 0 in short), or a memory cell neither (0, 0) nor an MSC point.
 unfoldable pub memoryCell : Settings → List ℤ → ℕ → Bool

@@ -40,8 +40,8 @@ pub record CodeYield : Type 0 where
   pub msccells : List ℤ
 
 -- 9: FAC blocks have 27 bytes, an SDC block and three multiplex frames the bytes of their bits.
-unfoldable pub inputLengths : Settings → List ℕ → List ℕ → List ℕ → Bool
-inputLengths s fac sdc msc =
+unfoldable pub byteLengths : Settings → List ℕ → List ℕ → List ℕ → Bool
+byteLengths s fac sdc msc =
     eqb (length fac) 27 && (eqb (length sdc) (sdcBytes s) && eqb (length msc) (3 * frameBytes s))
 
 -- 10: cells for three FAC blocks, an SDC block and a super frame's MSC sequence.
@@ -59,7 +59,7 @@ codeRefusal state memory c =
     let s = state .settings in
     first (ltb 0 (refusal s)) (refusal s)
     (first (not (eqb (length memory) (memoryLength s))) 8
-    (first (not (inputLengths s (c .fac) (c .sdc) (c .msc))) 9
+    (first (not (byteLengths s (c .fac) (c .sdc) (c .msc))) 9
     (first (not (cellLengths s (c .faccells) (c .sdccells) (c .msccells))) 10
     (first (not (sparesZero s (c .sdc) (c .msc))) 11 (first (not (inOrder state memory)) 12 0)))))
 
@@ -99,6 +99,7 @@ codeRefused r state memory c =
       msccells = c .msccells;
     }
 
+-- What a Code call yields, for every input.
 unfoldable pub codeOf : State → List ℤ → CodeCall → CodeYield
 codeOf state memory c =
     cond (eqb (codeRefusal state memory c) 0) (codeAccepted state memory c)

@@ -1,4 +1,4 @@
--- Demand 2 on the definitions: which calls Read refuses by 13 and 14, what it hands out, and what Code's cells are, in 01's words. 01 "Buffers and state" and "Operations".
+-- Demand 2 on single calls: which calls Read refuses by 13 and 14, what it hands out, and which FAC cells, SDC cells and fillers Code leaves, in 01's words. That the rows of Code are the standard's is said of whole runs (Demand3). 01 "Buffers and state" and "Operations".
 use Prim.Native.Nat.{ℕ, _+_, _-_, _*_, _≤_, _<_}
 use mathlib.Core.Path.{_≡_}
 use mathlib.Core.Logic.{_↔_}
@@ -8,24 +8,25 @@ use lib.ListN.{length, getD, drop, replicate}
 use lib.IntN.{ℤ, pos}
 use Rattle.settings.specs.declared.Settings.{Settings}
 use Rattle.settings.specs.Cells.{facCells}
+use Rattle.settings.specs.Refusal.{refusal}
 use Rattle.settings.specs.Lengths.{nMux, nSdc, lSdc}
 use Rattle.settings.specs.Sizes.{depth, frameBits, frameBytes}
 use Rattle.block.specs.Packing.{spareZero}
 use Rattle.block.specs.Mapping.{Constellation}
 use Rattle.block.specs.Block.{cellsFrom}
 use Rattle.block.specs.Points.{isPoint}
-use Rattle.block.specs.Reads.{NoBits}
+use Rattle.block.specs.Reads.{NoBits, ReadsBytes}
 use Rattle.frame.specs.Fac.{facBlock}
 use Rattle.frame.specs.Sdc.{sdcBlock}
 use Rattle.frame.specs.Msc.{mscBlock}
 use Rattle.superframe.specs.declared.State.{State}
-use Rattle.superframe.specs.declared.Answer.the-variants.{Finished, Refused}
+use Rattle.superframe.specs.declared.Answer.{Answer}
 use Rattle.superframe.specs.Memory.{slotSize}
 use Rattle.superframe.specs.Interleaving.{delay, finishedFrames, fillers}
 use Rattle.superframe.specs.Call.{part}
 use Rattle.superframe.specs.Code.{CodeCall, CodeYield, codeRefusal, codeOf, progressOf}
-use Rattle.superframe.specs.Read.{ReadCall, ReadYield, rowsOf, fillersOf, countAt, answerOf, readOf}
-use Rattle.superframe.specs.Facts.{BytesFit, CellsFit, ReadFits}
+use Rattle.superframe.specs.Read.{ReadCall, ReadYield, rowsOf, fillersOf, countAt, answerNumber, answerFrames, answerBlock, orderRefusal, answerOf, readOf}
+use Rattle.superframe.specs.Facts.{BytesFit, CellsFit}
 
 -- Cell j of a flat list is a point.
 unfoldable pub cellIsPoint : Constellation → List ℤ → ℕ → Bool
@@ -80,19 +81,29 @@ pub record Sends (s : Settings) (c : CodeCall) (y : CodeYield) : Type 0 where
   pub sdc : y .sdccells ≡ cellsFrom (sdcBlock s) (c .sdc)
   pub filled : fillersOf s (y .msccells) ≡ fillers s
 
+-- An answer by its number and values: a refusal with its block, or acceptance with a number of finished frames.
+abbrev pub RefusedBy : Answer → ℕ → ℕ → Type 0
+RefusedBy a number block = (answerNumber a ≡ number) × (answerBlock a ≡ block)
+
+abbrev pub FinishedWith : Answer → ℕ → Type 0
+FinishedWith a frames = (answerNumber a ≡ 0) × (answerFrames a ≡ frames)
+
+-- Demand 2, one statement about single calls.
 pub record Demand2 : Type 0 where
   -- Where no number up to 12 refuses a Read call: 13 with the lowest block that has a cell not ignored which is no point, or a wrong filler,
-  pub refuses13 : (state : State) (memory : List ℤ) (c : ReadCall) → ReadFits state memory c → (b : ℕ)
-      → (answerOf state memory c ≡ Refused 13 b) ↔ Lowest (Thirteen state c) b
+  pub refuses13 : (state : State) (memory : List ℤ) (c : ReadCall) → orderRefusal state memory c ≡ 0 → (b : ℕ)
+      → RefusedBy (answerOf state memory c) 13 b ↔ Lowest (Thirteen state c) b
   -- else 14 with the lowest block that no bits give,
-  pub refuses14 : (state : State) (memory : List ℤ) (c : ReadCall) → ReadFits state memory c → (b : ℕ)
-      → (answerOf state memory c ≡ Refused 14 b) ↔ (Nowhere (Thirteen state c) × Lowest (Fourteen state memory c) b)
+  pub refuses14 : (state : State) (memory : List ℤ) (c : ReadCall) → orderRefusal state memory c ≡ 0 → (b : ℕ)
+      → RefusedBy (answerOf state memory c) 14 b ↔ (Nowhere (Thirteen state c) × Lowest (Fourteen state memory c) b)
   -- else acceptance: a call begun at a count finishes count + 3 - (D - 1) frames, none where that is negative.
-  pub finishes : (state : State) (memory : List ℤ) (c : ReadCall) → ReadFits state memory c → (n : ℕ)
-      → (answerOf state memory c ≡ Finished n)
+  pub finishes : (state : State) (memory : List ℤ) (c : ReadCall) → orderRefusal state memory c ≡ 0 → (n : ℕ)
+      → FinishedWith (answerOf state memory c) n
       ↔ (Nowhere (Thirteen state c) × Nowhere (Fourteen state memory c) × (n ≡ state .count + 3 - (depth (state .settings) - 1)))
   -- What it then hands out.
-  pub handsOut : (state : State) (memory : List ℤ) (c : ReadCall) (n : ℕ) → answerOf state memory c ≡ Finished n
+  pub handsOut : (state : State) (memory : List ℤ) (c : ReadCall) → answerNumber (answerOf state memory c) ≡ 0
       → HandsOut (state .settings) (finishedOf state memory c) c (readOf state memory c)
   -- What an accepted Code call leaves.
   pub sends : (state : State) (memory : List ℤ) (c : CodeCall) → codeRefusal state memory c ≡ 0 → Sends (state .settings) c (codeOf state memory c)
+  -- For settings that are not refused: reading a block's cells gives its bits, and different bits give different cells.
+  pub recovers : (s : Settings) → refusal s ≡ 0 → ReadsBytes facBlock × ReadsBytes (sdcBlock s) × ReadsBytes (mscBlock s)

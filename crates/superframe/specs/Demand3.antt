@@ -36,9 +36,10 @@ firstBits D j b =
     record { fac = take (3 * j) (b .fac); sdc = take j (b .sdc); frames = take (3 * j - (D - 1)) (b .frames) }
 
 -- The number of a Code call of a run: 0, or 9, 10 or 11.
-unfoldable pub ofARun : ℕ → Bool
-ofARun r = eqb r 0 || (leb 9 r && leb r 11)
+unfoldable pub runNumber : ℕ → Bool
+runNumber r = eqb r 0 || (leb 9 r && leb r 11)
 
+-- Demand 3, for every run and every list of Read calls.
 pub record Demand3 : Type 0 where
   -- The cells sent are the standard's.
   pub sends : (run : Run) → cells run ≡ standardCells run
@@ -68,5 +69,11 @@ pub record Demand3 : Type 0 where
       → handed (stateAt reader) (memoryAt reader) calls .frames
       ≡ take (length (bits run .frames) - 6) (bits run .frames)
       ++ replicate (7 - depth (reader .settings)) (replicate (bitCount (mscBlock (reader .settings))) 0)
+  -- Every run's cells can be fed whole: there are such Read calls.
+  pub readable :
+      (run : Run) (reader : Begun)
+      → reader .settings ≡ run .begun .settings
+      → (calls : List ReadCall)
+      × (Fed (standardCells run) (stateAt reader) (memoryAt reader) calls × (readCount (stateAt reader) (memoryAt reader) calls ≡ length (bits run .sdc)))
   -- A Code call of a run is refused by 9, 10 or 11 only.
-  pub refuses : (run : Run) → every (map ofARun (refusals (stateAt (run .begun)) (memoryAt (run .begun)) (run .calls))) ≡ true
+  pub refuses : (run : Run) → every (map runNumber (refusals (stateAt (run .begun)) (memoryAt (run .begun)) (run .calls))) ≡ true

@@ -52,7 +52,7 @@ sentRows s q (f ∷ fs) =
     let m = stored (slotSize s) (q .memory) (q .position) f in
     sentRow s m (q .position) ++ sentRows s (advanced (depth s) m q) fs
 
--- N_SFA - 3 × N_MUX fillers follow: none, (1, 1), or (1, 1) then (1, -1).
+-- N_SFA - 3 × N_MUX fillers follow: none, (1, 1), or (1, 1) then (1, -1). 001 table 79.
 unfoldable pub fillers : Settings → List ℤ
 fillers s = take (2 * (nSfa s - 3 * nMux s)) (pos 1 ∷ pos 1 ∷ pos 1 ∷ negsuc 0 ∷ [])
 

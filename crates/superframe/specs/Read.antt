@@ -24,7 +24,7 @@ use Rattle.superframe.specs.declared.Reading.{Reading}
 use Rattle.superframe.specs.Memory.{slotSize}
 use Rattle.superframe.specs.Interleaving.{Progress, advanced, delay, afterRows, finishedFrames, fillers}
 use Rattle.superframe.specs.Call.{part, parts, joined, memoryLength, inOrder}
-use Rattle.superframe.specs.Code.{inputLengths, cellLengths, progressOf, stateOf}
+use Rattle.superframe.specs.Code.{byteLengths, cellLengths, progressOf, stateOf}
 
 -- What a Read call is lent beside the memory: the cells of three FAC blocks, an SDC block and the MSC sequence, and three buffers for packed bytes.
 pub record ReadCall : Type 0 where
@@ -102,7 +102,7 @@ orderRefusal state memory c =
     first (ltb 0 (refusal s)) (refusal s)
     (first (not (eqb (length memory) (memoryLength s))) 8
     (first (not (cellLengths s (c .faccells) (c .sdccells) (c .msccells))) 9
-    (first (not (inputLengths s (c .fac) (c .sdc) (c .msc))) 10 (first (not (inOrder state memory)) 12 0))))
+    (first (not (byteLengths s (c .fac) (c .sdc) (c .msc))) 10 (first (not (inOrder state memory)) 12 0))))
 
 -- The answer: the lowest number that applies, with its block; refusals below 13 name 0.
 unfoldable pub answerOf : State → List ℤ → ReadCall → Answer
@@ -146,6 +146,7 @@ readRefused state memory c =
       msc = c .msc;
     }
 
+-- What a Read call yields, for every input.
 unfoldable pub readOf : State → List ℤ → ReadCall → ReadYield
 readOf state memory c =
     cond (eqb (answerNumber (answerOf state memory c)) 0) (readAccepted state memory c) (readRefused state memory c)

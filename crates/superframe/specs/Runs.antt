@@ -17,7 +17,7 @@ use Rattle.frame.specs.Msc.{mscBlock}
 use Rattle.superframe.specs.declared.State.{State}
 use Rattle.superframe.specs.Call.{parts}
 use Rattle.superframe.specs.Reset.{resetOf}
-use Rattle.superframe.specs.Code.{CodeCall, codeOf, inputLengths}
+use Rattle.superframe.specs.Code.{CodeCall, codeOf, byteLengths}
 use Rattle.superframe.specs.Read.{ReadCall, readOf, answerNumber, answerFrames}
 
 -- Settings that an accepted Reset took, with what it was handed.
@@ -89,7 +89,6 @@ refusals state memory (c ∷ cs) =
 
 -- A run is closed if its last two accepted calls, that is its last six multiplex frames, have all MSC bits zero.
 pub record Closed (s : Settings) (b : Bits) : Type 0 where
-  pub two : 6 ≤ length (b .frames)
   pub zeros : drop (length (b .frames) - 6) (b .frames) ≡ replicate 6 (replicate (bitCount (mscBlock s)) 0)
 
 -- A Read call is accepted.
@@ -127,7 +126,7 @@ pub record Feeds (s : Settings) (cells : List SuperFrame) (c : ReadCall) : Type 
   pub fac : c .faccells ≡ frame .fac
   pub sdc : c .sdccells ≡ frame .sdc
   pub msc : c .msccells ≡ frame .msc
-  pub room : inputLengths s (c .fac) (c .sdc) (c .msc) ≡ true
+  pub room : byteLengths s (c .fac) (c .sdc) (c .msc) ≡ true
 
 -- The super frames not yet read after a call.
 unfoldable pub unreadAfter : List SuperFrame → State → List ℤ → ReadCall → List SuperFrame

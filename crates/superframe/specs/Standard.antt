@@ -36,5 +36,6 @@ superFrame s b m =
       msc = joined (table (λ i. standardRow s (b .frames) (3 * m + i)) 0 3) ++ fillers s;
     }
 
+-- The super frames of a run: as many as SDC blocks were brought.
 unfoldable pub standard : Settings → Bits → List SuperFrame
 standard s b = table (superFrame s b) 0 (length (b .sdc))

@@ -1,4 +1,4 @@
-// Theorems about the definitions of the calls. The code is not asked: each function is empty and promises its statement.
+// Theorems about the definitions that the contracts of Reset, Code and Read cite: each function is empty and promises its statement.
 ghost use Rattle.superframe.specs.Demand2.{Demand2};
 ghost use Rattle.superframe.specs.Demand3.{Demand3};
 

@@ -1,0 +1,6 @@
+pub mod Ring
+pub mod Turns
+pub mod Reach
+pub mod Every
+pub mod Laid
+pub mod Chains

@@ -1,0 +1,64 @@
+-- `rows::take_row` meets its contract. The loop's invariant: place, slot and delay are those of cell i, and what is left of the row leads to what the whole
+-- leads to. Assumes nothing.
+use Prim.Native.Nat.{_-_}
+use native.Mathlib.Omega.{arith}
+use borrow.Author.Needs.{needs}
+use mathlib.Core.Path.{_∙_}
+use Rattle.component.proofs.Places.{size-four}
+use Rattle.cellrows.proofs.Turns.{Stepping, stepping-start, stepping-turn, row-interleaves, Leading, leading-start, leading-turn, leading-end}
+use Rattle.cellrows.proofs.rows.take_row.Statement.{statement}
+use Rattle.cellrows.proofs.rows.take_row.Tie as tie
+
+abbrev Inv-loop : tie.InvT-loop
+Inv-loop depth n row memory₀ position count s q place₀ slot₀ delay₀ i₀ memory place slot delay i =
+    Stepping depth n position s q memory₀ row place slot i × Leading depth n position count row memory₀ delay i memory
+
+abbrev μ-loop : tie.MeasureT-loop
+μ-loop depth n row memory₀ position count s q place₀ slot₀ delay₀ i₀ memory place slot delay i =
+    n - i
+
+offset-of-requires : tie.Need-offset-of-requires Inv-loop μ-loop
+offset-of-requires c κs =
+    omega
+    (arith, c .size-of .ensures, size-four _ _ (row-interleaves _ _ _ _ _ (c .before .pre) .cycles))
+
+loop-holds : tie.Need-loop-holds Inv-loop μ-loop
+loop-holds c = (stepping-start _ _ _ _ _ _ _ (c .before .before .pre) (c .before .size-of .ensures) (c .offset-of .ensures), leading-start _ _ _ _ _ _ (c .before .before .pre .within))
+
+loop-again : tie.Need-loop-again Inv-loop μ-loop
+loop-again c =
+    let l = c .before .before .before .before .before .before .before .loop in
+    let w = l .inv .0 in (
+      stepping-turn _ _ _ _ _ _ _ _ _ _ _ _ w (search needs) (c .before .before .next-place .ensures) (c .before .previous-slot .ensures),
+      leading-turn _ _ _ _ _ _ _ _ _ _ _ _ _ (w .ring) (w .along .place-is) (search needs) (l .inv .1)
+          (c .before .before .before .before .take-cell .ensures) (c .next-modulo .ensures),
+    )
+
+returns : tie.Need-returns Inv-loop μ-loop
+returns c =
+    let w = c .before .loop .inv in
+    leading-end _ _ _ _ _ _ _ _ _ (w .0 .upto) (c .loop-test .left) (w .1)
+
+pub take-row-spec : {M : Type 1} → statement M
+take-row-spec =
+    tie.close
+    (tie.spec
+    Inv-loop
+    μ-loop
+    (λ c κs. search needs)
+    offset-of-requires
+    loop-holds
+    (λ c. search needs)
+    (λ c. search needs)
+    (λ c. search needs)
+    (λ c. search needs)
+    (λ c. search needs)
+    (λ c κs. search needs)
+    (λ c κs. search needs)
+    (λ c κs. search needs)
+    (λ c κs. search needs)
+    (λ c. search needs)
+    (λ c. search needs)
+    loop-again
+    (λ c. search needs)
+    returns)

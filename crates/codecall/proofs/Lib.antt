@@ -1,0 +1,4 @@
+pub mod Lent
+pub mod ResetCalls
+pub mod CodeTurns
+pub mod CodeCalls

@@ -1,0 +1,63 @@
+-- The call Reset from its refusal. Assumes nothing.
+use mathlib.Core.Path.{_≡_, refl, sym, _∙_}
+use mathlib.Core.Bool.{true}
+use mathlib.Core.Logic.{_⊎_, inl, inr}
+use mathlib.Core.List.{List}
+use Prim.Native.Nat.{ℕ, zero, suc, _*_, _≤_, _<_}
+use native.Mathlib.Nat.{zero-mul, suc-mul, add-comm}
+use native.Mathlib.Omega.{arith}
+use lib.ListN.{length, replicate, replicate-append-replicate}
+use lib.IntN.{ℤ, pos}
+use Rattle.component.proofs.Counting.{below-or}
+use Rattle.component.proofs.Tables.{Filled, filled-end}
+use Rattle.settings.specs.declared.Settings.{Settings}
+use Rattle.settings.specs.declared.Sizes.{Sizes}
+use Rattle.settings.specs.Refusal.{first, refusal}
+use Rattle.settings.specs.Sizes.{depth, sizesOf}
+use Rattle.superframe.specs.declared.State.{State}
+use Rattle.superframe.specs.Memory.{slotSize, startFrame}
+use Rattle.superframe.specs.Call.{memoryLength, joined}
+use Rattle.superframe.specs.Reset.{resetRefusal, resetOf, startState, startMemory}
+use Rattle.superframe.proofs.Lists.{replicate-table}
+use Rattle.superframe.proofs.Calls.{reset-fits, reset-accepts, reset-refuses}
+use Rattle.cellrows.specs.Refusals.{lengthRefusal}
+use Rattle.cellrows.proofs.Chains.{settings-refused, settings-allowed}
+use Rattle.codecall.specs.Yields.{resetYield}
+
+-- Where neither 9 nor 10 can apply, 1 to 8 are those of Reset.
+pub reset-is : (s : Settings) (z : Sizes) → z ≡ sizesOf s → (memory : List ℤ) → lengthRefusal z (length memory) true true ≡ resetRefusal s memory
+unfolding resetRefusal first
+reset-is s z e memory = go (below-or 0 (refusal s))
+  where
+    go : (0 < refusal s) ⊎ (refusal s ≤ 0) → lengthRefusal z (length memory) true true ≡ resetRefusal s memory
+    go (inl h) = settings-refused s z e (length memory) _ true true (omega arith)
+    go (inr h) = settings-allowed s z e (length memory) true true (omega arith)
+
+-- A list that is filled with zeros up to its end.
+pub zeros-end : (d out : List ℤ) (i : ℕ) → i ≤ length d → length out ≤ i → Filled (pos 0) (λ k. pos 0) d out i → out ≡ replicate (length d) (pos 0)
+zeros-end d out i h k w =
+    let e : i ≡ length d = omega (arith, w .long) in
+    filled-end (pos 0) (λ j. pos 0) d out (length d) refl (rw e at w) ∙ sym (replicate-table (pos 0) 0 (length d))
+
+-- Start frames one after the other are zeros.
+joined-zeros : (d n : ℕ) → joined (replicate d (replicate n (pos 0))) ≡ replicate (d * n) (pos 0)
+unfolding joined
+joined-zeros zero n = rw zero-mul
+joined-zeros (suc d) n =
+    rw (joined-zeros d n, suc-mul, add-comm (d * n) n) (replicate-append-replicate n (d * n) (pos 0))
+
+pub zero-memory : (s : Settings) → replicate (memoryLength s) (pos 0) ≡ startMemory s
+unfolding startMemory startFrame memoryLength
+zero-memory s = sym (joined-zeros (depth s) (slotSize s))
+
+-- Reset from its refusal.
+module _ (old : State) (s : Settings) (memory : List ℤ) (z : Sizes) (e : z ≡ sizesOf s) (r : ℕ) (g : r ≡ lengthRefusal z (length memory) true true) where
+  pub refused-reset : (r ≡ 0 → ⊥) → resetYield (record { refusal = r; state = old }) memory ≡ resetOf old s memory
+  refused-reset h = sym (reset-refuses old s memory r (sym (g ∙ reset-is s z e memory)) (omega arith))
+
+  pub accepted-reset : (m : List ℤ) → r ≡ 0 → m ≡ replicate (length memory) (pos 0)
+      → resetYield (record { refusal = 0; state = record { settings = s; position = 0; count = 0 } }) m ≡ resetOf old s memory
+  unfolding startState
+  accepted-reset m h k =
+      let a : resetRefusal s memory ≡ 0 = sym (reset-is s z e memory) ∙ sym g ∙ h in
+      sym (reset-accepts old s memory a ∙ rw (k, reset-fits old s memory a .long, zero-memory s))

@@ -1,0 +1,20 @@
+-- The records that a Reset and a Code call are lent and yield, from their parts: nothing of 01 is stated here.
+use mathlib.Core.List.{List}
+use Prim.Native.Nat.{ℕ}
+use lib.IntN.{ℤ}
+use Rattle.superframe.specs.declared.Done.{Done}
+use Rattle.superframe.specs.Reset.{ResetYield}
+use Rattle.superframe.specs.Code.{CodeCall, CodeYield}
+
+-- What a Reset yields, from its result and memory as it leaves it.
+abbrev pub resetYield : Done → List ℤ → ResetYield
+resetYield done memory = record { done = done; memory = memory }
+
+-- What a Code call is lent, and what it yields.
+abbrev pub codeCall : List ℕ → List ℕ → List ℕ → List ℤ → List ℤ → List ℤ → CodeCall
+codeCall fac sdc msc faccells sdccells msccells =
+    record { fac = fac; sdc = sdc; msc = msc; faccells = faccells; sdccells = sdccells; msccells = msccells }
+
+abbrev pub codeYield : Done → List ℤ → List ℤ → List ℤ → List ℤ → CodeYield
+codeYield done memory faccells sdccells msccells =
+    record { done = done; memory = memory; faccells = faccells; sdccells = sdccells; msccells = msccells }

@@ -1,0 +1,3 @@
+// The calls Reset and Code.
+pub mod code;
+pub mod reset;

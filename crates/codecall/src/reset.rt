@@ -1,0 +1,44 @@
+// The call Reset. 01 "Operations".
+use cellrows::refusal;
+use settings::Settings;
+use settings::answers;
+use superframe::Done;
+use superframe::State;
+ghost use mathlib.Core.Path.{_≡_};
+ghost use lib.ListN.{length, replicate};
+ghost use lib.IntN.{pos};
+ghost use Rattle.superframe.specs.Reset.{resetOf};
+ghost use Rattle.codecall.specs.Yields.{resetYield};
+
+// Numbers that are all zero.
+fn fill_zero(numbers: &mut [i16])
+    ensures { λ r. ⌜ now (numbers .exit) ≡ replicate (length (now (numbers .entry))) (pos 0) ⌝ }
+{
+    let mut i = 0;
+    while i < numbers.len() {
+        numbers[i] = 0;
+        i += 1;
+    }
+}
+
+// Acceptance fills memory with zero, takes the settings and sets position and count to 0; a refusal gives the old state back.
+pub fn reset(old: State, settings: Settings, memory: &mut [i16]) -> Done
+    ensures { λ r. ⌜ resetYield r (now (memory .exit)) ≡ resetOf old settings (now (memory .entry)) ⌝ }
+{
+    let number = refusal::length_refusal(answers::sizes(settings), memory.len(), true, true);
+    if number != 0 {
+        return Done {
+            refusal: number,
+            state: old,
+        };
+    }
+    fill_zero(memory);
+    Done {
+        refusal: 0,
+        state: State {
+            settings,
+            position: 0,
+            count: 0,
+        },
+    }
+}

@@ -1,0 +1,3 @@
+pub mod FaultTurns
+pub mod ReadTurns
+pub mod BlockTurns

@@ -1,0 +1,2 @@
+// The call Read.
+pub mod read;
