@@ -4,6 +4,7 @@ pub mod annexj;
 pub mod block;
 pub mod blocks;
 pub mod buffers;
+pub mod calls;
 pub mod component;
 pub mod counts;
 pub mod digest;

@@ -1,3 +1,4 @@
+use second::calls::Own;
 use std::io::{self, BufWriter, Write};
 use std::process::ExitCode;
 
@@ -8,9 +9,9 @@ fn main() -> ExitCode {
         "lengths" => second::lengths::print(&mut out),
         "annexj" => second::annexj::print(&mut out),
         "blocks" => second::blocks::print(&mut out),
-        "runs" => second::runs::print(&mut out),
-        "counts" => second::counts::print(&mut out),
-        "refusals" => second::refusals::print(&mut out),
+        "runs" => second::runs::print(&Own, &mut out),
+        "counts" => second::counts::print(&Own, &mut out),
+        "refusals" => second::refusals::print(&Own, &mut out),
         _ => {
             eprintln!("second lengths | annexj | blocks | runs | counts | refusals");
             return ExitCode::from(2);

@@ -1,9 +1,10 @@
 //! Subcommand `refusals`: calls with something wrong, their answers, and a digest of all they were lent.
 
-use crate::buffers::{code_buffers, old_memory, read_buffers, BitBuffers, CellBuffers};
+use crate::buffers::{BitBuffers, CellBuffers};
+use crate::calls::{at, must, words, Calls, Side, COUNT, POSITION};
 use crate::digest::{Digest, Random};
 use crate::settings::Settings;
-use crate::superframe::{reset, Answer, State};
+use crate::superframe::Answer;
 use std::io::{self, Write};
 
 /// B/0, 64-QAM SM, levels 0 and 1, X = 100, SDC in 16-QAM, long interleaving.
@@ -44,22 +45,22 @@ pub static BAD: [[u8; 10]; 31] = [
     [1, 0, 0, 0, 1, 0, 255, 255, 0, 0],
 ];
 
-pub fn print(out: &mut impl Write) -> io::Result<()> {
-    for (case, bytes) in BAD.iter().enumerate() {
-        let s = Settings::from_bytes(*bytes);
-        writeln!(out, "lengths {case} {} 0 {}", s.refusal(), lengths_digest(&s))?;
+pub fn print(calls: &impl Calls, out: &mut impl Write) -> io::Result<()> {
+    for (case, settings) in BAD.iter().enumerate() {
+        let (answer, digest) = at(lengths_case(calls, settings), || format!("refusals, lengths {case}"))?;
+        writeln!(out, "lengths {case} {answer} 0 {digest}")?;
     }
-    let run = Run::new();
+    let run = at(Run::new(calls), || "refusals, the run before".to_string())?;
     for case in 0..36 {
-        let (answer, digest) = reset_case(&run, case);
+        let (answer, digest) = at(reset_case(calls, &run, case), || format!("refusals, reset {case}"))?;
         writeln!(out, "reset {case} {answer} 0 {digest}")?;
     }
     for case in 0..57 {
-        let (answer, digest) = code_case(&run, case);
+        let (answer, digest) = at(code_case(calls, &run, case), || format!("refusals, code {case}"))?;
         writeln!(out, "code {case} {answer} 0 {digest}")?;
     }
     for case in 0..81 {
-        let (answer, digest) = read_case(&run, case);
+        let (answer, digest) = at(read_case(calls, &run, case), || format!("refusals, read {case}"))?;
         match answer {
             Answer::Finished(n) => writeln!(out, "read {case} 0 {n} {digest}")?,
             Answer::Refused { number, block } => writeln!(out, "read {case} {number} {block} {digest}")?,
@@ -68,61 +69,69 @@ pub fn print(out: &mut impl Write) -> io::Result<()> {
     Ok(())
 }
 
-fn lengths_digest(s: &Settings) -> u64 {
+/// A refused call writes nothing; zeros are taken then.
+fn lengths_case(calls: &impl Calls, settings: &[u8; 10]) -> io::Result<(u8, u64)> {
+    let (mut lengths, mut sizes) = ([90; 5], [90; 6]);
+    let answer = calls.lengths(settings, &mut lengths);
+    let other = calls.sizes(settings, &mut sizes);
+    must(answer == other, || format!("lengths are answered by {answer}, but sizes by {other}"))?;
+    if answer != 0 {
+        must_be_same(lengths == [90; 5] && sizes == [90; 6], answer)?;
+        (lengths, sizes) = ([0; 5], [0; 6]);
+    }
     let mut d = Digest::default();
-    s.lengths_and_sizes().iter().for_each(|&v| d.take(v as u64));
-    d.0
+    lengths.iter().for_each(|&v| d.take(v as u64));
+    sizes.iter().for_each(|&v| d.take(v as u64));
+    Ok((answer, d.0))
 }
 
 /// A coder that has coded two super frames and a reader that has read them; the third comes next.
 struct Run {
-    coder: State,
-    coder_memory: Vec<i16>,
-    reader: State,
-    reader_memory: Vec<i16>,
+    coder: Side,
+    reader: Side,
+    /// A reader that has read nothing.
+    fresh: Side,
     bits: BitBuffers,
     first_cells: CellBuffers,
     cells: CellBuffers,
 }
 
 impl Run {
-    fn new() -> Run {
+    fn new(calls: &impl Calls) -> io::Result<Run> {
         let s = Settings::from_bytes(BASE);
         let mut random = Random(1);
         let bits = [(); 3].map(|()| BitBuffers::random(&s, &mut random, true));
-        let mut cells = [(); 3].map(|()| CellBuffers::filled(&s, 0));
-        let (mut coder, mut coder_memory) = fresh(&s);
-        let (mut reader, mut reader_memory) = fresh(&s);
-        for m in 0..2 {
-            assert_eq!(code_buffers(&mut coder, &mut coder_memory, &bits[m], &mut cells[m]), 0);
-            let mut out = BitBuffers::filled(&s, 0);
-            read_buffers(&mut reader, &mut reader_memory, &cells[m], &mut out);
+        let fresh = Side::fresh(calls, &s)?;
+        let (mut coder, mut reader) = (fresh.clone(), fresh.clone());
+        let first_cells = coded(calls, &mut coder, &bits[0])?;
+        let second_cells = coded(calls, &mut coder, &bits[1])?;
+        for (cells, finished) in [(&first_cells, 0), (&second_cells, 2)] {
+            let answer = calls.read(&mut reader, cells, &mut BitBuffers::filled(&s, 0));
+            let right = answer == Answer::Finished(finished);
+            must(right, || format!("Read answers {} instead of {finished}", words(answer)))?;
         }
-        assert_eq!((reader.position, reader.count), (1, 4));
+        let (position, count) = (reader.state[POSITION], reader.state[COUNT]);
+        must((position, count) == (1, 4), || format!("position {position}, count {count} instead of 1, 4"))?;
         // The third super frame is coded on a copy.
-        let (mut later, mut later_memory) = (coder, coder_memory.clone());
-        assert_eq!(code_buffers(&mut later, &mut later_memory, &bits[2], &mut cells[2]), 0);
+        let cells = coded(calls, &mut coder.clone(), &bits[2])?;
         let [.., bits] = bits;
-        let [first_cells, _, cells] = cells;
-        Run { coder, coder_memory, reader, reader_memory, bits, first_cells, cells }
+        Ok(Run { coder, reader, fresh, bits, first_cells, cells })
     }
 }
 
-/// State and memory as an accepted Reset gives them.
-fn fresh(s: &Settings) -> (State, Vec<i16>) {
-    let mut memory = old_memory(s);
-    let (state, answer) = reset(State::default(), *s, &mut memory);
-    assert_eq!(answer, 0);
-    (state, memory)
+/// The cells of an accepted call of Code.
+fn coded(calls: &impl Calls, coder: &mut Side, bits: &BitBuffers) -> io::Result<CellBuffers> {
+    let mut cells = CellBuffers::filled(&Settings::from_bytes(BASE), 0);
+    let answer = calls.code(coder, bits, &mut cells);
+    must(answer == 0, || format!("Code answers {answer} instead of 0"))?;
+    Ok(cells)
 }
 
 /// Settings, position, count, then memory with numbers raised by 32768.
-fn state_digest(state: &State, memory: &[i16]) -> Digest {
+fn side_digest(side: &Side) -> Digest {
     let mut d = Digest::default();
-    d.take_bytes(&state.settings.bytes());
-    d.take(state.position as u64);
-    d.take(state.count as u64);
-    take_numbers(&mut d, memory);
+    d.take_bytes(&side.state);
+    take_numbers(&mut d, &side.memory);
     d
 }
 
@@ -135,59 +144,59 @@ fn short() -> Settings {
     Settings { interleaving: 1, ..Settings::from_bytes(BASE) }
 }
 
-fn reset_case(run: &Run, case: usize) -> (u8, u64) {
+/// A refused call must have left all as it was.
+fn must_be_same(same: bool, refusal: impl std::fmt::Display) -> io::Result<()> {
+    must(same, || format!("refused by {refusal}, but has written"))
+}
+
+fn reset_case(calls: &impl Calls, run: &Run, case: usize) -> io::Result<(u8, u64)> {
     let mut settings = Settings::from_bytes(BASE);
-    let mut memory = run.coder_memory.clone();
+    let mut side = run.coder.clone();
     match case {
         0..=30 => settings = Settings::from_bytes(BAD[case]),
-        31 => drop(memory.pop()),
-        32 => memory.push(0),
+        31 => drop(side.memory.pop()),
+        32 => side.memory.push(0),
         33 => settings = short(),
         34 => {
             settings.x = 65535;
-            memory.pop();
+            side.memory.pop();
         }
         _ => {}
     }
-    let before = memory.clone();
-    let (state, answer) = reset(run.coder, settings, &mut memory);
-    assert!(answer == 0 || (state == run.coder && memory == before));
-    (answer, state_digest(&state, &memory).0)
+    let before = side.clone();
+    let answer = calls.reset(&mut side, &settings.bytes());
+    must_be_same(answer == 0 || side == before, answer)?;
+    Ok((answer, side_digest(&side).0))
 }
 
 /// All that a call of Code is handed.
 #[derive(Clone, PartialEq)]
 struct CodeCall {
-    state: State,
-    memory: Vec<i16>,
+    side: Side,
     bits: BitBuffers,
     cells: CellBuffers,
 }
 
-fn code_case(run: &Run, case: usize) -> (u8, u64) {
-    let mut call = CodeCall {
-        state: run.coder,
-        memory: run.coder_memory.clone(),
-        bits: run.bits.clone(),
-        cells: CellBuffers::filled(&run.coder.settings, 5),
-    };
+fn code_case(calls: &impl Calls, run: &Run, case: usize) -> io::Result<(u8, u64)> {
+    let cells = CellBuffers::filled(&Settings::from_bytes(BASE), 5);
+    let mut call = CodeCall { side: run.coder.clone(), bits: run.bits.clone(), cells };
     spoil_code(&mut call, case);
     let before = call.clone();
-    let answer = code_buffers(&mut call.state, &mut call.memory, &call.bits, &mut call.cells);
-    assert!(answer == 0 || call == before);
-    let mut d = state_digest(&call.state, &call.memory);
+    let answer = calls.code(&mut call.side, &call.bits, &mut call.cells);
+    must_be_same(answer == 0 || call == before, answer)?;
+    let mut d = side_digest(&call.side);
     take_numbers(&mut d, &call.cells.fac);
     take_numbers(&mut d, &call.cells.sdc);
     take_numbers(&mut d, &call.cells.msc);
-    (answer, d.0)
+    Ok((answer, d.0))
 }
 
 fn spoil_code(c: &mut CodeCall, case: usize) {
     let frame_bytes = c.bits.msc.len() / 3;
     match case {
-        0..=30 => c.state.settings = Settings::from_bytes(BAD[case]),
-        31 => drop(c.memory.pop()),
-        32 => c.memory.push(0),
+        0..=30 => put_settings(&mut c.side, &BAD[case]),
+        31 => drop(c.side.memory.pop()),
+        32 => c.side.memory.push(0),
         33 => drop(c.bits.fac.pop()),
         34 => drop(c.bits.sdc.pop()),
         35 => c.bits.msc.push(0),
@@ -198,16 +207,16 @@ fn spoil_code(c: &mut CodeCall, case: usize) {
         40 => c.bits.msc[frame_bytes - 1] |= 1,
         41 => c.bits.msc[2 * frame_bytes - 1] |= 16,
         42 => c.bits.msc[3 * frame_bytes - 1] |= 1,
-        43 => c.state.position = 5,
-        44 => c.state.count = 5,
-        45 => c.state.position = 255,
-        46..=49 => spoil_memory(&mut c.memory, case - 46),
+        43 => c.side.state[POSITION] = 5,
+        44 => c.side.state[COUNT] = 5,
+        45 => c.side.state[POSITION] = 255,
+        46..=49 => spoil_memory(&mut c.side.memory, case - 46),
         // Several faults at once: the lowest number is given.
         50 => [31, 33, 36, 39, 43].iter().for_each(|&k| spoil_code(c, k)),
         51 => [33, 36, 39, 43].iter().for_each(|&k| spoil_code(c, k)),
         52 => [36, 39, 43].iter().for_each(|&k| spoil_code(c, k)),
         53 => [39, 43].iter().for_each(|&k| spoil_code(c, k)),
-        54 | 55 => shorten(&mut c.state, &mut c.memory, case - 54),
+        54 | 55 => shorten(&mut c.side, case - 54),
         _ => {}
     }
 }
@@ -223,60 +232,73 @@ fn spoil_memory(memory: &mut [i16], kind: usize) {
 }
 
 /// Short interleaving with its length of memory, but position or count 1.
-fn shorten(state: &mut State, memory: &mut Vec<i16>, kind: usize) {
-    state.settings = short();
-    memory.truncate(state.settings.sizes().memory_numbers);
-    (state.position, state.count) = if kind == 0 { (1, 0) } else { (0, 1) };
+fn shorten(side: &mut Side, kind: usize) {
+    put_settings(side, &short().bytes());
+    side.memory.truncate(short().sizes().memory_numbers);
+    (side.state[POSITION], side.state[COUNT]) = if kind == 0 { (1, 0) } else { (0, 1) };
+}
+
+fn put_settings(side: &mut Side, settings: &[u8; 10]) {
+    side.state[..10].copy_from_slice(settings);
 }
 
 /// All that a call of Read is handed.
 #[derive(Clone, PartialEq)]
 struct ReadCall {
-    state: State,
-    memory: Vec<i16>,
+    side: Side,
     cells: CellBuffers,
     bits: BitBuffers,
 }
 
-fn read_case(run: &Run, case: usize) -> (Answer, u64) {
-    let s = Settings::from_bytes(BASE);
-    let mut call = ReadCall {
-        state: run.reader,
-        memory: run.reader_memory.clone(),
-        cells: run.cells.clone(),
-        bits: BitBuffers::filled(&s, 90),
-    };
-    if case >= 78 {
-        // A reader just reset, and the first super frame.
-        (call.state, call.memory) = fresh(&s);
-        call.cells = run.first_cells.clone();
-    }
+fn read_case(calls: &impl Calls, run: &Run, case: usize) -> io::Result<(Answer, u64)> {
+    // The last cases have a reader just reset, and the first super frame.
+    let (side, cells) = if case < 78 { (&run.reader, &run.cells) } else { (&run.fresh, &run.first_cells) };
+    let bits = BitBuffers::filled(&Settings::from_bytes(BASE), 90);
+    let mut call = ReadCall { side: side.clone(), cells: cells.clone(), bits };
     spoil_read(&mut call, case);
     let before = call.clone();
-    let answer = read_buffers(&mut call.state, &mut call.memory, &call.cells, &mut call.bits);
-    assert!(matches!(answer, Answer::Finished(_)) || call == before);
-    let mut d = state_digest(&call.state, &call.memory);
+    let answer = calls.read(&mut call.side, &call.cells, &mut call.bits);
+    must_be_same(matches!(answer, Answer::Finished(_)) || call == before, words(answer))?;
+    let mut d = side_digest(&call.side);
     call.bits.take(&mut d);
-    (answer, d.0)
+    Ok((answer, d.0))
 }
 
 fn spoil_read(c: &mut ReadCall, case: usize) {
-    // Numbers of a row, and so of a slot of memory.
-    let row = 2 * Settings::from_bytes(BASE).n_mux();
     match case {
-        0..=30 => c.state.settings = Settings::from_bytes(BAD[case]),
-        31 => drop(c.memory.pop()),
-        32 => c.memory.push(0),
+        0..=30 => put_settings(&mut c.side, &BAD[case]),
+        31 => drop(c.side.memory.pop()),
+        32 => c.side.memory.push(0),
         33 => drop(c.cells.fac.pop()),
         34 => c.cells.sdc.push(1),
         35 => drop(c.cells.msc.pop()),
         36 => drop(c.bits.fac.pop()),
         37 => c.bits.sdc.push(90),
         38 => drop(c.bits.msc.pop()),
-        39 => c.state.position = 5,
-        40 => c.state.count = 5,
-        41 => c.state.position = 255,
-        42..=45 => spoil_memory(&mut c.memory, case - 42),
+        39 => c.side.state[POSITION] = 5,
+        40 => c.side.state[COUNT] = 5,
+        41 => c.side.state[POSITION] = 255,
+        42..=45 => spoil_memory(&mut c.side.memory, case - 42),
+        // Several faults at once: the lowest number, then the lowest block.
+        67 => [31, 33, 36, 39].iter().for_each(|&k| spoil_read(c, k)),
+        68 => [33, 36, 39].iter().for_each(|&k| spoil_read(c, k)),
+        69 => [36, 39].iter().for_each(|&k| spoil_read(c, k)),
+        70 => [39, 46].iter().for_each(|&k| spoil_read(c, k)),
+        71 => [55, 57].iter().for_each(|&k| spoil_read(c, k)),
+        72 => [50, 49].iter().for_each(|&k| spoil_read(c, k)),
+        73 => [63, 59].iter().for_each(|&k| spoil_read(c, k)),
+        74 => [62, 61].iter().for_each(|&k| spoil_read(c, k)),
+        75 | 76 => shorten(&mut c.side, case - 75),
+        // 77 has nothing wrong; from 78 on the reader is just reset.
+        _ => spoil_cells(c, case),
+    }
+}
+
+/// The cases of Read in which single cells are changed.
+fn spoil_cells(c: &mut ReadCall, case: usize) {
+    // Numbers of a row, and so of a slot of memory.
+    let row = 2 * Settings::from_bytes(BASE).n_mux();
+    match case {
         // No point: FAC blocks, SDC, rows, fillers.
         46..=48 => c.cells.fac[130 * (case - 46) + 3] = 3,
         49 => c.cells.sdc[7] = 5,
@@ -290,18 +312,7 @@ fn spoil_read(c: &mut ReadCall, case: usize) {
         60 => change_bit(&mut c.cells.sdc[9], 3),
         61..=63 => change_bit(&mut c.cells.msc[row * (case - 61) + 8], 7),
         // A finished frame with a cell never received.
-        64..=66 => c.memory[row * (case - 62)..][..2].fill(0),
-        // Several faults at once: the lowest number, then the lowest block.
-        67 => [31, 33, 36, 39].iter().for_each(|&k| spoil_read(c, k)),
-        68 => [33, 36, 39].iter().for_each(|&k| spoil_read(c, k)),
-        69 => [36, 39].iter().for_each(|&k| spoil_read(c, k)),
-        70 => [39, 46].iter().for_each(|&k| spoil_read(c, k)),
-        71 => [55, 57].iter().for_each(|&k| spoil_read(c, k)),
-        72 => [50, 49].iter().for_each(|&k| spoil_read(c, k)),
-        73 => [63, 59].iter().for_each(|&k| spoil_read(c, k)),
-        74 => [62, 61].iter().for_each(|&k| spoil_read(c, k)),
-        75 | 76 => shorten(&mut c.state, &mut c.memory, case - 75),
-        // 77 has nothing wrong; from 78 on the reader is just reset.
+        64..=66 => c.side.memory[row * (case - 62)..][..2].fill(0),
         78 => c.cells.fill_ignored(row, 0),
         79 => c.cells.msc[10] = 0,
         80 => c.cells.msc[row + 2] = 9,

@@ -196,6 +196,19 @@ fn bad_point(state: &State, cells: &Cells, rows: &[i16], fillers: &[i16]) -> Opt
 }
 
 impl State {
+    /// The twelve bytes: settings, position, count.
+    pub fn bytes(&self) -> [u8; 12] {
+        let mut bytes = [0; 12];
+        bytes[..10].copy_from_slice(&self.settings.bytes());
+        bytes[10..].copy_from_slice(&[self.position, self.count]);
+        bytes
+    }
+
+    pub fn from_bytes(b: [u8; 12]) -> State {
+        let settings = std::array::from_fn(|i| b[i]);
+        State { settings: Settings::from_bytes(settings), position: b[10], count: b[11] }
+    }
+
     fn in_range(&self) -> bool {
         let most = if self.settings.long() { 4 } else { 0 };
         self.position <= most && self.count <= most

@@ -367,7 +367,7 @@ fn ignored_cells_may_hold_anything() {
 #[test]
 fn printed_tables_say_what_they_should() {
     let mut out = Vec::new();
-    crate::refusals::print(&mut out).unwrap();
+    crate::refusals::print(&crate::calls::Own, &mut out).unwrap();
     let text = String::from_utf8(out).unwrap();
     let has = |start: &str| assert!(text.lines().any(|l| l.starts_with(start)), "{start}");
     let numbers = [("lengths", 1..=7), ("reset", 1..=8), ("code", 1..=12), ("read", 1..=10)];

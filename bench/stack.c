@@ -1,0 +1,126 @@
+/*
+ * Measures the deepest stack of each call: the call is made in a thread whose stack was painted, and afterwards the
+ * paint that is left is counted. Exits with 1 if a call needs more than DRM_STACK_BYTES.
+ */
+#define _POSIX_C_SOURCE 200809L
+#include <pthread.h>
+#include <stdio.h>
+#include <stdlib.h>
+#include <string.h>
+
+#include "drmcoder.h"
+
+enum { STACK = 8 * 1024 * 1024, PAINT = 0xA5, CALLS = 5 };
+
+static const char *const names[CALLS] = {"lengths", "sizes", "reset", "code", "read"};
+static unsigned char *stack;
+
+/* What the calls are lent; all bits are zero. */
+static uint8_t settings[DRM_SETTINGS_BYTES], state[DRM_STATE_BYTES];
+static uint8_t fac[DRM_FAC_BYTES], sdc[DRM_MOST_SDC_BYTES], msc[DRM_MOST_MSC_BYTES];
+static int16_t fac_cells[DRM_FAC_NUMBERS], sdc_cells[DRM_MOST_SDC_NUMBERS], msc_cells[DRM_MOST_MSC_NUMBERS];
+static int16_t memory[DRM_MOST_MEMORY_NUMBERS];
+static uint16_t lengths[DRM_LENGTHS];
+static uint32_t sizes[DRM_SIZES];
+static unsigned answer;
+
+/* Bodies of the threads. */
+static void *nothing(void *unused) {
+    answer = 0;
+    return unused;
+}
+
+static void *call_lengths(void *unused) {
+    answer = drm_lengths(settings, sizeof settings, lengths, DRM_LENGTHS);
+    return unused;
+}
+
+static void *call_sizes(void *unused) {
+    answer = drm_sizes(settings, sizeof settings, sizes, DRM_SIZES);
+    return unused;
+}
+
+static void *call_reset(void *unused) {
+    answer = drm_reset(state, sizeof state, settings, sizeof settings, memory, sizes[5]);
+    return unused;
+}
+
+static void *call_code(void *unused) {
+    answer = drm_code(state, sizeof state, memory, sizes[5], fac, sizeof fac, sdc, sizes[0], msc, sizes[1], fac_cells,
+                      sizes[2], sdc_cells, sizes[3], msc_cells, sizes[4]);
+    return unused;
+}
+
+static void *call_read(void *unused) {
+    answer = drm_read(state, sizeof state, memory, sizes[5], fac_cells, sizes[2], sdc_cells, sizes[3], msc_cells,
+                      sizes[4], fac, sizeof fac, sdc, sizes[0], msc, sizes[1]);
+    return unused;
+}
+
+static void must(int holds, const char *what) {
+    if (!holds) {
+        fprintf(stderr, "%s\n", what);
+        exit(1);
+    }
+}
+
+/* Bytes of stack that a thread with this body touches. */
+static size_t depth(void *(*body)(void *)) {
+    pthread_attr_t attributes;
+    pthread_t thread;
+    size_t left = 0;
+    memset(stack, PAINT, STACK);
+    must(pthread_attr_init(&attributes) == 0, "no thread attributes");
+    must(pthread_attr_setstack(&attributes, stack, STACK) == 0, "the stack cannot be set");
+    must(pthread_create(&thread, &attributes, body, NULL) == 0, "no thread");
+    must(pthread_join(thread, NULL) == 0, "the thread is not joined");
+    must(pthread_attr_destroy(&attributes) == 0, "thread attributes stay");
+    while (left < STACK && stack[left] == PAINT)
+        left++;
+    return STACK - left;
+}
+
+/* Makes all calls with these settings; a reader, just reset, reads the cells that the coder gave three times. */
+static void measure(size_t deepest[CALLS]) {
+    static void *(*const bodies[])(void *) = {call_lengths, call_sizes, call_reset, call_code,  call_code,
+                                              call_code,    call_reset, call_read,  call_read, call_read};
+    static const int kinds[] = {0, 1, 2, 3, 3, 3, 2, 4, 4, 4};
+    size_t empty = depth(nothing), k;
+    for (k = 0; k < sizeof kinds / sizeof kinds[0]; k++) {
+        size_t used = depth(bodies[k]) - empty;
+        must(kinds[k] == 4 ? answer <= 3 : answer == 0, "a good call is refused");
+        if (used > deepest[kinds[k]])
+            deepest[kinds[k]] = used;
+    }
+}
+
+/* All pairings, MSC modes and interleavings, without and with part A. */
+static void measure_all(size_t deepest[CALLS]) {
+    unsigned k, measured = 0;
+    for (k = 0; k < 4 * 6 * 4 * 2 * 2; k++) {
+        settings[0] = (uint8_t)(k % 4);
+        settings[1] = (uint8_t)(k / 4 % 6);
+        settings[2] = (uint8_t)(k / 24 % 4);
+        settings[7] = (uint8_t)(k / 96 % 2 * 100);
+        settings[9] = (uint8_t)(k / 192);
+        if (drm_lengths(settings, sizeof settings, lengths, DRM_LENGTHS) == 0) {
+            measure(deepest);
+            measured++;
+        }
+    }
+    must(measured == 16 * 4 * 2 * 2, "settings of a pairing are refused");
+}
+
+int main(void) {
+    size_t deepest[CALLS] = {0};
+    void *place;
+    int k;
+    must(posix_memalign(&place, 4096, STACK) == 0, "no memory for a stack");
+    stack = place;
+    measure_all(deepest);
+    for (k = 0; k < CALLS; k++) {
+        printf("%s: %lu bytes of stack\n", names[k], (unsigned long)deepest[k]);
+        must(deepest[k] <= DRM_STACK_BYTES, "more than DRM_STACK_BYTES");
+    }
+    return 0;
+}

@@ -1,0 +1,5 @@
+pub mod Signs
+pub mod Turns
+pub mod Copied
+pub mod Said
+pub mod Rooms

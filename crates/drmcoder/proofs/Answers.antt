@@ -1,0 +1,56 @@
+-- The calls on bytes, from the calls on states that they make.
+use Prim.Native.Nat.{ℕ, _+_, _*_}
+use mathlib.Core.Path.{_≡_, refl, sym, _∙_, ap}
+use mathlib.Core.List.{List}
+use lib.ListN.{length}
+use lib.IntN.{ℤ}
+use borrow.Author.Tests.{eq-eqb, ne-eqb}
+use Rattle.settings.specs.declared.Settings.{Settings}
+use Rattle.superframe.specs.declared.State.{State}
+use Rattle.superframe.specs.declared.Done.{Done}
+use Rattle.superframe.specs.declared.Answer.{Answer}
+use Rattle.superframe.specs.declared.Answer.the-variants.{Finished, Refused}
+use Rattle.superframe.specs.Reset.{ResetYield, resetOf}
+use Rattle.superframe.specs.Code.{CodeCall, CodeYield, codeOf}
+use Rattle.superframe.specs.Read.{ReadCall, ReadYield, readOf}
+use Rattle.drmcoder.specs.Bytes.{settingsOf, stateOf, stateBytes}
+use Rattle.drmcoder.specs.Calls.{stateAfter, stateRead, answerWord, resetYields, codeYields, readYields, resetAnswered, resetBytes, codeAnswered, codeBytes, readAnswered, readBytes}
+use Rattle.drmcoder.proofs.Tests.{both-right}
+
+pub after-refused : (done : Done) (bytes : List ℕ) → (done .refusal ≡ 0 → ⊥) → bytes ≡ stateAfter done bytes
+unfolding stateAfter
+after-refused done bytes h = rw (ne-eqb (done .refusal) 0 h)
+
+pub after-accepted : (done : Done) (bytes bytes′ : List ℕ) → done .refusal ≡ 0 → bytes′ ≡ stateBytes (done .state) → bytes′ ≡ stateAfter done bytes
+unfolding stateAfter
+after-accepted done bytes bytes′ h e = rw (eq-eqb (done .refusal) 0 h) e
+
+pub read-finished : (a : Answer) (state : State) (bytes bytes′ : List ℕ) (n : ℕ) → a ≡ Finished n → bytes′ ≡ stateBytes state
+    → (n ≡ answerWord a) × (bytes′ ≡ stateRead a state bytes)
+unfolding answerWord stateRead
+read-finished a state bytes bytes′ n e e′ = (rw e refl, rw e e′)
+
+pub read-refused : (a : Answer) (state : State) (bytes : List ℕ) (r number block : ℕ) → a ≡ Refused number block → r ≡ 256 * number + block
+    → (r ≡ answerWord a) × (bytes ≡ stateRead a state bytes)
+unfolding answerWord stateRead
+read-refused a state bytes r number block e er = (rw e er, rw e refl)
+
+pub reset-right : (state settings : List ℕ) (memory : List ℤ) (old : State) (s : Settings) (y : ResetYield) (r : ℕ) (state′ : List ℕ)
+    → length state ≡ 12 → length settings ≡ 10 → old ≡ stateOf state → s ≡ settingsOf settings → y ≡ resetOf old s memory
+    → r ≡ y .done .refusal → state′ ≡ stateAfter (y .done) state → resetYields r state′ (y .memory) ≡ resetBytes state settings memory
+unfolding resetBytes resetAnswered
+reset-right state settings memory old s y r state′ hs ht eo es ey er e′ =
+    rw (er, e′, ey, es, eo) (both-right _ _ _ _ _ _ hs ht)
+
+pub code-right : (state : List ℕ) (memory : List ℤ) (c : CodeCall) (old : State) (y : CodeYield) (r : ℕ) (state′ : List ℕ)
+    → length state ≡ 12 → old ≡ stateOf state → y ≡ codeOf old memory c → r ≡ y .done .refusal → state′ ≡ stateAfter (y .done) state
+    → codeYields r state′ (y .memory) (y .faccells) (y .sdccells) (y .msccells) ≡ codeBytes state memory c
+unfolding codeBytes codeAnswered
+code-right state memory c old y r state′ hs eo ey er e′ = rw (er, e′, ey, eo, eq-eqb (length state) 12 hs)
+
+pub read-right : (state : List ℕ) (memory : List ℤ) (c : ReadCall) (old : State) (y : ReadYield) (r : ℕ) (state′ : List ℕ)
+    → length state ≡ 12 → old ≡ stateOf state → y ≡ readOf old memory c → r ≡ answerWord (y .reading .answer)
+    → state′ ≡ stateRead (y .reading .answer) (y .reading .state) state
+    → readYields r state′ (y .memory) (y .fac) (y .sdc) (y .msc) ≡ readBytes state memory c
+unfolding readBytes readAnswered
+read-right state memory c old y r state′ hs eo ey er e′ = rw (er, e′, ey, eo, eq-eqb (length state) 12 hs)

@@ -1,0 +1,11 @@
+use borrow.Author.Needs.{needs}
+use Rattle.drmcoder.specs.Bytes.{settingsOf}
+use Rattle.drmcoder.proofs.bytes.settings_of.Statement.{statement}
+use Rattle.drmcoder.proofs.bytes.settings_of.Tie as tie
+
+returns : tie.Need-returns
+unfolding settingsOf
+returns c = rw (c .before .before .word .ensures)
+
+pub settings-of-spec : {M : Type 1} → statement M
+settings-of-spec = tie.close (tie.spec (λ c. search needs) (λ c. search needs) (λ c. search needs) (λ c. search needs) (λ c. search needs) (λ c. search needs) (λ c. search needs) (λ c. search needs) (λ c κs. search needs) (λ c. search needs) (λ c. search needs) returns)

@@ -1,0 +1,20 @@
+use borrow.Author.Needs.{needs}
+use borrow.Author.Tests.{ne-eqb}
+use Rattle.drmcoder.specs.Calls.{readBytes}
+use Rattle.drmcoder.proofs.Answers.{read-right}
+use Rattle.drmcoder.proofs.calls.drm_read.Statement.{statement}
+use Rattle.drmcoder.proofs.calls.drm_read.Tie as tie
+
+returns : tie.Need-returns
+unfolding readBytes
+returns c = rw (ne-eqb _ _ (c .if1 .taken))
+
+returns-2 : tie.Need-returns-2
+returns-2 c =
+    let f = c .before .before in
+    let b = f .before .before .before .before .before .before .before .before .before in
+    let t = b .before .before .before .before .before in
+    read-right _ _ _ _ _ _ _ (t .before .before .if1 .left) (t .state-of .ensures) (b .read .ensures) (f .finish-read .ensures .0) (f .finish-read .ensures .1)
+
+pub drm-read-spec : {M : Type 1} → statement M
+drm-read-spec = tie.close (tie.spec returns (λ c κs. search needs) (λ c κs. search needs) (λ c κs. search needs) (λ c. search needs) (λ c. search needs) (λ c. search needs) (λ c. search needs) (λ c. search needs) returns-2)

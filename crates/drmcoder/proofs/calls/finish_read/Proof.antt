@@ -1,0 +1,17 @@
+use borrow.Author.Needs.{needs}
+use Rattle.drmcoder.proofs.Answers.{read-finished, read-refused}
+use Rattle.drmcoder.proofs.calls.finish_read.Statement.{statement}
+use Rattle.drmcoder.proofs.calls.finish_read.Tie as tie
+
+returns : tie.Need-returns
+returns c =
+    let b = c .before .before .before .before .before in
+    read-finished (b .before .before .before .args .reading .answer) _ _ _ _ (b .answer .given .1) (c .before .before .put-state .ensures)
+
+returns-2 : tie.Need-returns-2
+returns-2 c =
+    let b = c .before .before in
+    read-refused (b .before .before .before .args .reading .answer) _ _ _ _ _ (b .answer2 .given .1) (c .refusal-word .ensures)
+
+pub finish-read-spec : {M : Type 1} → statement M
+finish-read-spec = tie.close (tie.spec (λ c. search needs) (λ c κs. search needs) (λ c. search needs) (λ c. search needs) (λ c κs. search needs) (λ c. search needs) returns returns-2)

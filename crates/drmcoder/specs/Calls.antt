@@ -1,0 +1,95 @@
+-- What drm_reset, drm_code and drm_read yield, by the calls on states.
+use Prim.Native.Nat.{ℕ, _+_, _*_}
+use mathlib.Core.Bool.{cond, _&&_}
+use mathlib.Core.List.{List}
+use lib.ListN.{length}
+use lib.IntN.{ℤ}
+use lib.Dec.{eqb}
+use Rattle.superframe.specs.declared.State.{State}
+use Rattle.superframe.specs.declared.Done.{Done}
+use Rattle.superframe.specs.declared.Answer.{Answer}
+use Rattle.superframe.specs.declared.Answer.the-variants.{Finished, Refused}
+use Rattle.superframe.specs.declared.Reading.{Reading}
+use Rattle.superframe.specs.Reset.{ResetYield, resetOf}
+use Rattle.superframe.specs.Code.{CodeCall, CodeYield, codeOf}
+use Rattle.superframe.specs.Read.{ReadCall, ReadYield, readOf}
+use Rattle.drmcoder.specs.Bytes.{settingsOf, stateOf, stateBytes}
+
+-- Answers and buffers as each call leaves them.
+pub record ResetBytes : Type 0 where
+  pub answer : ℕ
+  pub state : List ℕ
+  pub memory : List ℤ
+
+pub record CodeBytes : Type 0 where
+  pub answer : ℕ
+  pub state : List ℕ
+  pub memory : List ℤ
+  pub faccells : List ℤ
+  pub sdccells : List ℤ
+  pub msccells : List ℤ
+
+pub record ReadBytes : Type 0 where
+  pub answer : ℕ
+  pub state : List ℕ
+  pub memory : List ℤ
+  pub fac : List ℕ
+  pub sdc : List ℕ
+  pub msc : List ℕ
+
+-- The same from their parts.
+abbrev pub resetYields : ℕ → List ℕ → List ℤ → ResetBytes
+resetYields answer state memory = record { answer = answer; state = state; memory = memory }
+
+abbrev pub codeYields : ℕ → List ℕ → List ℤ → List ℤ → List ℤ → List ℤ → CodeBytes
+codeYields answer state memory faccells sdccells msccells =
+    record { answer = answer; state = state; memory = memory; faccells = faccells; sdccells = sdccells; msccells = msccells }
+
+abbrev pub readYields : ℕ → List ℕ → List ℤ → List ℕ → List ℕ → List ℕ → ReadBytes
+readYields answer state memory fac sdc msc =
+    record { answer = answer; state = state; memory = memory; fac = fac; sdc = sdc; msc = msc }
+
+-- The bytes of a state after Reset and Code: of the new state, or as they were where the call is refused.
+unfoldable pub stateAfter : Done → List ℕ → List ℕ
+stateAfter done bytes = cond (eqb (done .refusal) 0) (stateBytes (done .state)) bytes
+
+-- Reset. A state or settings of the wrong length: 255, and nothing is written.
+unfoldable pub resetAnswered : ResetYield → List ℕ → ResetBytes
+resetAnswered y state = resetYields (y .done .refusal) (stateAfter (y .done) state) (y .memory)
+
+unfoldable pub resetBytes : List ℕ → List ℕ → List ℤ → ResetBytes
+resetBytes state settings memory =
+    cond (eqb (length state) 12 && eqb (length settings) 10)
+    (resetAnswered (resetOf (stateOf state) (settingsOf settings) memory) state)
+    (resetYields 255 state memory)
+
+-- Code. A state of the wrong length: 255, and nothing is written.
+unfoldable pub codeAnswered : CodeYield → List ℕ → CodeBytes
+codeAnswered y state =
+    codeYields (y .done .refusal) (stateAfter (y .done) state) (y .memory) (y .faccells) (y .sdccells) (y .msccells)
+
+unfoldable pub codeBytes : List ℕ → List ℤ → CodeCall → CodeBytes
+codeBytes state memory c =
+    cond (eqb (length state) 12) (codeAnswered (codeOf (stateOf state) memory c) state)
+    (codeYields 255 state memory (c .faccells) (c .sdccells) (c .msccells))
+
+-- The number of finished frames, or 256 times the refusal's number plus its block.
+unfoldable pub answerWord : Answer → ℕ
+answerWord (Finished n) = n
+answerWord (Refused r b) = 256 * r + b
+
+-- The bytes of a state after Read.
+unfoldable pub stateRead : Answer → State → List ℕ → List ℕ
+stateRead (Finished n) state bytes = stateBytes state
+stateRead (Refused r b) state bytes = bytes
+
+-- Read. A state of the wrong length: 255 times 256, and nothing is written.
+unfoldable pub readAnswered : ReadYield → List ℕ → ReadBytes
+readAnswered y state =
+    readYields (answerWord (y .reading .answer)) (stateRead (y .reading .answer) (y .reading .state) state)
+    (y .memory) (y .fac) (y .sdc) (y .msc)
+
+unfoldable pub readBytes : List ℕ → List ℤ → ReadCall → ReadBytes
+readBytes state memory c =
+    cond (eqb (length state) 12) (readAnswered (readOf (stateOf state) memory c) state)
+    (readYields (256 * 255) state memory (c .fac) (c .sdc) (c .msc))

@@ -1,0 +1,4 @@
+// The C interface. Settings are ten bytes, a state is those ten, position and count.
+pub mod bytes;
+pub mod calls;
+pub mod numbers;

@@ -1,0 +1,164 @@
+/*
+ * Codes and reads back short runs with drmcoder.h alone. Every run has three super frames of pseudo-random bits and
+ * two whose MSC bits are zero. Exits with 1 if anything is not as it must be.
+ */
+#include <stdio.h>
+#include <stdlib.h>
+#include <string.h>
+
+#include "drmcoder.h"
+
+enum { SUPER_FRAMES = 5, CLOSING = 2, FRAMES = 3 * SUPER_FRAMES };
+
+/* Annex C's example, then a run of each other MSC mode; long, short, long, short interleaving. */
+static const uint8_t runs[4][DRM_SETTINGS_BYTES] = {
+    {0, 3, 0, 0, 1, 0, 0x01, 0x1D, 0, 0},
+    {3, 5, 1, 1, 2, 3, 0x00, 0x64, 1, 1},
+    {1, 0, 2, 3, 0, 1, 0x00, 0x00, 0, 0},
+    {2, 3, 3, 0, 1, 0, 0x00, 0x32, 1, 1},
+};
+
+/* The bits or the cells of one super frame. */
+struct bits {
+    uint8_t fac[DRM_FAC_BYTES], sdc[DRM_MOST_SDC_BYTES], msc[DRM_MOST_MSC_BYTES];
+};
+struct cells {
+    int16_t fac[DRM_FAC_NUMBERS], sdc[DRM_MOST_SDC_NUMBERS], msc[DRM_MOST_MSC_NUMBERS];
+};
+
+/* A coder or a reader. */
+struct side {
+    uint8_t state[DRM_STATE_BYTES];
+    int16_t memory[DRM_MOST_MEMORY_NUMBERS];
+};
+
+static struct side coder, reader;
+static struct bits brought, given;
+static struct cells cells;
+static uint8_t frames[FRAMES * (DRM_MOST_MSC_BYTES / 3)]; /* every frame brought, one after another */
+static uint16_t lengths[DRM_LENGTHS];
+static uint32_t sizes[DRM_SIZES];
+
+/* Names for the places of sizes. */
+enum { SDC_BYTES, MSC_BYTES, FAC_NUMBERS, SDC_NUMBERS, MSC_NUMBERS, MEMORY };
+
+static void must(int holds, const char *what) {
+    if (!holds) {
+        fprintf(stderr, "not as it must be: %s\n", what);
+        exit(1);
+    }
+}
+
+/* Fills a block of so many bits; its spare bits stay zero. */
+static void draw(uint8_t *block, size_t bits) {
+    static uint32_t x = 1;
+    size_t i;
+    for (i = 0; i < (bits + 7) / 8; i++) {
+        x = x * 1103515245u + 12345u;
+        block[i] = (uint8_t)(x >> 16);
+    }
+    if (bits % 8 != 0)
+        block[bits / 8] &= (uint8_t)(0xFF << (8 - bits % 8));
+}
+
+/* Bits of an SDC block, from its cells. */
+static size_t sdc_bits(const uint8_t *settings) {
+    size_t n = sizes[SDC_NUMBERS] / 2;
+    return settings[8] == 1 ? n - 6 : (2 * n - 12) / 3 * 3;
+}
+
+/* The bits of super frame m, of which the last ones have zero MSC bits; outputs are made such as nobody wants. */
+static void bring(const uint8_t *settings, size_t m) {
+    size_t bits = (size_t)lengths[4] + lengths[2] + lengths[3], bytes = sizes[MSC_BYTES] / 3, k;
+    memset(&brought, 0, sizeof brought);
+    memset(&given, 0xA5, sizeof given);
+    memset(&cells, 0xA5, sizeof cells);
+    for (k = 0; k < 3; k++)
+        draw(brought.fac + 9 * k, 72);
+    draw(brought.sdc, sdc_bits(settings));
+    for (k = 0; k < 3 && m < SUPER_FRAMES - CLOSING; k++)
+        draw(brought.msc + bytes * k, bits);
+    memcpy(frames + 3 * bytes * m, brought.msc, 3 * bytes);
+}
+
+static unsigned code(size_t fac_bytes) {
+    return drm_code(coder.state, DRM_STATE_BYTES, coder.memory, sizes[MEMORY], brought.fac, fac_bytes, brought.sdc,
+                    sizes[SDC_BYTES], brought.msc, sizes[MSC_BYTES], cells.fac, sizes[FAC_NUMBERS], cells.sdc,
+                    sizes[SDC_NUMBERS], cells.msc, sizes[MSC_NUMBERS]);
+}
+
+static unsigned read_back(size_t state_bytes) {
+    return drm_read(reader.state, state_bytes, reader.memory, sizes[MEMORY], cells.fac, sizes[FAC_NUMBERS], cells.sdc,
+                    sizes[SDC_NUMBERS], cells.msc, sizes[MSC_NUMBERS], given.fac, DRM_FAC_BYTES, given.sdc,
+                    sizes[SDC_BYTES], given.msc, sizes[MSC_BYTES]);
+}
+
+/* Calls that must be refused, and write nothing. */
+static void refused_calls(void) {
+    static struct side coder_before, reader_before;
+    static struct cells cells_before;
+    static struct bits given_before;
+    coder_before = coder;
+    reader_before = reader;
+    cells_before = cells;
+    given_before = given;
+    must(code(DRM_FAC_BYTES - 1) == DRM_REFUSED_INPUT_LENGTH, "an FAC input without its last byte is refused by 9");
+    must(read_back(DRM_STATE_BYTES - 1) == 256 * DRM_REFUSED_SLICE, "a state of 11 bytes is refused by 255");
+    cells.fac[130] = 0;
+    must(read_back(DRM_STATE_BYTES) == 256 * DRM_REFUSED_POINT + 1, "a 0 in FAC block 1 is refused by 13, block 1");
+    cells.fac[130] = cells_before.fac[130];
+    must(memcmp(&coder, &coder_before, sizeof coder) == 0, "a refused call leaves the coder");
+    must(memcmp(&reader, &reader_before, sizeof reader) == 0, "a refused call leaves the reader");
+    must(memcmp(&cells, &cells_before, sizeof cells) == 0, "a refused call leaves the cells");
+    must(memcmp(&given, &given_before, sizeof given) == 0, "a refused call leaves the bits");
+}
+
+/* Whether what was read is what was brought, out frames being handed out before. */
+static void compare(size_t out, size_t finished) {
+    size_t bytes = sizes[MSC_BYTES] / 3, i;
+    must(memcmp(given.fac, brought.fac, DRM_FAC_BYTES) == 0, "FAC blocks are read as brought");
+    must(memcmp(given.sdc, brought.sdc, sizes[SDC_BYTES]) == 0, "the SDC block is read as brought");
+    must(memcmp(given.msc, frames + bytes * out, bytes * finished) == 0, "frames are read as brought, in order");
+    for (i = bytes * finished; i < 3 * bytes; i++)
+        must(given.msc[i] == 0, "bytes beyond the finished frames are zero");
+}
+
+static void begin(const uint8_t *settings) {
+    must(drm_lengths(settings, DRM_SETTINGS_BYTES, lengths, DRM_LENGTHS) == 0, "the settings have lengths");
+    must(drm_sizes(settings, DRM_SETTINGS_BYTES, sizes, DRM_SIZES) == 0, "the settings have sizes");
+    must(drm_reset(coder.state, DRM_STATE_BYTES, settings, DRM_SETTINGS_BYTES, coder.memory, sizes[MEMORY]) == 0,
+         "the coder is reset");
+    must(drm_reset(reader.state, DRM_STATE_BYTES, settings, DRM_SETTINGS_BYTES, reader.memory, sizes[MEMORY]) == 0,
+         "the reader is reset");
+    printf("mode %c, occupancy %d, MSC mode %d, %s interleaving: N1 %d, N2 %d, L1 %d, L2 %d, L_VSPP %d\n",
+           'A' + settings[0], settings[1], settings[2], settings[9] == 0 ? "long" : "short", lengths[0], lengths[1],
+           lengths[2], lengths[3], lengths[4]);
+}
+
+static void run(const uint8_t *settings) {
+    static const unsigned in_long[SUPER_FRAMES] = {0, 2, 3, 3, 3};
+    size_t m, out = 0;
+    begin(settings);
+    printf("  finished frames:");
+    for (m = 0; m < SUPER_FRAMES; m++) {
+        unsigned finished;
+        bring(settings, m);
+        must(code(DRM_FAC_BYTES) == DRM_ACCEPTED, "the super frame is coded");
+        refused_calls();
+        finished = read_back(DRM_STATE_BYTES);
+        printf(" %u", finished);
+        must(finished == (settings[9] == 0 ? in_long[m] : 3), "frames finish 0 2 3 3 3 in long interleaving, else 3");
+        compare(out, finished);
+        out += finished;
+    }
+    must(out >= 3 * (SUPER_FRAMES - CLOSING), "every frame before the closing is read");
+    printf("; %d frames brought, %d read as brought\n", FRAMES, (int)out);
+}
+
+int main(void) {
+    size_t k;
+    for (k = 0; k < sizeof runs / sizeof runs[0]; k++)
+        run(runs[k]);
+    printf("all as it must be\n");
+    return 0;
+}

@@ -1,0 +1,184 @@
+/*
+ * DRM channel coder and reader (ETSI ES 201 980, clause 7): bits of the FAC, SDC and MSC to QAM cells, and back.
+ *
+ * The library is for x86-64 Linux. It keeps nothing between calls, takes nothing from the heap, reads and writes
+ * only what it is lent, and every call returns.
+ *
+ * Slices
+ *   Every buffer is a slice: a pointer, and in the next argument its number of elements (not of bytes). A pointer
+ *   is never null, is aligned for its type (2 bytes for int16_t and uint16_t, 4 for uint32_t, no more is asked) and is
+ *   good for all its elements. Within one call a slice that is not const overlaps no other slice; const ones
+ *   may overlap each other. Slices are lent for the time of the call only.
+ *
+ * Threads
+ *   Any thread may call, and several at the same time, if no slice that one of them writes is lent to another
+ *   meanwhile. Working arrays lie on the caller's stack: DRM_STACK_BYTES of free stack are enough.
+ *
+ * Settings: ten bytes
+ *   0  robustness mode, 0 to 3 for A to D
+ *   1  spectrum occupancy, 0 to 5; modes C and D have only 3 and 5
+ *   2  MSC mode: 0 64-QAM standard mapping, 1 64-QAM HMmix, 2 64-QAM HMsym, 3 16-QAM standard mapping
+ *   3  protection level of part A, 0 to 3 (0 to 1 in MSC mode 3); checked even where part A is empty
+ *   4  protection level of part B, likewise
+ *   5  VSPP level, 0 to 3; 0 in MSC modes 0 and 3
+ *   6  X, the bytes in part A: high byte
+ *   7  X: low byte
+ *   8  SDC mode: 0 16-QAM, 1 4-QAM
+ *   9  interleaving: 0 long, 1 short
+ *
+ * State: twelve bytes
+ *   The ten bytes of the settings, the position (0 to 4: the slot of memory that is written next) and the count of
+ *   frames seen (0 to 4, where it stops). In short interleaving position and count are 0. A coder and a reader
+ *   each have a state and a memory of their own; before the first drm_reset both may hold anything.
+ *
+ * Packed bits
+ *   First bit highest; each block and frame begins a byte, and the spare bits of its last byte are zero. A call
+ *   carries three FAC blocks (72 bits each, 27 bytes together), one SDC block and three multiplex frames one after
+ *   another. A multiplex frame has L_VSPP + L1 + L2 bits: the very strongly protected part, part A, part B. With
+ *   N_SDC cells (half the SDC numbers), an SDC block has N_SDC - 6 bits in 4-QAM, and in 16-QAM the greatest multiple
+ *   of 3 that is not above 2 * N_SDC - 12.
+ *
+ * Cells
+ *   Two numbers a cell, real before imaginary, odd, from -1 to 1 in 4-QAM, -3 to 3 in 16-QAM and -7 to 7 in 64-QAM.
+ *   The FAC has 390 numbers for its three blocks. The MSC numbers are three rows of N1 + N2 sent cells each, and then
+ *   none, one or two fillers: (1, 1), (1, -1).
+ *
+ * Refusals
+ *   A call answers by the lowest number that applies, and a call that is refused writes nothing at all.
+ *     1  robustness mode
+ *     2  occupancy not allowed for the mode
+ *     3  MSC mode
+ *     4  protection level of part A or part B
+ *     5  VSPP level
+ *     6  SDC mode or interleaving
+ *     7  part A too long: N1 leaves part B fewer than 20 cells
+ *     8  memory of the wrong length
+ *     9  an input of the wrong length: bytes of drm_code, cells of drm_read
+ *    10  an output of the wrong length: cells of drm_code, bytes of drm_read
+ *    11  a spare bit set in an input of drm_code
+ *    12  position or count above 4 (above 0 in short interleaving), or a memory cell that is neither (0, 0) nor a
+ *        point of the MSC's constellation
+ *    13  a cell lent to drm_read is no point of its constellation, or a filler is wrong; cells of frames before the
+ *        first are ignored and may be anything
+ *    14  cells of a block or of a finished frame that no bits give
+ *   255  a settings, state, lengths or sizes slice of the wrong length; this goes before all others
+ */
+#ifndef DRMCODER_H
+#define DRMCODER_H
+
+#include <stddef.h>
+#include <stdint.h>
+
+#ifdef __cplusplus
+extern "C" {
+#endif
+
+/* Elements of the slices whose length is always the same. */
+enum {
+    DRM_SETTINGS_BYTES = 10,
+    DRM_STATE_BYTES = 12,
+    DRM_LENGTHS = 5,
+    DRM_SIZES = 6,
+    DRM_FAC_BYTES = 27,
+    DRM_FAC_NUMBERS = 390
+};
+
+/* The most that any permitted settings ask of the other slices, for buffers that serve them all. */
+enum {
+    DRM_MOST_SDC_BYTES = 210,
+    DRM_MOST_MSC_BYTES = 10797,
+    DRM_MOST_SDC_NUMBERS = 1692,
+    DRM_MOST_MSC_NUMBERS = 36708,
+    DRM_MOST_MEMORY_NUMBERS = 61180
+};
+
+/* Free stack, in bytes, that is enough for any call. */
+enum { DRM_STACK_BYTES = 524288 };
+
+/* Answers: acceptance, and the refusals by their numbers above. */
+enum {
+    DRM_ACCEPTED = 0,
+    DRM_REFUSED_MODE = 1,
+    DRM_REFUSED_OCCUPANCY = 2,
+    DRM_REFUSED_MSC_MODE = 3,
+    DRM_REFUSED_LEVEL = 4,
+    DRM_REFUSED_VSPP_LEVEL = 5,
+    DRM_REFUSED_SDC_OR_INTERLEAVING = 6,
+    DRM_REFUSED_PART_A = 7,
+    DRM_REFUSED_MEMORY_LENGTH = 8,
+    DRM_REFUSED_INPUT_LENGTH = 9,
+    DRM_REFUSED_OUTPUT_LENGTH = 10,
+    DRM_REFUSED_SPARE_BIT = 11,
+    DRM_REFUSED_STATE_OR_MEMORY = 12,
+    DRM_REFUSED_POINT = 13,
+    DRM_REFUSED_BLOCK = 14,
+    DRM_REFUSED_SLICE = 255
+};
+
+/* The refusal in an answer of drm_read, 0 for acceptance, and the block that it names. */
+#define DRM_READ_REFUSAL(answer) ((answer) / 256)
+#define DRM_READ_BLOCK(answer) ((answer) % 256)
+
+/*
+ * Lengths of a multiplex frame: N1 and N2, the cells of parts A and B, then L1, L2 and L_VSPP, bits.
+ *   settings   10 bytes
+ *   lengths    5 numbers, written if the answer is 0
+ * Answers 0, 1 to 7, or 255.
+ */
+uint8_t drm_lengths(const uint8_t *settings, size_t settings_len, uint16_t *lengths, size_t lengths_len);
+
+/*
+ * Sizes of the slices of drm_reset, drm_code and drm_read: SDC bytes, MSC bytes (three frames), FAC numbers,
+ * SDC numbers, MSC numbers, memory numbers.
+ *   settings   10 bytes
+ *   sizes      6 numbers, written if the answer is 0
+ * Answers 0, 1 to 7, or 255.
+ */
+uint8_t drm_sizes(const uint8_t *settings, size_t settings_len, uint32_t *sizes, size_t sizes_len);
+
+/*
+ * Begins a run: the state takes the settings, position and count become 0, and memory is filled with zero.
+ *   state      12 bytes, whatever they hold
+ *   settings   10 bytes
+ *   memory     as many numbers as drm_sizes says, whatever they hold
+ * Answers 0, 1 to 8, or 255.
+ */
+uint8_t drm_reset(uint8_t *state, size_t state_len, const uint8_t *settings, size_t settings_len, int16_t *memory,
+                  size_t memory_len);
+
+/*
+ * Codes one super frame. Of memory only the slots of its three frames are written.
+ *   state      12 bytes, as the last accepted call left them
+ *   memory     likewise
+ *   fac, sdc, msc                    27, SDC bytes, MSC bytes: the bits to code
+ *   fac_cells, sdc_cells, msc_cells  390, SDC numbers, MSC numbers: all are written if the answer is 0
+ * Answers 0, 1 to 12, or 255. At the end of a run code two super frames whose MSC bytes are zero: the reader then
+ * has every frame before them.
+ */
+uint8_t drm_code(uint8_t *state, size_t state_len, int16_t *memory, size_t memory_len, const uint8_t *fac,
+                 size_t fac_len, const uint8_t *sdc, size_t sdc_len, const uint8_t *msc, size_t msc_len,
+                 int16_t *fac_cells, size_t fac_cells_len, int16_t *sdc_cells, size_t sdc_cells_len,
+                 int16_t *msc_cells, size_t msc_cells_len);
+
+/*
+ * Reads one super frame.
+ *   state      12 bytes, as the last accepted call left them
+ *   memory     likewise
+ *   fac_cells, sdc_cells, msc_cells  390, SDC numbers, MSC numbers: the cells received
+ *   fac, sdc, msc                    27, SDC bytes, MSC bytes: all are written if the call is accepted; the finished
+ *                                    frames stand first in msc, and the bytes beyond them are zero
+ * Answers the number of frames that it finished, 0 to 3, if the call is accepted: 0, then 2, then 3 each time after a
+ * reset in long interleaving, always 3 in short. Otherwise the answer is 256 * refusal + block, the refusal being 1 to
+ * 10, 12 to 14 or 255. The block is the lowest at fault for 13 and 14, and 0 for the others: 0 to 2 an FAC block,
+ * 3 the SDC block; from 4 on, for 13 the three sent rows of MSC cells and 7 the fillers, for 14 the finished frames.
+ */
+uint16_t drm_read(uint8_t *state, size_t state_len, int16_t *memory, size_t memory_len, const int16_t *fac_cells,
+                  size_t fac_cells_len, const int16_t *sdc_cells, size_t sdc_cells_len, const int16_t *msc_cells,
+                  size_t msc_cells_len, uint8_t *fac, size_t fac_len, uint8_t *sdc, size_t sdc_len, uint8_t *msc,
+                  size_t msc_len);
+
+#ifdef __cplusplus
+}
+#endif
+
+#endif
