@@ -8,7 +8,7 @@ use native.Mathlib.Omega.{arith}
 use lib.ListN.{length, getD, take, drop, length-take, length-append, take-append-drop, replicate, getD-replicate, List·getD-eq-default}
 use lib.Seq.{take-at, drop-at}
 use Rattle.component.specs.Bits.{Bits}
-use Rattle.component.proofs.Counting.{below-or}
+use Rattle.lists.proofs.Counting.{below-or}
 use Rattle.component.proofs.Bits.{bits-nil, bits-cons, bits-head, bits-rest, bits-append, bits-drop}
 use Rattle.block.proofs.Lists.{bits-take}
 use Rattle.block.proofs.Packing.{shr-suc}

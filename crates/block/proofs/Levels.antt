@@ -8,17 +8,17 @@ use lib.ListN.{length, take, drop, length-append, length-drop, take-append-drop}
 use lib.Seq.{take-at, drop-at, length-take-le}
 use lib.Dec.{eqb, lit<}
 use borrow.Author.Tests.{ne-eqb}
-use Rattle.component.specs.Lists.{table}
 use Rattle.component.specs.Bits.{Bits}
 use Rattle.component.specs.Register.{after}
-use Rattle.component.specs.Codeword.{encode, codeword, tailBits}
-use Rattle.component.specs.Interleaving.{interleaved}
-use Rattle.component.specs.Deinterleaving.{deinterleaved, putBack}
+use Rattle.component.specs.Codeword.{encode, tailBits}
+use Rattle.component.specs.Decoding.{segment}
+use Rattle.interleaver.specs.Interleaving.{interleaved}
+use Rattle.interleaver.specs.Deinterleaving.{deinterleaved}
 use Rattle.component.proofs.Bits.{bits-nil, bits-append, bits-drop}
 use Rattle.component.proofs.Register.{after-low}
-use Rattle.component.proofs.Codeword.{length-encode, codeword-bits}
+use Rattle.component.proofs.Codeword.{length-encode, codeword-bits, codeword-one, codeword-two, length-tail}
 use Rattle.component.proofs.Decoding.{length-decode, decode-bits, decode-encode}
-use Rattle.component.proofs.Interleaving.{interleaved-length, interleaved-all, deinterleaved-interleaved}
+use Rattle.interleaver.proofs.Interleaving.{interleaved-length, interleaved-all, deinterleaved-interleaved, interleaved-none, deinterleaved-none}
 use Rattle.block.specs.Levels.{Level, codedA, codedB, mixed, stream, totalA, totalB, streams}
 use Rattle.block.specs.Reading.{unmixed, sizeA, sizeB, inputA, inputB, inputsA, inputsB}
 use Rattle.block.specs.Fits.{Streams, Mixes, plain, empty, cycle, LevelFits, LevelsFit, none, more}
@@ -44,7 +44,7 @@ bits-mixed t {v} B = go (eqb t 0)
 
 -- putting back undoes interleaving
 pub unmixed-mixed : (t : ℕ) (v : List ℕ) → Mixes t (length v) → unmixed t (mixed t v) ≡ v
-unfolding mixed unmixed interleaved deinterleaved table putBack
+unfolding mixed unmixed
 unmixed-mixed t v (plain e) = rw e
 unmixed-mixed t [] (empty e) = go (eqb t 0)
   where
@@ -53,7 +53,7 @@ unmixed-mixed t [] (empty e) = go (eqb t 0)
 
     go : (b : Bool) → cond b (cond b nil (interleaved 0 t nil)) (deinterleaved 0 t (cond b nil (interleaved 0 t nil))) ≡ nil
     go true = refl
-    go false = refl
+    go false = rw (interleaved-none {A = ℕ} 0 t, deinterleaved-none {A = ℕ} 0 t)
 unmixed-mixed t (a ∷ v) (empty e) = absurd (omega arith)
 unmixed-mixed t v (cycle c) =
     let n : eqb t 0 ≡ false = ne-eqb t 0 (λ e. omega (arith, c .factor)) in
@@ -61,29 +61,29 @@ unmixed-mixed t v (cycle c) =
 
 module _ {n : ℕ} {l : Level} (F : LevelFits n l) {a b : List ℕ} (A : Bits a) (B : Bits b) (la : length a ≡ l .bitsA) (lb : length b ≡ l .bitsB) where
   -- the coded bits of part A, and how many they are
-  coded-A : codedA l a ≡ encode (l .patternA) 0 0 a ++ []
-  unfolding codedA codeword
-  coded-A = refl
+  coded-A : codedA l a ≡ encode (l .patternA) 0 0 a
+  unfolding codedA
+  coded-A = codeword-one 0 (segment (l .patternA) a)
 
   length-codedA : length (codedA l a) ≡ sizeA l
   unfolding sizeA
-  length-codedA = rw (coded-A, append-nil (encode (l .patternA) 0 0 a), length-encode (F .soundA) 0 0 a (F .soundA .some), la)
+  length-codedA = rw (coded-A, length-encode (F .soundA) 0 0 a (F .soundA .some), la)
 
   -- those of part B
-  coded-B : codedB l a b ≡ encode (l .patternB) (after 0 a) 0 b ++ (encode (l .tail) (after (after 0 a) b) 0 tailBits ++ [])
-  unfolding codedB codeword
-  coded-B = refl
+  coded-B : codedB l a b ≡ encode (l .patternB) (after 0 a) 0 b ++ encode (l .tail) (after (after 0 a) b) 0 tailBits
+  unfolding codedB
+  coded-B = codeword-two (after 0 a) (segment (l .patternB) b) (segment (l .tail) tailBits)
 
   length-codedB : length (codedB l a b) ≡ sizeB l
-  unfolding sizeB tailBits
+  unfolding sizeB
   length-codedB =
       rw (
         coded-B,
         length-append,
-        append-nil (encode (l .tail) (after (after 0 a) b) 0 tailBits),
         length-encode (F .soundB) (after 0 a) 0 b (F .soundB .some),
         length-encode (F .soundTail) (after (after 0 a) b) 0 tailBits (F .soundTail .some),
         lb,
+        length-tail,
       )
 
   -- a level's stream has n bits
@@ -104,7 +104,7 @@ module _ {n : ℕ} {l : Level} (F : LevelFits n l) {a b : List ℕ} (A : Bits a)
   unfolding inputA
   inputA-stream =
       rw (part-A, unmixed-mixed (l .t) (codedA l a) (rw length-codedA (F .mixesA)), coded-A, ← la)
-      (decode-encode (F .soundA) 0 0 a [] (F .soundA .some) (lit< tt) A)
+      (rw (append-nil (encode (l .patternA) 0 0 a)) at (decode-encode (F .soundA) 0 0 a [] (F .soundA .some) (lit< tt) A))
 
   -- and part B's, with the register after part A
   pub inputB-stream : inputB l (stream l a b) ≡ b

@@ -5,14 +5,3 @@ pub mod Mapping
 pub mod Levels
 pub mod Block
 pub mod Reader
-pub mod Sequence
-pub mod Spare
-pub mod Bytes
-pub mod Coordinates
-pub mod Signed
-pub mod Numbers
-pub mod Parts
-pub mod OneLevel
-pub mod Planning
-pub mod Summing
-pub mod Cells

@@ -11,51 +11,20 @@ use lib.Seq.{getD-take, getD-drop}
 use lib.IntN.{ℤ, pos, negsuc}
 use lib.Dec.{eqb}
 use borrow.Author.Tests.{eq-eqb, eqb-true}
-use Rattle.component.specs.Lists.{table}
-use Rattle.component.specs.Weights.{taken}
+use Rattle.lists.specs.Lists.{table}
+use Rattle.interleaver.specs.Weights.{taken}
 use Rattle.component.specs.Bits.{Bits}
 use Rattle.component.proofs.Bits.{bits-nil}
-use Rattle.component.proofs.Counting.{below-or}
-use Rattle.component.proofs.Tables.{length-table}
+use Rattle.lists.proofs.Counting.{below-or}
+use Rattle.lists.proofs.Tables.{length-table, table-at, table-is}
 use Rattle.block.specs.Mapping.{coordinate, qam4, qam16, standard64, symmetric64, Constellation, constellation, axis, numberAt, mapped, weave, woven}
-use Rattle.block.specs.Points.{sameNumber, sameNumbers, onAxis, every, arePoints}
+use Rattle.lists.specs.Same.{sameNumber, sameNumbers}
+use Rattle.block.specs.Points.{onAxis, every, arePoints}
 use Rattle.block.specs.Reading.{placeOf, numbersOf, streamIn, unmapped}
 use Rattle.block.specs.Fits.{Streams, Labelling, Labels}
-use Rattle.block.proofs.Lists.{getD-table, table-is, bits-table}
+use Rattle.lists.proofs.Same.{sameNumber-refl}
+use Rattle.block.proofs.Lists.{bits-table}
 use Rattle.block.proofs.Packing.{shr-suc}
-
--- a number is the number that it is
-pub sameNumber-refl : (v : ℤ) → sameNumber v v ≡ true
-unfolding sameNumber
-sameNumber-refl (pos n) = eq-eqb n n refl
-sameNumber-refl (negsuc n) = eq-eqb n n refl
-
--- and no other
-pub sameNumber-true : (v w : ℤ) → sameNumber v w ≡ true → v ≡ w
-unfolding sameNumber
-sameNumber-true (pos a) (pos b) e = ap pos (eqb-true a b e)
-sameNumber-true (pos a) (negsuc b) e = cc
-sameNumber-true (negsuc a) (pos b) e = cc
-sameNumber-true (negsuc a) (negsuc b) e = ap negsuc (eqb-true a b e)
-
-both : (a b : Bool) → a && b ≡ true → (a ≡ true) × (b ≡ true)
-both true b e = (refl, e)
-both false b e = (e, cc)
-
--- the test of lists is equality
-pub sameNumbers-refl : (l : List ℤ) → sameNumbers l l ≡ true
-unfolding sameNumbers
-sameNumbers-refl [] = refl
-sameNumbers-refl (v ∷ l) = rw (sameNumber-refl v) (sameNumbers-refl l)
-
-pub sameNumbers-true : (l m : List ℤ) → sameNumbers l m ≡ true → l ≡ m
-unfolding sameNumbers
-sameNumbers-true [] [] e = refl
-sameNumbers-true [] (w ∷ m) e = cc
-sameNumbers-true (v ∷ l) [] e = cc
-sameNumbers-true (v ∷ l) (w ∷ m) e =
-    let b = both (sameNumber v w) (sameNumbers l m) e in
-    ap₂ _∷_ (sameNumber-true v w (b .0)) (sameNumbers-true l m (b .1))
 
 -- THE TEST that no two coordinates of a labelling are equal
 labelling : (n : ℕ) (l : List ℤ) → length l ≡ n → table (λ i. placeOf l (getD l i (pos 0))) 0 n ≡ table (λ i. i) 0 n → Labelling n l
@@ -66,7 +35,7 @@ labelling n l e t = record { size = e; found = λ i h. found i h }
 
     found : (i : ℕ) → i < n → f i ≡ i
     found i h =
-        sym (getD-table f 0 n i 0 h ∙ rw zero-add) ∙ ap (λ (v : List ℕ). getD v i 0) t ∙ getD-table (λ j. j) 0 n i 0 h ∙ zero-add i
+        sym (table-at f 0 n i 0 h ∙ rw zero-add) ∙ ap (λ (v : List ℕ). getD v i 0) t ∙ table-at (λ j. j) 0 n i 0 h ∙ zero-add i
 
 labels4 : Labelling 2 qam4
 unfolding qam4 table coordinate placeOf sameNumber
@@ -134,7 +103,7 @@ length-mapped k n ys = length-table (λ j. getD (axis k j) (numberAt ys j) (pos 
 -- each by its level bits
 pub getD-mapped : (k : Constellation) (n : ℕ) (ys : List (List ℕ)) (j : ℕ) → j < n → getD (mapped k n ys) j (pos 0) ≡ getD (axis k j) (numberAt ys j) (pos 0)
 unfolding mapped
-getD-mapped k n ys j h = getD-table (λ i. getD (axis k i) (numberAt ys i) (pos 0)) 0 n j (pos 0) h ∙ rw zero-add
+getD-mapped k n ys j h = table-at (λ i. getD (axis k i) (numberAt ys i) (pos 0)) 0 n j (pos 0) h ∙ rw zero-add
 
 -- there are as many numbers as coordinates
 pub length-numbers : (k : Constellation) (cells : List ℤ) → length (numbersOf k cells) ≡ length cells
@@ -149,7 +118,7 @@ numbers-mapped {m} {w} {k} {ys} L S e n =
     table-is (λ j. placeOf (axis k j) (getD (mapped k n ys) j (pos 0))) 0 (length (mapped k n ys)) (table (numberAt ys) 0 n)
     (length-table (numberAt ys) 0 n ∙ sym (length-mapped k n ys))
     (λ j h. let l : j < n = omega (arith, length-mapped k n ys) in
-    rw (getD-mapped k n ys j l, getD-table (numberAt ys) 0 n j 0 l, zero-add)
+    rw (getD-mapped k n ys j l, table-at (numberAt ys) 0 n j 0 l, zero-add)
     (axis-labels L j .found (numberAt ys j) (rw e at (number-low S j))))
 
 -- the streams that the levels give back, where each goes to both axes
@@ -159,7 +128,7 @@ unfolding streamIn taken
 streams-same {m} {n} {k} {ys} L S e l h =
     rw (numbers-mapped L S e n, length-table (numberAt ys) 0 n)
     (table-is (λ j. getD (table (numberAt ys) 0 n) j 0 / 2 ^ l % 2) 0 n (getD ys l []) (S .long l h)
-    (λ j i. rw (getD-table (numberAt ys) 0 n j 0 i, zero-add) (number-digit S j l)))
+    (λ j i. rw (table-at (numberAt ys) 0 n j 0 i, zero-add) (number-digit S j l)))
 
 -- a woven stream
 pub length-weave : (re im : List ℕ) → length (weave re im) ≡ 2 * length re
@@ -171,7 +140,7 @@ unfolding weave
 getD-weave re im j a h l =
     let q : (2 * j + a) % 2 ≡ a = omega arith in
     let r : (2 * j + a) / 2 ≡ j = omega arith in
-    getD-table (λ i. getD (cond (eqb (i % 2) 0) re im) (i / 2) 0) 0 (2 * length re) (2 * j + a) 0 (omega arith) ∙ rw (zero-add, q, r)
+    table-at (λ i. getD (cond (eqb (i % 2) 0) re im) (i / 2) 0) 0 (2 * length re) (2 * j + a) 0 (omega arith) ∙ rw (zero-add, q, r)
 
 bits-weave : {re im : List ℕ} → Bits re → Bits im → Bits (weave re im)
 unfolding weave
@@ -232,36 +201,15 @@ streams-apart {m} {n} {k} {ys} L S e l h =
     (λ j i.
     let r : j < length (getD ys (2 * (l / 2)) []) = rw (S .long (2 * (l / 2)) (omega arith)) i in
     rw (
-      getD-table g 0 n j 0 i,
+      table-at g 0 n j 0 i,
       zero-add j,
-      getD-table f 0 (2 * n) (2 * j + l % 2) 0 (omega arith),
+      table-at f 0 (2 * n) (2 * j + l % 2) 0 (omega arith),
       zero-add,
       number-digit W (2 * j + l % 2) (l / 2),
       getD-woven m ys (l / 2) e (omega arith),
       getD-weave (getD ys (2 * (l / 2)) []) (getD ys (2 * (l / 2) + 1) []) j (l % 2) r (omega arith),
       of-pair ys (l / 2) (l % 2) l (omega arith) (omega arith),
     )))
-
--- a level's bits of the first numbers, and of those after them
-pub take-taken : (w n : ℕ) (numbers : List ℕ) → take n (taken w numbers) ≡ taken w (take n numbers)
-unfolding taken
-take-taken w n numbers =
-    let f : ℕ → ℕ = λ i. getD numbers i 0 / w % 2 in
-    sym (table-is (λ i. getD (take n numbers) i 0 / w % 2) 0 (length (take n numbers)) (take n (table f 0 (length numbers)))
-    (rw (length-take, length-table f 0 (length numbers), length-take))
-    (λ i h.
-    let l : i < min n (length numbers) = rw length-take at h in
-    rw (getD-take n numbers i 0 (omega arith), getD-take n (table f 0 (length numbers)) i 0 (omega arith), getD-table f 0 (length numbers) i 0 (omega arith), zero-add)))
-
-pub drop-taken : (w n : ℕ) (numbers : List ℕ) → drop n (taken w numbers) ≡ taken w (drop n numbers)
-unfolding taken
-drop-taken w n numbers =
-    let f : ℕ → ℕ = λ i. getD numbers i 0 / w % 2 in
-    sym (table-is (λ i. getD (drop n numbers) i 0 / w % 2) 0 (length (drop n numbers)) (drop n (table f 0 (length numbers)))
-    (rw (length-drop, length-table f 0 (length numbers), length-drop))
-    (λ i h.
-    let l : i < length numbers - n = rw length-drop at h in
-    rw (getD-drop n numbers i 0, getD-drop n (table f 0 (length numbers)) i 0, getD-table f 0 (length numbers) (n + i) 0 (omega arith), zero-add)))
 
 -- mapping and back gives the levels' streams
 pub unmapped-mapped : {m : ℕ} {k : Constellation} {ys : List (List ℕ)} (one : Bool) (c : ℕ)

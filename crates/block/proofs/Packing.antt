@@ -9,13 +9,13 @@ use native.Mathlib.Omega.{arith}
 use lib.ListN.{length, getD, List·getD-eq-default}
 use lib.Pow.{shr-shr}
 use borrow.Author.Tests.{eq-eqb, eqb-true}
-use Rattle.component.specs.Lists.{table, total}
+use Rattle.lists.specs.Lists.{table, total}
 use Rattle.component.specs.Bits.{Bits}
-use Rattle.component.proofs.Counting.{below-or}
-use Rattle.component.proofs.Tables.{length-table}
+use Rattle.lists.proofs.Counting.{below-or}
+use Rattle.lists.proofs.Tables.{length-table, table-at, table-is, total-zero, zero-total}
 use Rattle.block.specs.Packing.{bitAt, unpacked, digits, bytesOf, packed, spareZero}
 use Rattle.block.specs.Fits.{Bytes}
-use Rattle.block.proofs.Lists.{getD-table, table-is, total-zero, zero-total, bits-table}
+use Rattle.block.proofs.Lists.{bits-table}
 
 -- halving first, or last
 pub shr-suc : (n m : ℕ) → n / 2 ^ suc m ≡ n / 2 / 2 ^ m
@@ -54,7 +54,7 @@ module _ {bits : List ℕ} (B : Bits bits) where
   -- every byte of packed bits
   getD-packed : (k : ℕ) → k < bytesOf (length bits) → getD (packed bits) k 0 ≡ digits bits (8 * k) 8
   unfolding packed
-  getD-packed k h = getD-table (λ i. digits bits (8 * i) 8) 0 (bytesOf (length bits)) k 0 h ∙ rw zero-add
+  getD-packed k h = table-at (λ i. digits bits (8 * i) 8) 0 (bytesOf (length bits)) k 0 h ∙ rw zero-add
 
   pub length-packed : length (packed bits) ≡ bytesOf (length bits)
   unfolding packed
@@ -98,7 +98,7 @@ module _ {bits : List ℕ} (B : Bits bits) where
       m = 8 * length (packed bits) - length bits
 
       go : (i : ℕ) → (i < m) ⊎ (m ≤ i) → getD (table (bitAt (packed bits)) n m) i 0 ≡ 0
-      go i (inl h) = getD-table (bitAt (packed bits)) n m i 0 h ∙ bitAt-packed (n + i) ∙ List·getD-eq-default bits 0 {n = n + i} (omega arith)
+      go i (inl h) = table-at (bitAt (packed bits)) n m i 0 h ∙ bitAt-packed (n + i) ∙ List·getD-eq-default bits 0 {n = n + i} (omega arith)
       go i (inr h) = List·getD-eq-default (table (bitAt (packed bits)) n m) 0 {n = i} (rw length-table h)
 
 -- what is unpacked are so many bits
@@ -119,10 +119,10 @@ getD-unpacked n bytes i z = go (below-or i n) (below-or i (8 * length bytes))
     m = 8 * length bytes - n
 
     spare : (j : ℕ) → j < m → bitAt bytes (n + j) ≡ 0
-    spare j h = sym (getD-table (bitAt bytes) n m j 0 h) ∙ total-zero (table (bitAt bytes) n m) j (eqb-true _ 0 z)
+    spare j h = sym (table-at (bitAt bytes) n m j 0 h) ∙ total-zero (table (bitAt bytes) n m) j (eqb-true _ 0 z)
 
     go : (i < n) ⊎ (n ≤ i) → (i < 8 * length bytes) ⊎ (8 * length bytes ≤ i) → getD (unpacked n bytes) i 0 ≡ bitAt bytes i
-    go (inl h) l = getD-table (bitAt bytes) 0 n i 0 h ∙ rw zero-add
+    go (inl h) l = table-at (bitAt bytes) 0 n i 0 h ∙ rw zero-add
     go (inr h) l = List·getD-eq-default (unpacked n bytes) 0 {n = i} (rw length-unpacked h) ∙ sym (tail l)
       where
         tail : (i < 8 * length bytes) ⊎ (8 * length bytes ≤ i) → bitAt bytes i ≡ 0

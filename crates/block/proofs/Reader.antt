@@ -12,7 +12,7 @@ use Rattle.block.specs.Block.{Block, bitCount, cellsOf, cellsFrom}
 use Rattle.block.specs.Reading.{candidate, given, bytesRead, readBlock}
 use Rattle.block.specs.Fits.{BlockFits, BlockBits, BlockBytes}
 use Rattle.block.specs.Reads.{NoBits, NoBytes, ReadsBits, ReadsBytes}
-use Rattle.block.proofs.Mapping.{sameNumbers-refl, sameNumbers-true}
+use Rattle.lists.proofs.Same.{sameNumbers-refl, sameNumbers-true}
 use Rattle.block.proofs.Block.{candidate-block, candidate-cells, bits-block, bytes-block, unpacked-block, packed-block}
 
 -- for any code and any back that undoes it on inputs that are ok, with a test of equality of what is coded

@@ -7,7 +7,7 @@ use lib.ListN.{length, getD}
 use lib.IntN.{ℤ, pos}
 use Rattle.component.specs.Bits.{Bits}
 use Rattle.component.specs.Decoding.{Sound}
-use Rattle.component.specs.Deinterleaving.{Cycles}
+use Rattle.interleaver.specs.Deinterleaving.{Cycles}
 use Rattle.block.specs.Packing.{bytesOf, spareZero}
 use Rattle.block.specs.Levels.{Level}
 use Rattle.block.specs.Mapping.{Constellation}

@@ -3,11 +3,8 @@ pub mod Dispersal
 pub mod Levels
 pub mod Mapping
 pub mod Block
-pub mod Numbers
 pub mod Points
 pub mod Reading
 pub mod Fits
 pub mod Reads
-pub mod Requirements
 pub mod Plan
-pub mod LevelCalls

@@ -5,7 +5,7 @@ use mathlib.Core.List.{List, [], _∷_}
 use lib.ListN.{length, getD}
 use lib.IntN.{ℤ, pos, _-ℤ_}
 use lib.Dec.{eqb}
-use Rattle.component.specs.Lists.{table}
+use Rattle.lists.specs.Lists.{table}
 
 -- An axis's coordinate: base - 2 × n.
 unfoldable pub coordinate : ℕ → ℕ → ℤ

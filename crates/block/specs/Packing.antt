@@ -4,7 +4,7 @@ use mathlib.Core.Bool.{Bool}
 use mathlib.Core.List.{List}
 use lib.ListN.{length, getD}
 use lib.Dec.{eqb}
-use Rattle.component.specs.Lists.{table, total}
+use Rattle.lists.specs.Lists.{table, total}
 
 -- Bit i of packed bytes: the first bit of a byte is its highest.
 unfoldable pub bitAt : List ℕ → ℕ → ℕ

@@ -1,11 +1,14 @@
 -- A block's levels as the code is lent them: a flat table with six numbers a level. Nothing of 01 is stated here.
 use Prim.Native.Nat.{ℕ, zero, suc, _+_, _*_, _/_, _≤_, _<_}
+use mathlib.Core.Bool.{Bool}
 use mathlib.Core.List.{List, [], _∷_}
 use lib.ListN.{length, getD, take, drop}
 use Rattle.component.specs.Bits.{Bits}
-use Rattle.component.specs.Lists.{table}
+use Rattle.lists.specs.Lists.{table}
 use Rattle.component.specs.Decoding.{patternAt}
 use Rattle.block.specs.Levels.{Level, stream}
+use Rattle.block.specs.Mapping.{constellation}
+use Rattle.block.specs.Block.{Block}
 use Rattle.block.specs.Fits.{LevelFits}
 
 -- Level i: its input bits in parts A and B, the numbers of the patterns of both and of its tail, and t.
@@ -22,6 +25,10 @@ levelAt plan i =
 
 unfoldable pub levelsOf : List ℕ → List Level
 levelsOf plan = table (levelAt plan) 0 (length plan / 6)
+
+-- The block with the levels of this table: v bits dispersed by themselves in front, whether each level has one axis only, constellation c, n cells.
+abbrev pub blockOf : List ℕ → ℕ → Bool → ℕ → ℕ → Block
+blockOf plan v one c n = record { vspp = v; levels = levelsOf plan; oneAxis = one; points = constellation c; cells = n }
 
 -- The input bits of the levels before level l in one column of the table: column 0 for part A, column 1 for part B.
 unfoldable pub bitsBefore : List ℕ → ℕ → ℕ → ℕ
@@ -48,6 +55,13 @@ pub record LevelReady (plan : List ℕ) (n l : ℕ) : Type 0 where
   pub numberB : getD plan (6 * l + 3) 0 < 25
   pub numberTail : getD plan (6 * l + 4) 0 < 25
   pub small : getD plan (6 * l + 5) 0 < 64
+
+-- Every number of the table that stands for a pattern is that of a pattern, and every t is that of an interleaver.
+pub record Known (plan : List ℕ) : Type 0 where
+  pub numberA : (l : ℕ) → getD plan (6 * l + 2) 0 < 25
+  pub numberB : (l : ℕ) → getD plan (6 * l + 3) 0 < 25
+  pub numberTail : (l : ℕ) → getD plan (6 * l + 4) 0 < 25
+  pub small : (l : ℕ) → getD plan (6 * l + 5) 0 < 64
 
 -- What coding level l requires: its bits stand in those of parts A and B, and its coded bits have room.
 pub record CodesAt (plan : List ℕ) (l weight : ℕ) (a b coded numbers : List ℕ) : Type 0 where

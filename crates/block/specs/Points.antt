@@ -5,22 +5,9 @@ use mathlib.Core.List.{List, [], _∷_}
 use lib.ListN.{length, getD}
 use lib.IntN.{ℤ, pos, negsuc}
 use lib.Dec.{eqb}
-use Rattle.component.specs.Lists.{table}
+use Rattle.lists.specs.Lists.{table}
+use Rattle.lists.specs.Same.{sameNumber}
 use Rattle.block.specs.Mapping.{Constellation, axis}
-
--- Two signed numbers are equal.
-unfoldable pub sameNumber : ℤ → ℤ → Bool
-sameNumber (pos a) (pos b) = eqb a b
-sameNumber (pos a) (negsuc b) = false
-sameNumber (negsuc a) (pos b) = false
-sameNumber (negsuc a) (negsuc b) = eqb a b
-
--- Two lists of signed numbers are equal.
-unfoldable pub sameNumbers : List ℤ → List ℤ → Bool
-sameNumbers [] [] = true
-sameNumbers [] (b ∷ bs) = false
-sameNumbers (a ∷ l) [] = false
-sameNumbers (a ∷ l) (b ∷ bs) = sameNumber a b && sameNumbers l bs
 
 -- A number is one of a labelling's coordinates.
 unfoldable pub onAxis : List ℤ → ℤ → Bool

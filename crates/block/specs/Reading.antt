@@ -6,16 +6,16 @@ use mathlib.Core.List.{List, [], _∷_, _++_}
 use lib.ListN.{length, getD, take, drop}
 use lib.IntN.{ℤ, pos}
 use lib.Dec.{eqb}
-use Rattle.component.specs.Lists.{table}
-use Rattle.component.specs.Weights.{taken}
+use Rattle.lists.specs.Lists.{table}
+use Rattle.interleaver.specs.Weights.{taken}
 use Rattle.component.specs.Register.{after}
 use Rattle.component.specs.Decoding.{codedLength, decode}
-use Rattle.component.specs.Deinterleaving.{deinterleaved}
+use Rattle.interleaver.specs.Deinterleaving.{deinterleaved}
 use Rattle.block.specs.Packing.{packed}
 use Rattle.block.specs.Dispersal.{dispersedParts}
 use Rattle.block.specs.Levels.{Level}
 use Rattle.block.specs.Mapping.{Constellation, axis}
-use Rattle.block.specs.Points.{sameNumber, sameNumbers}
+use Rattle.lists.specs.Same.{sameNumber, sameNumbers}
 use Rattle.block.specs.Block.{Block, cellsOf}
 
 -- Mapping: the number i0 + 2 × i1 + 4 × i2 of the level bits of a coordinate, its place in the labelling; past the end where the labelling hasn't it.

@@ -6,21 +6,19 @@ use mathlib.Core.List.{List, _++_, append-nil}
 use native.Mathlib.Omega.{arith}
 use lib.Dec.{eqb}
 use lib.IntN.{ℤ}
-use lib.ListN.{length, getD, take, drop, length-append}
+use lib.ListN.{length, take, drop, length-append}
 use lib.Seq.{take-at, take-length, length-take-le, drop-at, drop-length}
-use Rattle.component.specs.Lists.{table}
-use Rattle.component.specs.Weights.{taken}
-use Rattle.component.proofs.Tables.{Filled, filled-end, length-table}
+use Rattle.lists.specs.Lists.{table}
+use Rattle.interleaver.specs.Weights.{taken}
+use Rattle.lists.proofs.Tables.{length-table, table-ext}
 use Rattle.block.specs.Dispersal.{dispersed, dispersedParts}
 use Rattle.block.specs.Mapping.{constellation}
-use Rattle.block.specs.Numbers.{axisNumbers}
+use Rattle.mapping.specs.Numbers.{axisNumbers}
 use Rattle.block.specs.Reading.{numbersOf, streamIn, unmapped, inputsA, inputsB, candidate}
-use Rattle.block.specs.Plan.{levelAt, levelsOf}
-use Rattle.coder.specs.Coder.{blockOf}
-use Rattle.candidate.specs.Candidate.{digitAt, imaginaryAt, streamFrom, ReadsLevels, ReadsCells, CellsRead}
+use Rattle.block.specs.Plan.{levelAt, levelsOf, blockOf}
+use Rattle.candidate.specs.Candidate.{digitAt, imaginaryAt, streamFrom, ReadsLevels, ReadsCells, CellsRead, ReadsParts, bitsIn}
 use Rattle.block.proofs.Dispersal.{length-dispersed}
-use Rattle.block.proofs.Lists.{table-is, table-ext}
-use Rattle.block.proofs.Numbers.{both-axes}
+use Rattle.mapping.proofs.Numbers.{both-axes}
 
 -- only the lengths of the buffers count
 pub relent : {plan : List ℕ} {one : Bool} {re im coded a b re′ im′ : List ℕ} → ReadsLevels plan one re im coded a b
@@ -73,11 +71,11 @@ module _ {plan : List ℕ} {c : ℕ} {cells : List ℤ} {a b : List ℕ} where
         partB = rw (e, f, streams-each (numbersOf (constellation c) cells) (length plan / 6)) at (P .1);
       }
 
-  -- both parts one after the other, dispersed, are the candidate
-  pub candidate-is : (v n : ℕ) {one : Bool} {bits out : List ℕ} → CellsRead plan one c cells a b → bits ≡ a ++ b → out ≡ dispersedParts v bits
-      → out ≡ candidate (blockOf plan v one c n) cells
-  unfolding candidate levelsOf
-  candidate-is v n R e f = rw (f, e, length-table (levelAt plan) 0 (length plan / 6), ← R .partA, ← R .partB)
+-- the bits of both parts, dispersed, are the candidate
+pub candidate-is : (plan : List ℕ) (one : Bool) (c : ℕ) (cells : List ℤ) (v n : ℕ) {bits out : List ℕ} → bits ≡ bitsIn plan one c cells → out ≡ dispersedParts v bits
+    → out ≡ candidate (blockOf plan v one c n) cells
+unfolding candidate bitsIn levelsOf
+candidate-is plan one c cells v n e f = rw (f, e, length-table (levelAt plan) 0 (length plan / 6))
 
 -- both axes need one buffer of numbers
 pub one-buffer : {plan : List ℕ} {c : ℕ} {cells : List ℤ} {re im coded a b : List ℕ} → ReadsCells plan false c cells re im coded a b
@@ -87,10 +85,6 @@ one-buffer R = record { levels = relent (R .levels) refl refl; known = R .known;
 -- a part from the start of a list
 from-start : (n : ℕ) → n - 0 ≡ n
 from-start n = omega arith
-
--- what is filled with a list's elements is this list
-pub copied : (from d out : List ℕ) (i : ℕ) → length d ≡ length from → i ≡ length from → Filled 0 (λ k. getD from k 0) d out i → out ≡ from
-copied from d out i e n F = filled-end 0 (λ k. getD from k 0) d out (length from) e (rw n at F) ∙ table-is (λ k. getD from k 0) 0 (length from) from refl (λ k h. refl)
 
 module _ (x v : List ℕ) (n : ℕ) (e : length x ≡ n) (h : n ≤ length v) where
   -- x in place of the first n elements: what follows them
@@ -107,12 +101,18 @@ module _ (x v : List ℕ) (n : ℕ) (e : length x ≡ n) (h : n ≤ length v) wh
   both-parts : (y : List ℕ) → take n (x ++ drop (n - 0) v) ++ (y ++ drop (length (x ++ drop (n - 0) v) - n) (drop n (x ++ drop (n - 0) v))) ≡ x ++ y
   both-parts y = rw (rest-length, kept, drop-length (drop n v), append-nil y, take-at x (drop (n - 0) v) n e)
 
--- two lists copied one behind the other
-pub joined-parts : (v : List ℕ) {a b x y : List ℕ} → x ≡ a → y ≡ b → length v ≡ length a + length b
-    → take (length a) (x ++ drop (length a - 0) v)
-    ++ (y ++ drop (length (x ++ drop (length a - 0) v) - length a) (drop (length a) (x ++ drop (length a - 0) v)))
-    ≡ a ++ b
-joined-parts v {a} {b} e f h = rw (e, f) (both-parts a v (length a) refl (omega arith) b)
+-- the front of the bits, where part A's are read to
+pub front-reads : {plan : List ℕ} {one : Bool} {c : ℕ} {cells : List ℤ} {re im coded b bits : List ℕ} → ReadsParts plan one c cells re im coded b bits
+    → ReadsCells plan one c cells re im coded (take (length bits - length b - 0) bits) b
+front-reads {b = b} {bits = bits} R = rw (from-start (length bits - length b)) (R .levels)
+
+-- part A's bits at the front, and part B's copied behind them
+pub parts-read : {plan : List ℕ} {one : Bool} {c : ℕ} {cells : List ℤ} (v : List ℕ) (n : ℕ) {x b y : List ℕ} → n ≤ length v → length x ≡ length (take (n - 0) v)
+    → CellsRead plan one c cells x b → y ≡ b
+    → take n (x ++ drop (n - 0) v) ++ (y ++ drop (length (x ++ drop (n - 0) v) - n) (drop n (x ++ drop (n - 0) v))) ≡ bitsIn plan one c cells
+unfolding bitsIn
+parts-read v n {x} {b} {y} h e R f =
+    both-parts x v n (e ∙ rw (from-start n) (length-take-le n v h)) h y ∙ ap₂ _++_ (R .partA) (f ∙ R .partB)
 
 -- both parts of a list dispersed in place
 pub dispersed-both : (n : ℕ) (v : List ℕ) {x y : List ℕ} → n ≤ length v → x ≡ dispersed 0 (take (n - 0) v)

@@ -1,13 +1,13 @@
 -- What reading a block back requires of the table of levels and of the buffers, and what it promises of them: nothing of 01 is stated here.
-use Prim.Native.Nat.{ℕ, suc, _+_, _*_, _/_, _%_, _^_, _≤_, _<_}
+use Prim.Native.Nat.{ℕ, suc, _+_, _-_, _*_, _/_, _%_, _^_, _≤_, _<_}
 use mathlib.Core.Path.{_≡_}
 use mathlib.Core.Bool.{Bool, cond, _&&_}
-use mathlib.Core.List.{List}
-use lib.ListN.{length}
+use mathlib.Core.List.{List, _++_}
+use lib.ListN.{length, take}
 use lib.Dec.{eqb}
 use lib.IntN.{ℤ}
 use lib.Seq.{sets}
-use Rattle.component.specs.Weights.{Weight, taken}
+use Rattle.interleaver.specs.Weights.{Weight, taken}
 use Rattle.block.specs.Mapping.{constellation}
 use Rattle.block.specs.Reading.{unmapped, inputA, inputB, inputsA, inputsB}
 use Rattle.block.specs.Plan.{levelAt, levelsOf, bitsBefore, LevelReady}
@@ -70,8 +70,18 @@ pub record CellsRead (plan : List ℕ) (oneAxis : Bool) (c : ℕ) (cells : List 
   pub partA : a ≡ inputsA (levelsOf plan) (unmapped (constellation c) oneAxis (length plan / 6) cells)
   pub partB : b ≡ inputsB (levelsOf plan) (unmapped (constellation c) oneAxis (length plan / 6) cells)
 
--- What the candidate's bits require besides: a buffer for as many bits as both parts have, the first `vspp` of which are dispersed by themselves.
-pub record ReadsCandidate (plan : List ℕ) (vspp : ℕ) (oneAxis : Bool) (c : ℕ) (cells : List ℤ) (re im coded a b bits : List ℕ) : Type 0 where
-  pub levels : ReadsCells plan oneAxis c cells re im coded a b
-  pub both : length bits ≡ length a + length b
+-- What reading the bits of both parts requires: those of part A have room at the front of the bits, those of part B a buffer of their own.
+pub record ReadsParts (plan : List ℕ) (oneAxis : Bool) (c : ℕ) (cells : List ℤ) (re im coded b bits : List ℕ) : Type 0 where
+  pub fit : length b ≤ length bits
+  pub levels : ReadsCells plan oneAxis c cells re im coded (take (length bits - length b) bits) b
+
+-- The bits of part A and then those of part B.
+unfoldable pub bitsIn : List ℕ → Bool → ℕ → List ℤ → List ℕ
+bitsIn plan oneAxis c cells =
+    let ys = unmapped (constellation c) oneAxis (length plan / 6) cells in
+    inputsA (levelsOf plan) ys ++ inputsB (levelsOf plan) ys
+
+-- What the candidate's bits require besides: the first `vspp` of them are dispersed by themselves.
+pub record ReadsCandidate (plan : List ℕ) (vspp : ℕ) (oneAxis : Bool) (c : ℕ) (cells : List ℤ) (re im coded b bits : List ℕ) : Type 0 where
+  pub parts : ReadsParts plan oneAxis c cells re im coded b bits
   pub front : vspp ≤ length bits

@@ -1,2 +1,2 @@
 // Cells of a block back to the only bits that can give them.
-pub mod levels;
+pub mod bits;

@@ -13,7 +13,7 @@ use Rattle.settings.specs.Lengths.{nMux}
 use Rattle.cellrows.specs.Cells.{farthest, allHeld}
 use Rattle.cellrows.proofs.Reach.{all-held}
 use mathlib.Core.Logic.{_⊎_, inl, inr}
-use Rattle.component.proofs.Counting.{below-or}
+use Rattle.lists.proofs.Counting.{below-or}
 use Rattle.settings.specs.declared.Settings.{Settings}
 use Rattle.settings.specs.declared.Sizes.{Sizes}
 use Rattle.settings.specs.Refusal.{first, refusal}

@@ -4,3 +4,5 @@ pub mod Reach
 pub mod Every
 pub mod Laid
 pub mod Chains
+pub mod Progress
+pub mod FillerTurns

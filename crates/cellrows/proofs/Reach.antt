@@ -8,9 +8,10 @@ use native.Mathlib.Omega.{arith}
 use borrow.Author.Tests.{ne-eqb}
 use lib.Dec.{T, eqb, leb, ltb, ltb→lt}
 use lib.ListN.{getD, List·getD-eq-default}
-use Rattle.block.specs.Points.{sameNumber, onAxis, isPoint, every}
+use Rattle.lists.specs.Same.{sameNumber}
+use Rattle.block.specs.Points.{onAxis, isPoint, every}
 use Rattle.block.specs.Mapping.{coordinate, qam4, qam16, standard64, symmetric64, constellation}
-use Rattle.component.specs.Lists.{table}
+use Rattle.lists.specs.Lists.{table}
 use Rattle.settings.specs.declared.Settings.{Settings}
 use Rattle.settings.specs.Lengths.{nMux}
 use Rattle.settings.specs.Sizes.{depth}
@@ -18,11 +19,11 @@ use Rattle.frame.specs.Msc.{mscConstellation, mscBlock}
 use Rattle.superframe.specs.Call.{isStart, memoryCell}
 use Rattle.superframe.specs.Read.{rowCell, rowPoints}
 use Rattle.block.specs.Reading.{placeOf}
-use Rattle.block.proofs.Lists.{table-ext}
-use Rattle.block.proofs.Signed.{no-place}
+use Rattle.lists.proofs.Tables.{table-ext}
+use Rattle.mapping.proofs.Signed.{no-place}
 use Rattle.cellrows.proofs.Ring.{delay-even}
 use Rattle.component.proofs.Tests.{both-left, both-right, each, at}
-use Rattle.component.proofs.Counting.{below-or}
+use Rattle.lists.proofs.Counting.{below-or}
 use lib.IntN.{ℤ, pos, negsuc}
 use mir.Syntax.{w16}
 use mir.Val.{SFits, toZ, ofZ}

@@ -5,9 +5,9 @@ use Prim.Native.Nat.{ℕ, suc, _+_, _-_, _*_, _/_, _%_, _≤_, _<_}
 use native.Mathlib.Nat.{mod-lt, mod-eq-of-lt, add-mod-right, mod-self, mod-add-mod, mul-le-mul-right, add-zero}
 use native.Mathlib.Omega.{arith}
 use borrow.Author.Tests.{eq-eqb, ne-eqb}
-use Rattle.component.proofs.Counting.{below-or}
+use Rattle.lists.proofs.Counting.{below-or}
 use Rattle.superframe.specs.Interleaving.{slotBefore, delay, sentPlace}
-use Rattle.component.specs.Interleaving.{place}
+use Rattle.interleaver.specs.Interleaving.{place}
 use Rattle.cellrows.specs.Rows.{previous, later}
 
 -- The slot d before position p, without a remainder.

@@ -9,10 +9,10 @@ use native.Mathlib.Omega.{arith}
 use lib.ListN.{length, getD, set, length-set}
 use lib.IntN.{ℤ, pos}
 use lib.Dec.{leb}
-use Rattle.component.specs.Interleaving.{place, nextPlace, size}
-use Rattle.component.specs.Deinterleaving.{Interleaves}
-use Rattle.component.proofs.Interleaving.{Along, along-start, along-turn}
-use Rattle.component.proofs.Tables.{Filled, filled-turn, filled-end}
+use Rattle.interleaver.specs.Interleaving.{place, nextPlace, size}
+use Rattle.interleaver.specs.Deinterleaving.{Interleaves}
+use Rattle.interleaver.proofs.Interleaving.{Along, along-start, along-turn}
+use Rattle.lists.proofs.Tables.{Filled, filled-turn, filled-end}
 use Rattle.settings.specs.declared.Settings.{Settings}
 use Rattle.settings.specs.Lengths.{nMux}
 use Rattle.settings.specs.Sizes.{depth}

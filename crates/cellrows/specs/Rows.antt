@@ -6,7 +6,7 @@ use mathlib.Core.List.{List}
 use lib.ListN.{length, getD, set}
 use lib.IntN.{ℤ, pos}
 use lib.Dec.{eqb, leb}
-use Rattle.component.specs.Lists.{table}
+use Rattle.lists.specs.Lists.{table}
 use Rattle.superframe.specs.Memory.{numberIn, replaced}
 use Rattle.superframe.specs.Interleaving.{sentPlace, delay, slotBefore}
 

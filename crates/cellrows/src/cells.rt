@@ -1,6 +1,6 @@
 // Tests of MSC cells: in memory (refusal 12) and in a row (refusal 13). 01 "Operations".
 use crate::rows::next_modulo;
-use block::points::place_of;
+use mapping::points::place_of;
 ghost use mathlib.Core.Path.{_≡_};
 ghost use mathlib.Core.Bool.{not, _||_};
 ghost use Prim.Native.Nat.{_<_};

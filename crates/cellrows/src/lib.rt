@@ -1,4 +1,5 @@
 // Rows of MSC cells, the tests of cells, and the refusals that the calls share.
 pub mod cells;
+pub mod fillers;
 pub mod refusal;
 pub mod rows;

@@ -1,6 +1,6 @@
 // Refusals, and the tests that they rest on. 01 "Operations".
 use crate::cells;
-use block::bits::spare_zero;
+use packing::bits::spare_zero;
 use settings::Settings;
 use settings::Sizes;
 use settings::answers;

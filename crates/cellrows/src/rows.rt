@@ -1,7 +1,7 @@
 // Rows of MSC cells: what memory sends, and a row put back into memory. 01 "Cell interleaving"; 001 clause 7.6.
-use component::interleaver::next_place;
-use component::interleaver::offset_of;
-use component::interleaver::size_of;
+use interleaver::order::next_place;
+use interleaver::order::offset_of;
+use interleaver::order::size_of;
 ghost use mathlib.Core.Path.{_≡_};
 ghost use Prim.Native.Nat.{_+_, _-_, _*_, _<_, min};
 ghost use Rattle.cellrows.specs.Rows.{sentNumbers, takenNumbers, previous, later, cellPut, withCell, RowFits, CellFits};

@@ -1,6 +1,6 @@
 // A block of each kind: drawn, coded, read back, and the digest of its cells.
-use frame::calls;
-use frame::readers;
+use channels::calls;
+use channels::readers;
 use settings::Settings;
 use settings::answers;
 use settings::formulas;
@@ -9,14 +9,21 @@ use settings::tables;
 use vectors::digests;
 use vectors::draws;
 ghost use mathlib.Core.Path.{_≡_};
-ghost use Prim.Native.Nat.{_*_};
-ghost use lib.ListN.{length};
-ghost use Rattle.settings.specs.Cells.{facCells};
-ghost use Rattle.settings.specs.Formulas.{facBits};
-ghost use Rattle.settings.specs.Lengths.{nMux, nSdc, lSdc};
+ghost use mathlib.Core.Bool.{true};
+ghost use Rattle.settings.specs.Refusal.{refusal};
 ghost use Rattle.settings.specs.Sizes.{frameBits};
-ghost use Rattle.settings.specs.Accepted.{Accepted};
-ghost use Rattle.check_blocks.specs.Buffers.{Sized, Largest, LentBoth};
+ghost use Rattle.block.specs.Block.{bitCount, cellsFrom};
+ghost use Rattle.reader.specs.Reader.{BlockRead};
+ghost use Rattle.vectors.specs.Digest.{cellsTaken};
+ghost use Rattle.check_blocks.specs.Kinds.{blockOf, drawnFrom, drawnOf};
+ghost use Rattle.check_blocks.specs.Buffers.{BlockLent, LentBoth, Largest, Sized};
+
+// The kinds of blocks; any other number stands for a multiplex frame too.
+pub const FAC: u8 = 0;
+
+pub const SDC: u8 = 1;
+
+pub const FRAME: u8 = 2;
 
 // The state of the draws after a block, and the digest of its cells.
 pub struct Drawn {
@@ -39,8 +46,40 @@ fn cell_buffer() -> [i16; 12236] {
     [0i16; 12236]
 }
 
+// The cells of a block.
+fn code(kind: u8, s: Settings, bytes: &[u8], cells: &mut [i16])
+    requires { ⌜ BlockLent kind s (now bytes) (now cells) ⌝ }
+    ensures { λ r. ⌜ now (cells .exit) ≡ cellsFrom (blockOf kind s) (now (bytes .entry)) ⌝ }
+{
+    if kind == FAC {
+        calls::fac_cells(bytes, cells);
+        return;
+    }
+    if kind == SDC {
+        calls::sdc_cells(s, bytes, cells);
+        return;
+    }
+    calls::frame_cells(s, bytes, cells);
+}
+
+// The bytes of a block from its cells.
+fn read(kind: u8, s: Settings, cells: &[i16], bytes: &mut [u8]) -> bool
+    requires { ⌜ BlockLent kind s (now bytes) (now cells) ⌝ }
+    ensures { λ r. ⌜ BlockRead (blockOf kind s) (now (cells .entry)) (now (bytes .entry)) r (now (bytes .exit)) ⌝ }
+{
+    if kind == FAC {
+        return readers::read_fac(cells, bytes);
+    }
+    if kind == SDC {
+        return readers::read_sdc(s, cells, bytes);
+    }
+    readers::read_frame(s, cells, bytes)
+}
+
 // The digest of the cells, or 0 where the block did not come back.
-fn digest_of(bytes: &[u8], cells: &[i16], read: bool, back: &[u8]) -> u64 {
+fn digest_of(bytes: &[u8], cells: &[i16], read: bool, back: &[u8]) -> u64
+    ensures { λ r. ⌜ (read ≡ true → now (bytes .entry) ≡ now (back .entry) → r ≡ cellsTaken 0 (now (cells .entry))) ⌝ }
+{
     if !read {
         return 0;
     }
@@ -50,17 +89,9 @@ fn digest_of(bytes: &[u8], cells: &[i16], read: bool, back: &[u8]) -> u64 {
     digests::of_cells(0, cells)
 }
 
-fn fac_in(x: u64, bytes: &mut [u8], back: &mut [u8], cells: &mut [i16]) -> Drawn
-    requires { ⌜ LentBoth facBits (2 * facCells) (now bytes) (now back) (now cells) ⌝ }
-{
-    let x = draws::block(x, 72, bytes);
-    calls::fac_cells(bytes, cells);
-    let read = readers::read_fac(cells, back);
-    let digest = digest_of(bytes, cells, read, back);
-    Drawn { x, digest }
-}
-
-fn sdc_in(
+// A block in buffers of its lengths. It is proved to come back, so that the digest is that of its cells.
+fn block_in(
+    kind: u8,
     s: Settings,
     x: u64,
     bits: usize,
@@ -68,76 +99,84 @@ fn sdc_in(
     back: &mut [u8],
     cells: &mut [i16],
 ) -> Drawn
-    requires { ⌜ Accepted s × LentBoth (lSdc s) (2 * nSdc s) (now bytes) (now back) (now cells) ⌝ }
+    requires { ⌜ LentBoth kind s bits (now bytes) (now back) (now cells) ⌝ }
+    ensures { λ r. ⌜ r ≡ drawnFrom (blockOf kind s) x ⌝ }
 {
     let x = draws::block(x, bits, bytes);
-    calls::sdc_cells(s, bytes, cells);
-    let read = readers::read_sdc(s, cells, back);
-    let digest = digest_of(bytes, cells, read, back);
+    code(kind, s, bytes, cells);
+    let given = read(kind, s, cells, back);
+    let digest = digest_of(bytes, cells, given, back);
     Drawn { x, digest }
 }
 
-fn frame_in(
-    s: Settings,
-    x: u64,
-    bits: usize,
-    bytes: &mut [u8],
-    back: &mut [u8],
-    cells: &mut [i16],
-) -> Drawn
-    requires { ⌜ Accepted s × LentBoth (frameBits s) (2 * nMux s) (now bytes) (now back) (now cells) ⌝ }
-{
-    let x = draws::block(x, bits, bytes);
-    calls::frame_cells(s, bytes, cells);
-    let read = readers::read_frame(s, cells, back);
-    let digest = digest_of(bytes, cells, read, back);
-    Drawn { x, digest }
-}
-
-// An FAC block.
-pub fn fac(x: u64) -> Drawn {
-    let mut bytes = [0u8; 9];
-    let mut back = [0u8; 9];
-    let mut cells = [0i16; 130];
-    fac_in(x, &mut bytes, &mut back, &mut cells)
-}
-
-fn sdc_size(s: Settings) -> Size
-    requires { ⌜ Accepted s ⌝ }
-    ensures { λ r. ⌜ Sized (lSdc s) (2 * nSdc s) (r .bytes) (r .numbers) ⌝ }
-{
-    let n = tables::n_sdc(s.mode, s.occupancy);
-    let bits = formulas::sdc_bits(s.sdc, n);
-    let bytes = formulas::round_up(bits, 8);
-    Size {
-        bits,
-        bytes,
-        numbers: 2 * n,
-    }
-}
-
-fn frame_size(s: Settings) -> Size
-    requires { ⌜ Accepted s ⌝ }
-    ensures { λ r. ⌜ Sized (frameBits s) (2 * nMux s) (r .bytes) (r .numbers) ⌝ }
+// How many bits a multiplex frame has.
+fn frame_bits(s: Settings) -> usize
+    requires { ⌜ refusal s ≡ 0 ⌝ }
+    ensures { λ r. ⌜ r ≡ frameBits s ⌝ }
 {
     let l = answers::lengths(s);
-    let bits = l.vspp as usize + l.l1 as usize + l.l2 as usize;
-    let bytes = answers::frame_bytes(s);
-    let n = tables::n_mux(s.mode, s.occupancy);
+    l.vspp as usize + (l.l1 as usize + l.l2 as usize)
+}
+
+// How many bits a block has.
+fn bits_of(kind: u8, s: Settings) -> usize
+    requires { ⌜ refusal s ≡ 0 ⌝ }
+    ensures { λ r. ⌜ r ≡ bitCount (blockOf kind s) ⌝ }
+{
+    if kind == FAC {
+        return 72;
+    }
+    if kind == SDC {
+        return formulas::sdc_bits(s.sdc, tables::n_sdc(s.mode, s.occupancy));
+    }
+    frame_bits(s)
+}
+
+// How many cells a block has.
+fn cells_of(kind: u8, s: Settings) -> usize
+    ensures { λ r. ⌜ r ≡ blockOf kind s .cells ⌝ }
+{
+    if kind == FAC {
+        return 65;
+    }
+    if kind == SDC {
+        return tables::n_sdc(s.mode, s.occupancy);
+    }
+    tables::n_mux(s.mode, s.occupancy)
+}
+
+// The lengths of a block's buffers.
+fn size_of(kind: u8, s: Settings) -> Size
+    requires { ⌜ refusal s ≡ 0 ⌝ }
+    ensures { λ r. ⌜ Sized (blockOf kind s) (r .bits) (r .bytes) (r .numbers) ⌝ }
+{
+    let bits = bits_of(kind, s);
+    let bytes = formulas::round_up(bits, 8);
+    let numbers = 2 * cells_of(kind, s);
     Size {
         bits,
         bytes,
-        numbers: 2 * n,
+        numbers,
     }
 }
 
-fn sdc_of(s: Settings, x: u64, bytes: &mut [u8], back: &mut [u8], cells: &mut [i16]) -> Drawn
-    requires { ⌜ Accepted s × Largest (now bytes) (now back) (now cells) ⌝ }
+// A block in buffers for the largest.
+fn block_with(
+    kind: u8,
+    s: Settings,
+    x: u64,
+    bytes: &mut [u8],
+    back: &mut [u8],
+    cells: &mut [i16],
+) -> Drawn
+    requires { ⌜ (refusal s ≡ 0) × Largest (now bytes) (now back) (now cells) ⌝ }
+    ensures { λ r. ⌜ r ≡ drawnFrom (blockOf kind s) x ⌝ }
 {
-    let size = sdc_size(s);
+    let size = size_of(kind, s);
     let n = size.bytes;
     let m = size.numbers;
-    sdc_in(
+    block_in(
+        kind,
         s,
         x,
         size.bits,
@@ -147,40 +186,15 @@ fn sdc_of(s: Settings, x: u64, bytes: &mut [u8], back: &mut [u8], cells: &mut [i
     )
 }
 
-fn frame_of(s: Settings, x: u64, bytes: &mut [u8], back: &mut [u8], cells: &mut [i16]) -> Drawn
-    requires { ⌜ Accepted s × Largest (now bytes) (now back) (now cells) ⌝ }
+// A block of some settings; nothing is drawn for settings that are refused.
+pub fn block(kind: u8, s: Settings, x: u64) -> Drawn
+    ensures { λ r. ⌜ r ≡ drawnOf kind s x ⌝ }
 {
-    let size = frame_size(s);
-    let n = size.bytes;
-    let m = size.numbers;
-    frame_in(
-        s,
-        x,
-        size.bits,
-        &mut bytes[0..n],
-        &mut back[0..n],
-        &mut cells[0..m],
-    )
-}
-
-// An SDC block; nothing is coded for settings that are refused.
-pub fn sdc(s: Settings, x: u64) -> Drawn {
     if refusals::refusal(s) != 0 {
         return Drawn { x, digest: 0 };
     }
     let mut bytes = byte_buffer();
     let mut back = byte_buffer();
     let mut cells = cell_buffer();
-    sdc_of(s, x, &mut bytes, &mut back, &mut cells)
-}
-
-// A multiplex frame.
-pub fn frame(s: Settings, x: u64) -> Drawn {
-    if refusals::refusal(s) != 0 {
-        return Drawn { x, digest: 0 };
-    }
-    let mut bytes = byte_buffer();
-    let mut back = byte_buffer();
-    let mut cells = cell_buffer();
-    frame_of(s, x, &mut bytes, &mut back, &mut cells)
+    block_with(kind, s, x, &mut bytes, &mut back, &mut cells)
 }

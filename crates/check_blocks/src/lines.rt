@@ -1,4 +1,4 @@
-// The settings of the lines.
+// The settings of the lines. The functions promise nothing: the lines are compared by the gate with the stored text.
 use crate::blocks;
 use settings::Lengths;
 use settings::Settings;
@@ -18,11 +18,11 @@ fn print(s: Settings, line: u64) {
     let s = pairings::with_sdc(s, (line % 2) as u8);
     let x = std::num::wrapping_add_u64(line, 1);
     text::settings(s);
-    let fac = blocks::fac(x);
+    let fac = blocks::block(blocks::FAC, s, x);
     text::number(fac.digest);
-    let sdc = blocks::sdc(s, fac.x);
+    let sdc = blocks::block(blocks::SDC, s, fac.x);
     text::number(sdc.digest);
-    let frame = blocks::frame(s, sdc.x);
+    let frame = blocks::block(blocks::FRAME, s, sdc.x);
     text::number(frame.digest);
     text::end();
 }

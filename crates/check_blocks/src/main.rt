@@ -1,5 +1,5 @@
 // The cells of one FAC block, one SDC block and one multiplex frame for many settings, a line each with their digests, in the order of second/README.md,
-// "blocks". Each block is read back; a block that doesn't come back has the digest 0.
+// "blocks". Each block is read back; one that did not come back would have the digest 0.
 mod blocks;
 mod lines;
 

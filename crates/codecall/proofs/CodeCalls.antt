@@ -15,7 +15,7 @@ use Rattle.superframe.specs.Code.{CodeCall, CodeYield, byteLengths, cellLengths
 use Rattle.cellrows.specs.Refusals.{refusalThen, Packed}
 use Rattle.cellrows.proofs.Chains.{then-stops, then-nine, then-settings, then-goes-on}
 use Rattle.codecall.specs.Yields.{codeCall, codeYield}
-use Rattle.codecall.specs.Coding.{MscCoded}
+use Rattle.codeblocks.specs.Coding.{MscCoded}
 use Rattle.superframe.proofs.Calls.{bytes-fit, code-fits, code-accepts, code-refuses}
 use Rattle.superframe.specs.Facts.{CodeFits}
 

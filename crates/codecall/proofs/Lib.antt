@@ -1,4 +1,2 @@
-pub mod Lent
 pub mod ResetCalls
-pub mod CodeTurns
 pub mod CodeCalls

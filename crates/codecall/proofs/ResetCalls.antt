@@ -1,5 +1,5 @@
 -- The call Reset from its refusal. Assumes nothing.
-use mathlib.Core.Path.{_≡_, refl, sym, _∙_}
+use mathlib.Core.Path.{_≡_, sym, _∙_}
 use mathlib.Core.Bool.{true}
 use mathlib.Core.Logic.{_⊎_, inl, inr}
 use mathlib.Core.List.{List}
@@ -8,8 +8,7 @@ use native.Mathlib.Nat.{zero-mul, suc-mul, add-comm}
 use native.Mathlib.Omega.{arith}
 use lib.ListN.{length, replicate, replicate-append-replicate}
 use lib.IntN.{ℤ, pos}
-use Rattle.component.proofs.Counting.{below-or}
-use Rattle.component.proofs.Tables.{Filled, filled-end}
+use Rattle.lists.proofs.Counting.{below-or}
 use Rattle.settings.specs.declared.Settings.{Settings}
 use Rattle.settings.specs.declared.Sizes.{Sizes}
 use Rattle.settings.specs.Refusal.{first, refusal}
@@ -18,7 +17,6 @@ use Rattle.superframe.specs.declared.State.{State}
 use Rattle.superframe.specs.Memory.{slotSize, startFrame}
 use Rattle.superframe.specs.Call.{memoryLength, joined}
 use Rattle.superframe.specs.Reset.{resetRefusal, resetOf, startState, startMemory}
-use Rattle.superframe.proofs.Lists.{replicate-table}
 use Rattle.superframe.proofs.Calls.{reset-fits, reset-accepts, reset-refuses}
 use Rattle.cellrows.specs.Refusals.{lengthRefusal}
 use Rattle.cellrows.proofs.Chains.{settings-refused, settings-allowed}
@@ -32,12 +30,6 @@ reset-is s z e memory = go (below-or 0 (refusal s))
     go : (0 < refusal s) ⊎ (refusal s ≤ 0) → lengthRefusal z (length memory) true true ≡ resetRefusal s memory
     go (inl h) = settings-refused s z e (length memory) _ true true (omega arith)
     go (inr h) = settings-allowed s z e (length memory) true true (omega arith)
-
--- A list that is filled with zeros up to its end.
-pub zeros-end : (d out : List ℤ) (i : ℕ) → i ≤ length d → length out ≤ i → Filled (pos 0) (λ k. pos 0) d out i → out ≡ replicate (length d) (pos 0)
-zeros-end d out i h k w =
-    let e : i ≡ length d = omega (arith, w .long) in
-    filled-end (pos 0) (λ j. pos 0) d out (length d) refl (rw e at w) ∙ sym (replicate-table (pos 0) 0 (length d))
 
 -- Start frames one after the other are zeros.
 joined-zeros : (d n : ℕ) → joined (replicate d (replicate n (pos 0))) ≡ replicate (d * n) (pos 0)

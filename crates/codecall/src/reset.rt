@@ -1,5 +1,6 @@
 // The call Reset. 01 "Operations".
 use cellrows::refusal;
+use lists::numbers::clear;
 use settings::Settings;
 use settings::answers;
 use superframe::Done;
@@ -9,17 +10,6 @@ ghost use lib.ListN.{length, replicate};
 ghost use lib.IntN.{pos};
 ghost use Rattle.superframe.specs.Reset.{resetOf};
 ghost use Rattle.codecall.specs.Yields.{resetYield};
-
-// Numbers that are all zero.
-fn fill_zero(numbers: &mut [i16])
-    ensures { λ r. ⌜ now (numbers .exit) ≡ replicate (length (now (numbers .entry))) (pos 0) ⌝ }
-{
-    let mut i = 0;
-    while i < numbers.len() {
-        numbers[i] = 0;
-        i += 1;
-    }
-}
 
 // Acceptance fills memory with zero, takes the settings and sets position and count to 0; a refusal gives the old state back.
 pub fn reset(old: State, settings: Settings, memory: &mut [i16]) -> Done
@@ -32,7 +22,7 @@ pub fn reset(old: State, settings: Settings, memory: &mut [i16]) -> Done
             state: old,
         };
     }
-    fill_zero(memory);
+    clear(memory);
     Done {
         refusal: 0,
         state: State {

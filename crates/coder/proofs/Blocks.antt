@@ -8,24 +8,24 @@ use native.Mathlib.Omega.{arith}
 use lib.ListN.{length, take, drop}
 use lib.Pow.{pow-mono}
 use lib.IntN.{ℤ}
-use Rattle.component.specs.Lists.{table}
+use Rattle.lists.specs.Lists.{table}
 use Rattle.component.proofs.Bits.{bits-drop}
-use Rattle.component.proofs.Counting.{below-or}
-use Rattle.component.proofs.Tables.{length-table}
+use Rattle.lists.proofs.Counting.{below-or}
+use Rattle.lists.proofs.Tables.{length-table}
 use Rattle.block.specs.Packing.{bytesOf, unpacked}
 use Rattle.block.specs.Dispersal.{dispersedParts}
 use Rattle.block.specs.Levels.{totalA, streams}
 use Rattle.block.specs.Mapping.{constellation, numberAt, mapped, weave, woven}
-use Rattle.block.specs.Numbers.{coordinates}
+use Rattle.mapping.specs.Numbers.{coordinates}
 use Rattle.block.specs.Block.{bitCount, streamsOf, cellsOf, cellsFrom}
 use Rattle.block.specs.Fits.{Labels, LevelsFit}
-use Rattle.block.specs.Plan.{levelsOf, bitsBefore, streamAt, stepped, CodesLevels}
-use Rattle.block.specs.Requirements.{Sums}
+use Rattle.block.specs.Plan.{levelsOf, bitsBefore, streamAt, stepped, CodesLevels, blockOf}
+use Rattle.levels.specs.Requirements.{Sums}
 use Rattle.block.proofs.Lists.{bits-take}
 use Rattle.block.proofs.Packing.{length-unpacked}
 use Rattle.block.proofs.Dispersal.{length-dispersedParts, bits-dispersedParts}
 use Rattle.block.proofs.Mapping.{levelCount, constellation-labels}
-use Rattle.coder.specs.Coder.{blockOf, cellsBy}
+use Rattle.coder.specs.Coder.{cellsBy}
 use Rattle.coder.specs.Parts.{UnpacksParts, MapsParts, MapsAxesParts, PlanBits, CodesBoth, CodesAxes, CodesBits, CodesBlockIn, CodesBlockWith}
 use Rattle.coder.proofs.Lists.{from-start, to-end, length-start, length-end}
 use Rattle.coder.proofs.Plans.{totalA-plan, totalB-plan, streams-plan, length-levelsOf, level-ready, codes-levels, length-streamAt, numbers-low}

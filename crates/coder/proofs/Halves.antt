@@ -6,13 +6,13 @@ use native.Mathlib.Omega.{arith}
 use lib.ListN.{length, take, drop}
 use lib.Seq.{length-take-le}
 use lib.IntN.{ℤ}
-use Rattle.component.specs.Lists.{table}
-use Rattle.component.proofs.Tables.{length-table}
+use Rattle.lists.specs.Lists.{table}
+use Rattle.lists.proofs.Tables.{length-table}
 use Rattle.block.specs.Packing.{bitAt, unpacked}
 use Rattle.block.specs.Dispersal.{dispersed, dispersedParts}
 use Rattle.block.specs.Mapping.{Constellation, constellation, weave}
-use Rattle.block.specs.Numbers.{coordinates}
-use Rattle.block.specs.Requirements.{Maps, MapsAxes}
+use Rattle.mapping.specs.Numbers.{coordinates}
+use Rattle.mapping.specs.Requirements.{Maps, MapsAxes}
 use Rattle.block.proofs.Dispersal.{length-dispersed}
 use Rattle.block.proofs.Mapping.{length-weave}
 use Rattle.coder.specs.Parts.{UnpacksParts, MapsParts, MapsAxesParts}

@@ -10,13 +10,12 @@ use lib.ListN.{length, getD, take, drop, length-append, length-take, length-drop
 use lib.Seq.{getD-take, getD-drop, length-take-le, take-all, take-at, drop-at, drop-length}
 use lib.IntN.{ℤ, pos}
 use lib.Dec.{eqb}
-use Rattle.component.specs.Lists.{table}
-use Rattle.component.proofs.Counting.{below-or}
-use Rattle.component.proofs.Tables.{length-table}
+use Rattle.lists.specs.Lists.{table}
+use Rattle.lists.proofs.Counting.{below-or}
+use Rattle.lists.proofs.Tables.{length-table, table-ext, table-add, table-from}
 use Rattle.block.specs.Mapping.{Constellation, axis, weave}
-use Rattle.block.specs.Numbers.{coordinates}
-use Rattle.block.specs.Requirements.{Numbers}
-use Rattle.block.proofs.Lists.{table-ext, table-add, table-from}
+use Rattle.mapping.specs.Numbers.{coordinates}
+use Rattle.mapping.specs.Requirements.{Numbers}
 
 -- a part from the start of a list, and one to its end
 pub from-start : (n : ℕ) → n - 0 ≡ n

@@ -9,20 +9,19 @@ use native.Mathlib.Omega.{arith}
 use lib.ListN.{length, getD, take, drop, length-drop, List·getD-eq-default}
 use lib.Seq.{drop-drop, length-take-le}
 use lib.Pow.{pow-mono}
-use Rattle.component.specs.Lists.{table}
+use Rattle.lists.specs.Lists.{table}
 use Rattle.component.specs.Bits.{Bits}
 use Rattle.component.proofs.Bits.{bits-drop}
-use Rattle.component.proofs.Counting.{below-or}
-use Rattle.component.proofs.Tables.{length-table, getD-table}
+use Rattle.lists.proofs.Counting.{below-or}
+use Rattle.lists.proofs.Tables.{length-table, getD-table}
 use Rattle.block.specs.Levels.{Level, stream, totalA, totalB, streams}
 use Rattle.block.specs.Mapping.{numberAt}
 use Rattle.block.specs.Fits.{LevelFits, LevelsFit, none, more}
-use Rattle.block.specs.Plan.{levelAt, levelsOf, bitsBefore, streamAt, stepped, LevelReady, LevelThere, LevelsThere, none, more, CodesLevels}
-use Rattle.block.specs.Requirements.{Numbers}
+use Rattle.block.specs.Plan.{levelAt, levelsOf, bitsBefore, streamAt, stepped, LevelReady, LevelThere, LevelsThere, none, more, CodesLevels, Known}
+use Rattle.mapping.specs.Requirements.{Numbers}
 use Rattle.block.proofs.Lists.{bits-take}
 use Rattle.block.proofs.Levels.{bits-stream, length-stream}
-use Rattle.block.proofs.Planning.{before-mono}
-use Rattle.coder.specs.Coder.{Known}
+use Rattle.levels.proofs.Planning.{before-mono}
 use Rattle.coder.specs.Parts.{PlanBits}
 
 -- the bits of part A of all levels, and of part B

@@ -9,14 +9,13 @@ use borrow.Author.Tests.{eq-eqb, ne-eqb}
 use lib.ListN.{length, getD}
 use lib.IntN.{ℤ, pos}
 use lib.Dec.{eqb}
-use Rattle.component.specs.Lists.{table}
-use Rattle.component.proofs.Counting.{below-or}
-use Rattle.component.proofs.Tables.{length-table, getD-table}
+use Rattle.lists.specs.Lists.{table}
+use Rattle.lists.proofs.Counting.{below-or}
+use Rattle.lists.proofs.Tables.{length-table, getD-table, table-ext}
 use Rattle.block.specs.Mapping.{Constellation, axis, numberAt, mapped, weave, woven}
-use Rattle.block.specs.Numbers.{coordinates}
+use Rattle.mapping.specs.Numbers.{coordinates}
 use Rattle.block.specs.Plan.{stepped}
-use Rattle.block.proofs.Lists.{table-ext}
-use Rattle.block.proofs.Coordinates.{weave-even, weave-odd}
+use Rattle.mapping.proofs.Coordinates.{weave-even, weave-odd}
 
 -- mapping of streams is that of their numbers
 pub mapped-numbers : (k : Constellation) (n : ℕ) (ys : List (List ℕ)) → coordinates k (table (numberAt ys) 0 n) ≡ mapped k n ys

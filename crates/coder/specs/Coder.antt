@@ -1,30 +1,19 @@
--- The block of a table of levels, and what coding it requires. 01 "From bits to cells".
+-- The cells of a block from its dispersed bits, and what coding it requires. 01 "From bits to cells".
 use Prim.Native.Nat.{ℕ, _+_, _*_, _/_, _%_, _≤_, _<_}
 use mathlib.Core.Path.{_≡_}
 use mathlib.Core.Bool.{Bool, cond}
 use mathlib.Core.List.{List}
-use lib.ListN.{length, getD}
+use lib.ListN.{length}
 use lib.IntN.{ℤ}
 use Rattle.block.specs.Packing.{bytesOf}
-use Rattle.block.specs.Mapping.{constellation, mapped, woven}
+use Rattle.block.specs.Mapping.{mapped, woven}
 use Rattle.block.specs.Block.{Block, bitCount, streamsOf}
 use Rattle.block.specs.Fits.{BlockFits}
-use Rattle.block.specs.Plan.{levelsOf}
-
--- The block with the levels of this table: v bits dispersed by themselves in front, whether each level has one axis only, constellation c, n cells.
-abbrev pub blockOf : List ℕ → ℕ → Bool → ℕ → ℕ → Block
-blockOf plan v one c n = record { vspp = v; levels = levelsOf plan; oneAxis = one; points = constellation c; cells = n }
+use Rattle.block.specs.Plan.{blockOf, Known}
 
 -- The cells of a block from its dispersed bits.
 unfoldable pub cellsBy : Block → List ℕ → List ℤ
 cellsBy k u = mapped (k .points) (2 * k .cells) (cond (k .oneAxis) (woven (streamsOf k u)) (streamsOf k u))
-
--- Every number of the table that stands for a pattern is that of a pattern, and every t is that of an interleaver.
-pub record Known (plan : List ℕ) : Type 0 where
-  pub numberA : (l : ℕ) → getD plan (6 * l + 2) 0 < 25
-  pub numberB : (l : ℕ) → getD plan (6 * l + 3) 0 < 25
-  pub numberTail : (l : ℕ) → getD plan (6 * l + 4) 0 < 25
-  pub small : (l : ℕ) → getD plan (6 * l + 5) 0 < 64
 
 -- What coding a block requires: levels that fit, as many bytes as its bits take, whole cells, n1 of them of part A; at most 6,118 cells and 36,708 bits.
 pub record CodesBlock (plan : List ℕ) (v : ℕ) (one : Bool) (c n1 : ℕ) (bytes : List ℕ) (out : List ℤ) : Type 0 where

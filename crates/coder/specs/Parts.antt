@@ -8,9 +8,9 @@ use lib.IntN.{ℤ}
 use Rattle.component.specs.Bits.{Bits}
 use Rattle.block.specs.Block.{bitCount}
 use Rattle.block.specs.Fits.{BlockFits}
-use Rattle.block.specs.Plan.{bitsBefore, LevelReady}
-use Rattle.block.specs.Requirements.{Numbers}
-use Rattle.coder.specs.Coder.{blockOf, Known, CodesBlock}
+use Rattle.block.specs.Plan.{bitsBefore, LevelReady, blockOf, Known}
+use Rattle.mapping.specs.Requirements.{Numbers}
+use Rattle.coder.specs.Coder.{CodesBlock}
 
 -- Bytes that hold the bits wanted, the first v of which are dispersed by themselves.
 pub record UnpacksParts (bytes : List ℕ) (v : ℕ) (bits : List ℕ) : Type 0 where

@@ -2,16 +2,16 @@
 use crate::parts::map_axes_parts;
 use crate::parts::map_parts;
 use crate::parts::unpack_parts;
-use block::blocks::bits_before;
-use block::blocks::code_levels;
+use levels::plan::bits_before;
+use levels::plan::code_levels;
 ghost use mathlib.Core.Path.{_≡_};
 ghost use Prim.Native.Nat.{_/_};
 ghost use lib.ListN.{length};
 ghost use Rattle.block.specs.Levels.{streams};
 ghost use Rattle.block.specs.Mapping.{constellation, mapped, woven};
 ghost use Rattle.block.specs.Block.{cellsFrom};
-ghost use Rattle.block.specs.Plan.{levelsOf};
-ghost use Rattle.coder.specs.Coder.{blockOf, cellsBy, CodesBlock};
+ghost use Rattle.block.specs.Plan.{levelsOf, blockOf};
+ghost use Rattle.coder.specs.Coder.{cellsBy, CodesBlock};
 ghost use Rattle.coder.specs.Parts.{CodesBoth, CodesAxes, CodesBits, CodesBlockIn, CodesBlockWith};
 
 // Levels whose bits go alternately to the real and the imaginary axis.

@@ -1,13 +1,13 @@
 // The steps from packed bytes to cells that treat a block in two parts. 01 "Dispersal" and "Mapping".
-use block::bits::unpack;
-use block::points::map_axes;
-use block::points::map_cells;
+use mapping::points::map_axes;
+use mapping::points::map_cells;
+use packing::bits::unpack;
 ghost use mathlib.Core.Path.{_≡_};
 ghost use lib.ListN.{length};
 ghost use Rattle.block.specs.Packing.{unpacked};
 ghost use Rattle.block.specs.Dispersal.{dispersedParts};
 ghost use Rattle.block.specs.Mapping.{constellation, weave};
-ghost use Rattle.block.specs.Numbers.{coordinates};
+ghost use Rattle.mapping.specs.Numbers.{coordinates};
 ghost use Rattle.coder.specs.Parts.{UnpacksParts, MapsParts, MapsAxesParts};
 
 // The bits of the very strongly protected part and the remainder: the sequence starts anew for each.

@@ -2,17 +2,17 @@
 use Prim.Native.Nat.{ℕ, zero, suc, _+_, _*_, _/_, _%_, _^_, _<_}
 use mathlib.Core.Path.{_≡_, refl, _∙_}
 use mathlib.Core.Bool.{Bool, true, false, cond}
-use mathlib.Core.List.{List, [], _∷_, _++_, append-assoc}
+use mathlib.Core.List.{List, [], _∷_, _++_, append-assoc, append-nil}
 use native.Mathlib.Nat.{add-assoc, pow-suc}
 use native.Mathlib.Omega.{arith}
 use borrow.Author.Tests.{ltb-true}
-use lib.Dec.{eqb, ltb}
-use lib.ListN.{length, getD, length-append}
+use lib.Dec.{eqb, ltb, lit<}
+use lib.ListN.{length, getD, replicate, length-append}
 use lib.Seq.{sets}
 use lib.Count.{ones, onesIn, ones-step}
 use Rattle.component.specs.Bits.{Bits}
 use Rattle.component.specs.Register.{next, parity, parities, after}
-use Rattle.component.specs.Codeword.{kept, following, encode, codeword, Segment}
+use Rattle.component.specs.Codeword.{kept, following, encode, codeword, tailBits, Segment}
 use Rattle.component.specs.Decoding.{codedLength, Sound}
 use Rattle.component.proofs.Bits.{bits-nil, bits-cons, bits-head, bits-rest, bits-append}
 use Rattle.component.proofs.Sets.{sets-append}
@@ -147,3 +147,34 @@ pub length-codeword : (r : ℕ) (s : Segment) (ss : List Segment) → Sound (s .
     → length (codeword r (s ∷ ss)) ≡ codedLength (s .pattern) 0 (length (s .bits)) + length (codeword (after r (s .bits)) ss)
 unfolding codeword
 length-codeword r s ss S = rw (length-append, length-encode S r 0 (s .bits) (S .some))
+
+-- a codeword of one segment, and of two: the register goes on
+pub codeword-one : (r : ℕ) (s : Segment) → codeword r (s ∷ []) ≡ encode (s .pattern) r 0 (s .bits)
+unfolding codeword
+codeword-one r s = append-nil (encode (s .pattern) r 0 (s .bits))
+
+pub codeword-two : (r : ℕ) (s u : Segment) → codeword r (s ∷ u ∷ []) ≡ encode (s .pattern) r 0 (s .bits) ++ encode (u .pattern) (after r (s .bits)) 0 (u .bits)
+unfolding codeword
+codeword-two r s u = rw (append-nil (encode (u .pattern) (after r (s .bits)) 0 (u .bits)))
+
+-- the tail is six zeros, which are bits
+pub tail-is : tailBits ≡ replicate 6 0
+unfolding tailBits
+tail-is = refl
+
+pub length-tail : length tailBits ≡ 6
+unfolding tailBits
+length-tail = refl
+
+pub bits-tail : Bits tailBits
+unfolding tailBits
+bits-tail = zeros 6
+  where
+    zeros : (n : ℕ) → Bits (replicate n 0)
+    zeros zero = bits-nil
+    zeros (suc n) = bits-cons (lit< tt) (zeros n)
+
+-- no input bits give no coded bits
+pub coded-none : (p : List ℕ) (i : ℕ) → codedLength p i 0 ≡ 0
+unfolding codedLength
+coded-none p i = refl

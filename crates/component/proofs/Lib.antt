@@ -1,7 +1,3 @@
-pub mod Counting
-pub mod Cycle
-pub mod Size
-pub mod Places
 pub mod Bits
 pub mod Sets
 pub mod Tests
@@ -12,6 +8,3 @@ pub mod Patterns
 pub mod Lengths
 mod Encoding
 mod Reading
-pub mod Tables
-pub mod Interleaving
-pub mod Weights

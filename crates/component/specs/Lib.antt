@@ -1,10 +1,6 @@
-pub mod Lists
 pub mod Bits
 pub mod Register
 pub mod Patterns
 pub mod Codeword
 pub mod Decoding
 pub mod Coding
-pub mod Interleaving
-pub mod Deinterleaving
-pub mod Weights

@@ -1,3 +1,2 @@
-// The component code and the interleaver: what every block of the coder is built on.
+// The component code of a segment.
 pub mod code;
-pub mod interleaver;

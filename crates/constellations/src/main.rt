@@ -1,6 +1,6 @@
 // Writes every point of the five constellations: the constellation, the numbers of level bits of its real and imaginary axis, and its coordinates.
-use block::points::map_cells;
 use libc::STDOUT_FILENO;
+use mapping::points::map_cells;
 ghost use Prim.Native.Nat.{_<_};
 
 fn write_number(n: u64) {

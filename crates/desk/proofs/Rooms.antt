@@ -14,7 +14,8 @@ use Rattle.settings.specs.Accepted.{Accepted}
 use Rattle.settings.specs.Sizes.{bytesFor, frameBytes, sdcBytes, noSizes, allSizes, sizesOf}
 use Rattle.settings.proofs.Bounds.{accepted-of}
 use Rattle.settings.proofs.Buffers.{frame-low, memory-low, sizes-accepts, sizes-refuses}
-use Rattle.desk.specs.Room.{Enough, framesLength}
+use Rattle.desk.specs.Room.{Enough}
+use Rattle.desk.specs.Output.{framesLength}
 
 all-enough : (s : Settings) → Accepted s → Enough (allSizes s)
 unfolding allSizes sdcBytes frameBytes bytesFor roundUp facCells

@@ -5,7 +5,7 @@ use mathlib.Core.List.{List}
 use lib.ListN.{length, getD}
 use lib.IntN.{ℤ, pos, negsuc}
 use lib.Dec.{ltb, eqb}
-use Rattle.component.specs.Lists.{table}
+use Rattle.lists.specs.Lists.{table}
 
 -- The number from 0 to 65535 that stands for a signed one, and back.
 unfoldable pub unsigned : ℤ → ℕ

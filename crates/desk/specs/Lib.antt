@@ -1,3 +1,4 @@
 pub mod Cells
 pub mod Words
+pub mod Output
 pub mod Room

@@ -1,11 +1,9 @@
 -- The room that the programs have for a super frame.
-use Prim.Native.Nat.{ℕ, _*_, _/_, _≤_}
+use Prim.Native.Nat.{ℕ, _+_, _*_, _≤_}
 use mathlib.Core.Path.{_≡_}
-use mathlib.Core.Bool.{cond}
 use mathlib.Core.List.{List}
 use lib.ListN.{length}
 use lib.IntN.{ℤ}
-use lib.Dec.{ltb}
 use Rattle.settings.specs.declared.Sizes.{Sizes}
 
 -- No settings need more.
@@ -17,22 +15,23 @@ pub record Enough (z : Sizes) : Type 0 where
   pub mscnumbers : z .mscnumbers ≤ 36712
   pub memory : z .memory ≤ 61180
 
--- Room for the bytes of the cells of a super frame, one kind after the other.
-pub record Raw (faccells sdccells msccells : List ℤ) (raw : List ℕ) : Type 0 where
-  pub facraw : 2 * length faccells ≤ length raw
-  pub sdcraw : 2 * length sdccells ≤ length raw
-  pub mscraw : 2 * length msccells ≤ length raw
+-- A buffer for a super frame's bytes, one for its cells and one for their bytes, each as long as the sizes ask for.
+pub record BytesLent (z : Sizes) (bytes : List ℕ) : Type 0 where
+  pub byteroom : length bytes ≡ 27 + z .sdcbytes + z .mscbytes
 
--- The length of the first n of three frames in so many bytes.
-unfoldable pub framesLength : ℕ → ℕ → ℕ
-framesLength n all = cond (ltb n 3) (n * (all / 3)) all
+pub record CellsLent (z : Sizes) (cells : List ℤ) : Type 0 where
+  pub cellroom : length cells ≡ 390 + z .sdcnumbers + z .mscnumbers
 
--- Buffers of their full lengths; those of the FAC are of their length in any case.
-pub record Lent (sdc msc : List ℕ) (memory faccells sdccells msccells : List ℤ) (raw : List ℕ) : Type 0 where
-  pub sdcroom : length sdc ≡ 210
-  pub mscroom : length msc ≡ 13767
-  pub room : length memory ≡ 61180
-  pub facroom : length faccells ≡ 390
-  pub sdccellroom : length sdccells ≡ 1692
-  pub msccellroom : length msccells ≡ 36712
-  pub rawroom : length raw ≡ 73424
+pub record CellBytesLent (z : Sizes) (bytes : List ℕ) : Type 0 where
+  pub byteroom : length bytes ≡ 2 * (390 + z .sdcnumbers + z .mscnumbers)
+
+-- Bytes and cells of a super frame, no longer than any settings need.
+pub record BlockRoom (fac sdc msc : List ℕ) : Type 0 where
+  pub facmost : length fac ≤ 27
+  pub sdcmost : length sdc ≤ 210
+  pub mscmost : length msc ≤ 13767
+
+pub record CellRoom (fac sdc msc : List ℤ) : Type 0 where
+  pub facmost : length fac ≤ 390
+  pub sdcmost : length sdc ≤ 1692
+  pub mscmost : length msc ≤ 36712

@@ -1,22 +1,21 @@
 -- A refusal in words: its number, and its block. 01 "Operations".
-use Prim.Native.Nat.{ℕ, _≤_}
+use Prim.Native.Nat.{ℕ}
 use Prim.Native.Char.{code}
 use Prim.Native.String.{String, len, charAt}
-use mathlib.Core.Path.{_≡_}
 use mathlib.Core.Bool.{cond}
-use mathlib.Core.List.{List, [], _∷_}
-use lib.ListN.{length, getD}
-use lib.Seq.{sets}
+use mathlib.Core.List.{List, [], _∷_, map}
+use lib.ListN.{length, getD, take}
 use lib.Dec.{ltb, eqb}
-use Rattle.component.specs.Lists.{table}
+use Rattle.lists.specs.Lists.{table}
+use Rattle.superframe.specs.Call.{joined}
 
 -- The bytes of a text.
 unfoldable pub bytesIn : String → List ℕ
 bytesIn text = table (λ i. code (charAt text i)) 0 (len text)
 
--- What each number from 0 to 14 says.
-unfoldable pub refusalTexts : List String
-refusalTexts =
+-- What each number from 0 to 14 says, what any other number says, and what a block is.
+unfoldable pub texts : List String
+texts =
     "accepted"
     ∷ "robustness mode not 0 to 3"
     ∷ "spectrum occupancy not allowed for the robustness mode"
@@ -32,23 +31,32 @@ refusalTexts =
     ∷ "state or memory out of order"
     ∷ "a cell that is no point of its constellation, or a wrong filler"
     ∷ "a block that no bits give"
+    ∷ "unknown"
+    ∷ "FAC"
+    ∷ "SDC"
+    ∷ "multiplex frame"
+    ∷ "MSC cells"
+    ∷ "fillers"
     ∷ []
 
-unfoldable pub refusalWords : ℕ → List ℕ
-refusalWords number = bytesIn (getD refusalTexts number "unknown")
+-- All of them, one behind the other.
+unfoldable pub textBytes : List ℕ
+textBytes = joined (map bytesIn texts)
 
--- What a block is: 0 to 2 FAC, 3 SDC, then for 13 the three sent rows of MSC cells and 7 the fillers, for 14 the finished frames.
-unfoldable pub blockText : ℕ → ℕ → String
-blockText number block =
-    cond (ltb block 3) "FAC"
-    (cond (eqb block 3) "SDC"
-    (cond (eqb number 14) "multiplex frame" (cond (ltb block 7) "MSC cells" "fillers")))
+-- Where a text starts among them; the end of the last one is start 21.
+unfoldable pub start : ℕ → ℕ
+start k = length (joined (take k (map bytesIn texts)))
+
+-- The bytes of a text by its number.
+unfoldable pub words : ℕ → List ℕ
+words k = getD (map bytesIn texts) k []
+
+unfoldable pub refusalWords : ℕ → List ℕ
+refusalWords number = words (cond (ltb number 15) number 15)
+
+-- The text of a block: 0 to 2 FAC, 3 SDC, then for 13 the three sent rows of MSC cells and 7 the fillers, for 14 the finished frames.
+unfoldable pub blockText : ℕ → ℕ → ℕ
+blockText number block = cond (ltb block 3) 16 (cond (eqb block 3) 17 (cond (eqb number 14) 18 (cond (ltb block 7) 19 20)))
 
 unfoldable pub blockWords : ℕ → ℕ → List ℕ
-blockWords number block = bytesIn (blockText number block)
-
--- Words at the start of a line of 64 bytes, and how many bytes they are.
-pub record Says (words line : List ℕ) (r : ℕ) (line′ : List ℕ) : Type 0 where
-  pub written : line′ ≡ sets line 0 words
-  pub long : r ≡ length words
-  pub fits : r ≤ 64
+blockWords number block = words (blockText number block)

@@ -27,6 +27,13 @@ pub fn msc_bytes() -> [u8; 13767]
     [0u8; 13767]
 }
 
+// The bytes of a super frame: FAC, SDC, a number of frames, and MSC.
+pub fn bytes() -> [u8; 14005]
+    ensures { λ r. ⌜ r ≡ replicate 14005 0 ⌝ }
+{
+    [0u8; 14005]
+}
+
 pub fn fac_cells() -> [i16; 390]
     ensures { λ r. ⌜ r ≡ replicate 390 (pos 0) ⌝ }
 {
@@ -45,9 +52,16 @@ pub fn msc_cells() -> [i16; 36712]
     [0i16; 36712]
 }
 
-// The bytes of the longest cells, those of the MSC.
-pub fn raw_bytes() -> [u8; 73424]
-    ensures { λ r. ⌜ r ≡ replicate 73424 0 ⌝ }
+// The cells of a super frame: FAC, SDC and MSC.
+pub fn cells() -> [i16; 38794]
+    ensures { λ r. ⌜ r ≡ replicate 38794 (pos 0) ⌝ }
 {
-    [0u8; 73424]
+    [0i16; 38794]
+}
+
+// Their bytes.
+pub fn cell_bytes() -> [u8; 77588]
+    ensures { λ r. ⌜ r ≡ replicate 77588 0 ⌝ }
+{
+    [0u8; 77588]
 }

@@ -1,8 +1,9 @@
 // Cells as bytes: 16-bit two's-complement numbers, low byte first.
 ghost use mathlib.Core.Path.{_≡_};
 ghost use mathlib.Core.Bool.{cond};
-ghost use Prim.Native.Nat.{_+_, _*_, _/_, _%_};
+ghost use Prim.Native.Nat.{_+_, _*_, _/_, _%_, _≤_};
 ghost use lib.ListN.{length};
+ghost use lib.Seq.{sets};
 ghost use lib.Dec.{eqb};
 ghost use Rattle.desk.specs.Cells.{unsigned, signed, cellBytes, bytesCells};
 
@@ -36,14 +37,15 @@ fn byte_of(n: u16, half: usize) -> u8
     (n / 256) as u8
 }
 
-// Numbers to bytes.
-pub fn put_cells(cells: &[i16], bytes: &mut [u8])
-    requires { ⌜ length (now bytes) ≡ 2 * length (now cells) ⌝ }
-    ensures { λ r. ⌜ now (bytes .exit) ≡ cellBytes (now (cells .entry)) ⌝ }
+// The bytes of numbers from a place on.
+pub fn put_cells(cells: &[i16], out: &mut [u8], at: usize)
+    requires { ⌜ at + 2 * length (now cells) ≤ length (now out) ⌝ }
+    ensures { λ r. ⌜ now (out .exit) ≡ sets (now (out .entry)) at (cellBytes (now (cells .entry))) ⌝ }
 {
+    let n = 2 * cells.len();
     let mut k = 0;
-    while k < bytes.len() {
-        bytes[k] = byte_of(unsigned(cells[k / 2]), k % 2);
+    while k < n {
+        out[at + k] = byte_of(unsigned(cells[k / 2]), k % 2);
         k += 1;
     }
 }
@@ -54,13 +56,14 @@ fn number_of(low: u8, high: u8) -> u16
     low as u16 + 256 * high as u16
 }
 
-// Bytes to numbers.
+// The numbers of bytes from the start of a buffer on.
 pub fn take_cells(bytes: &[u8], cells: &mut [i16])
-    requires { ⌜ length (now bytes) ≡ 2 * length (now cells) ⌝ }
-    ensures { λ r. ⌜ now (cells .exit) ≡ bytesCells (now (bytes .entry)) ⌝ }
+    requires { ⌜ length (now bytes) ≤ 2 * length (now cells) ⌝ }
+    ensures { λ r. ⌜ now (cells .exit) ≡ sets (now (cells .entry)) 0 (bytesCells (now (bytes .entry))) ⌝ }
 {
+    let n = bytes.len() / 2;
     let mut i = 0;
-    while i < cells.len() {
+    while i < n {
         cells[i] = signed(number_of(bytes[2 * i], bytes[2 * i + 1]));
         i += 1;
     }

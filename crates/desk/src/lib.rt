@@ -1,5 +1,6 @@
 // What desk_code and desk_read share.
 pub mod buffers;
+pub mod bytes;
 pub mod cells;
 pub mod input;
 pub mod output;

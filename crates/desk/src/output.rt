@@ -1,30 +1,34 @@
-// Writing to standard output. Each function answers whether all was written.
+// A super frame as it goes to standard output: its bytes in one buffer, and one write.
+use crate::buffers;
+use crate::bytes::put_bytes;
 use crate::cells::put_cells;
 use libc::STDOUT_FILENO;
 ghost use mathlib.Core.Path.{_≡_};
-ghost use Prim.Native.Nat.{_*_, _≤_};
+ghost use Prim.Native.Nat.{_+_, _*_, _≤_};
 ghost use lib.ListN.{length};
-ghost use Rattle.desk.specs.Room.{Raw, framesLength};
+ghost use Rattle.desk.specs.Room.{CellRoom, BlockRoom};
+ghost use Rattle.desk.specs.Output.{Joined, framesLength, cellOutput, blockOutput};
 
-fn write_cells(cells: &[i16], raw: &mut [u8]) -> bool
-    requires { ⌜ 2 * length (now cells) ≤ length (now raw) ⌝ }
+// The bytes of the cells of a super frame from the start of a buffer on, and how many there are.
+pub fn join_cells(fac: &[i16], sdc: &[i16], msc: &[i16], out: &mut [u8]) -> usize
+    requires { ⌜ 2 * length (now fac) + 2 * length (now sdc) + 2 * length (now msc) ≤ length (now out) ⌝ }
+    ensures { λ r. ⌜ Joined (length (now (out .entry))) (cellOutput (now (fac .entry)) (now (sdc .entry)) (now (msc .entry))) (now (out .entry)) r (now (out .exit)) ⌝ }
 {
-    let n = 2 * cells.len();
-    put_cells(cells, &mut raw[0..n]);
-    io::write_all(STDOUT_FILENO, &raw[0..n])
+    let a = 2 * fac.len();
+    let b = a + 2 * sdc.len();
+    put_cells(fac, out, 0);
+    put_cells(sdc, out, a);
+    put_cells(msc, out, b);
+    b + 2 * msc.len()
 }
 
-// The cells of a super frame.
-pub fn write_all_cells(fac: &[i16], sdc: &[i16], msc: &[i16], raw: &mut [u8]) -> bool
-    requires { ⌜ Raw (now fac) (now sdc) (now msc) (now raw) ⌝ }
+// Whether the cells of a super frame were written. No contract can say what is written.
+pub fn write_cells(fac: &[i16], sdc: &[i16], msc: &[i16]) -> bool
+    requires { ⌜ CellRoom (now fac) (now sdc) (now msc) ⌝ }
 {
-    if !write_cells(fac, raw) {
-        return false;
-    }
-    if !write_cells(sdc, raw) {
-        return false;
-    }
-    write_cells(msc, raw)
+    let mut out = buffers::cell_bytes();
+    let n = join_cells(fac, sdc, msc, &mut out);
+    io::write_all(STDOUT_FILENO, &out[0..n])
 }
 
 // The length of the first n of three frames.
@@ -40,17 +44,26 @@ fn frames_length(n: u8, all: usize) -> usize
     }
 }
 
-// The bytes of a super frame: FAC, SDC, the number of finished frames, and those frames.
-pub fn write_blocks(fac: &[u8], sdc: &[u8], n: u8, msc: &[u8]) -> bool {
+// FAC, SDC, the number of finished frames, and those frames, from the start of a buffer on, and how many bytes there are.
+pub fn join_blocks(fac: &[u8], sdc: &[u8], n: u8, msc: &[u8], out: &mut [u8]) -> usize
+    requires { ⌜ length (now fac) + length (now sdc) + 1 + length (now msc) ≤ length (now out) ⌝ }
+    ensures { λ r. ⌜ Joined (length (now (out .entry))) (blockOutput (now (fac .entry)) (now (sdc .entry)) n (now (msc .entry))) (now (out .entry)) r (now (out .exit)) ⌝ }
+{
     let end = frames_length(n, msc.len());
-    if !io::write_all(STDOUT_FILENO, fac) {
-        return false;
-    }
-    if !io::write_all(STDOUT_FILENO, sdc) {
-        return false;
-    }
-    if !io::write_all(STDOUT_FILENO, &[n]) {
-        return false;
-    }
-    io::write_all(STDOUT_FILENO, &msc[0..end])
+    let a = fac.len();
+    let b = a + sdc.len();
+    put_bytes(fac, out, 0);
+    put_bytes(sdc, out, a);
+    put_bytes(&[n], out, b);
+    put_bytes(&msc[0..end], out, b + 1);
+    b + 1 + end
+}
+
+// Whether the bytes of a super frame were written. No contract can say what is written.
+pub fn write_blocks(fac: &[u8], sdc: &[u8], n: u8, msc: &[u8]) -> bool
+    requires { ⌜ BlockRoom (now fac) (now sdc) (now msc) ⌝ }
+{
+    let mut out = buffers::bytes();
+    let end = join_blocks(fac, sdc, n, msc, &mut out);
+    io::write_all(STDOUT_FILENO, &out[0..end])
 }

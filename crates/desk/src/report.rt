@@ -1,4 +1,4 @@
-// The argument, and what is said on standard error.
+// The argument, and what is said on standard error. No contract can say what an argument is or what is written.
 use crate::End;
 use crate::Run;
 use crate::words;
@@ -31,17 +31,11 @@ fn say_first(line: &[u8; 64], n: usize)
     say(&all[0..n]);
 }
 
-fn say_number(n: u64) {
+// A number between two texts.
+fn say_around(before: &[u8], n: u64, after: &[u8]) {
+    say(before);
     io::print_decimal(STDERR_FILENO, n);
-}
-
-// The number of a refusal and its words.
-fn say_refusal(number: u8) {
-    let mut line = [0u8; 64];
-    let n = words::refusal_words(number, &mut line);
-    say_number(number as u64);
-    say(b", ");
-    say_first(&line, n);
+    say(after);
 }
 
 // The block of a refusal and its words; refusals below 13 name none.
@@ -51,10 +45,18 @@ fn say_block(number: u8, block: u8) {
     }
     let mut line = [0u8; 64];
     let n = words::block_words(number, block, &mut line);
-    say(b"; block ");
-    say_number(block as u64);
-    say(b", ");
+    say_around(b"; block ", block as u64, b", ");
     say_first(&line, n);
+}
+
+// The number of a refusal, its words, and its block.
+fn say_refused(number: u8, block: u8) {
+    let mut line = [0u8; 64];
+    let n = words::refusal_words(number, &mut line);
+    say_around(b" refused: ", number as u64, b", ");
+    say_first(&line, n);
+    say_block(number, block);
+    say(b"\n");
 }
 
 pub fn say_usage(program: &[u8]) {
@@ -64,38 +66,23 @@ pub fn say_usage(program: &[u8]) {
 }
 
 pub fn say_settings_refused(number: u8) {
-    say(b"settings refused: ");
-    say_refusal(number);
-    say(b"\n");
+    say(b"settings");
+    say_refused(number, 0);
+}
+
+fn say_refused_frame(index: u64, number: u8, block: u8) {
+    say_around(b"super frame ", index, b"");
+    say_refused(number, block);
 }
 
 // The error that ended a run, if any, at the super frame of an index.
 fn say_end(end: End, index: u64) {
     match end {
         End::Whole => (),
-        End::Inside => {
-            say(b"input ends inside super frame ");
-            say_number(index);
-            say(b"\n");
-        }
-        End::Unread => {
-            say(b"super frame ");
-            say_number(index);
-            say(b" not read: the input failed\n");
-        }
-        End::Unwritten => {
-            say(b"super frame ");
-            say_number(index);
-            say(b" not written: the output failed\n");
-        }
-        End::Refused(number, block) => {
-            say(b"super frame ");
-            say_number(index);
-            say(b" refused: ");
-            say_refusal(number);
-            say_block(number, block);
-            say(b"\n");
-        }
+        End::Inside => say_around(b"input ends inside super frame ", index, b"\n"),
+        End::Unread => say_around(b"super frame ", index, b" not read: the input failed\n"),
+        End::Unwritten => say_around(b"super frame ", index, b" not written: the output failed\n"),
+        End::Refused(number, block) => say_refused_frame(index, number, block),
     }
 }
 
@@ -103,7 +90,5 @@ fn say_end(end: End, index: u64) {
 pub fn say_run(run: Run) {
     let end = run.end;
     say_end(end, run.count);
-    say(b"super frames: ");
-    say_number(run.count);
-    say(b"\n");
+    say_around(b"super frames: ", run.count, b"\n");
 }

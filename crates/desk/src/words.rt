@@ -1,67 +1,117 @@
 // A refusal in words.
+use crate::bytes::put_bytes;
 ghost use mathlib.Core.Path.{_≡_};
-ghost use Prim.Native.Nat.{_≤_};
-ghost use lib.ListN.{length};
-ghost use Rattle.desk.specs.Words.{Says, refusalWords, blockWords};
+ghost use Prim.Native.Nat.{_<_};
+ghost use Rattle.desk.specs.Output.{Joined};
+ghost use Rattle.desk.specs.Words.{textBytes, start, words, blockText, refusalWords, blockWords};
 
-// A text from the start of a line on.
-fn put(text: &[u8], out: &mut [u8; 64]) -> usize
-    requires { ⌜ length (now text) ≤ 64 ⌝ }
-    ensures { λ r. ⌜ Says (now (text .entry)) (now (out .entry)) r (now (out .exit)) ⌝ }
+// What each number from 0 to 14 says, what any other number says, and what a block is, one text behind the other.
+const TEXTS: [u8; 515] = *b"accepted\
+    robustness mode not 0 to 3\
+    spectrum occupancy not allowed for the robustness mode\
+    MSC mode not 0 to 3\
+    protection level A or B not allowed for the MSC mode\
+    VSPP level not allowed for the MSC mode\
+    SDC mode or interleaving not 0 or 1\
+    too many bytes in part A\
+    memory of the wrong length\
+    an input of the wrong length\
+    an output of the wrong length\
+    a spare bit set\
+    state or memory out of order\
+    a cell that is no point of its constellation, or a wrong filler\
+    a block that no bits give\
+    unknown\
+    FAC\
+    SDC\
+    multiplex frame\
+    MSC cells\
+    fillers";
+
+// Where each text starts, and where the last one ends.
+const STARTS: [usize; 22] = [
+    0,
+    8,
+    34,
+    88,
+    107,
+    159,
+    198,
+    233,
+    257,
+    283,
+    311,
+    340,
+    355,
+    383,
+    446,
+    471,
+    478,
+    481,
+    484,
+    499,
+    508,
+    515,
+];
+
+fn texts() -> [u8; 515]
+    ensures { λ r. ⌜ r ≡ textBytes ⌝ }
 {
-    let mut k = 0;
-    while k < text.len() {
-        out[k] = text[k];
-        k += 1;
-    }
-    k
+    TEXTS
+}
+
+fn start(k: usize) -> usize
+    requires { ⌜ k < 22 ⌝ }
+    ensures { λ r. ⌜ r ≡ start k ⌝ }
+{
+    STARTS[k]
+}
+
+// A text from the start of a line on, and its length.
+fn put_text(k: usize, out: &mut [u8; 64]) -> usize
+    requires { ⌜ k < 21 ⌝ }
+    ensures { λ r. ⌜ Joined 64 (words k) (now (out .entry)) r (now (out .exit)) ⌝ }
+{
+    let all = texts();
+    let from = start(k);
+    let to = start(k + 1);
+    put_bytes(&all[from..to], out, 0);
+    to - from
 }
 
 // What a refusal's number says.
 pub fn refusal_words(number: u8, out: &mut [u8; 64]) -> usize
-    ensures { λ r. ⌜ Says (refusalWords number) (now (out .entry)) r (now (out .exit)) ⌝ }
+    ensures { λ r. ⌜ Joined 64 (refusalWords number) (now (out .entry)) r (now (out .exit)) ⌝ }
 {
-    match number {
-        0 => put(b"accepted", out),
-        1 => put(b"robustness mode not 0 to 3", out),
-        2 => put(
-            b"spectrum occupancy not allowed for the robustness mode",
-            out,
-        ),
-        3 => put(b"MSC mode not 0 to 3", out),
-        4 => put(b"protection level A or B not allowed for the MSC mode", out),
-        5 => put(b"VSPP level not allowed for the MSC mode", out),
-        6 => put(b"SDC mode or interleaving not 0 or 1", out),
-        7 => put(b"too many bytes in part A", out),
-        8 => put(b"memory of the wrong length", out),
-        9 => put(b"an input of the wrong length", out),
-        10 => put(b"an output of the wrong length", out),
-        11 => put(b"a spare bit set", out),
-        12 => put(b"state or memory out of order", out),
-        13 => put(
-            b"a cell that is no point of its constellation, or a wrong filler",
-            out,
-        ),
-        14 => put(b"a block that no bits give", out),
-        _ => put(b"unknown", out),
+    if number < 15 {
+        return put_text(number as usize, out);
     }
+    put_text(15, out)
+}
+
+// The number of the text that says what the block of a refusal 13 or 14 is.
+fn block_text(number: u8, block: u8) -> usize
+    ensures { λ r. ⌜ r ≡ blockText number block ⌝ }
+    ensures { λ r. ⌜ r < 21 ⌝ }
+{
+    if block < 3 {
+        return 16;
+    }
+    if block == 3 {
+        return 17;
+    }
+    if number == 14 {
+        return 18;
+    }
+    if block < 7 {
+        return 19;
+    }
+    20
 }
 
 // What the block of a refusal 13 or 14 is.
 pub fn block_words(number: u8, block: u8, out: &mut [u8; 64]) -> usize
-    ensures { λ r. ⌜ Says (blockWords number block) (now (out .entry)) r (now (out .exit)) ⌝ }
+    ensures { λ r. ⌜ Joined 64 (blockWords number block) (now (out .entry)) r (now (out .exit)) ⌝ }
 {
-    if block < 3 {
-        return put(b"FAC", out);
-    }
-    if block == 3 {
-        return put(b"SDC", out);
-    }
-    if number == 14 {
-        return put(b"multiplex frame", out);
-    }
-    if block < 7 {
-        return put(b"MSC cells", out);
-    }
-    put(b"fillers", out)
+    put_text(block_text(number, block), out)
 }

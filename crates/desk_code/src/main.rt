@@ -6,102 +6,98 @@ use desk::Run;
 use desk::Step;
 use desk::buffers;
 use desk::input::Got;
-use desk::input::read_blocks;
-use desk::output::write_all_cells;
+use desk::input::read_super_frame;
+use desk::output::write_cells;
 use desk::report;
 use line::Parsed;
 use settings::Settings;
 use settings::Sizes;
 use settings::answers;
+use superframe::Done;
 use superframe::State;
-ghost use Rattle.desk.specs.Room.{Enough, Raw, Lent};
+ghost use Prim.Native.Nat.{_≤_};
+ghost use lib.ListN.{length};
+ghost use Rattle.desk.specs.Room.{Enough, BytesLent, CellRoom};
 
-// A super frame whose bytes have come.
-fn code_super_frame(
-    state: State,
-    fac: &[u8],
-    sdc: &[u8],
-    msc: &[u8],
-    memory: &mut [i16],
-    faccells: &mut [i16],
-    sdccells: &mut [i16],
-    msccells: &mut [i16],
-    raw: &mut [u8],
-) -> Step
-    requires { ⌜ Raw (now faccells) (now sdccells) (now msccells) (now raw) ⌝ }
+// A super frame that was coded, refused or not.
+fn write_coded(done: Done, fac: &[i16], sdc: &[i16], msc: &[i16]) -> Step
+    requires { ⌜ CellRoom (now fac) (now sdc) (now msc) ⌝ }
 {
-    let done = code(state, fac, sdc, msc, memory, faccells, sdccells, msccells);
     if done.refusal != 0 {
         return Step::Over(End::Refused(done.refusal, 0));
     }
-    if !write_all_cells(faccells, sdccells, msccells, raw) {
+    if !write_cells(fac, sdc, msc) {
         return Step::Over(End::Unwritten);
     }
     let after = done.state;
     Step::On(after)
 }
 
-// The next super frame, if there is one.
-fn next(
+// A super frame whose bytes have come; those of the MSC start at a place.
+fn code_super_frame(
     state: State,
-    fac: &mut [u8],
-    sdc: &mut [u8],
-    msc: &mut [u8],
+    bytes: &[u8],
+    at: usize,
     memory: &mut [i16],
-    faccells: &mut [i16],
-    sdccells: &mut [i16],
-    msccells: &mut [i16],
-    raw: &mut [u8],
+    fac: &mut [i16],
+    sdc: &mut [i16],
+    msc: &mut [i16],
 ) -> Step
-    requires { ⌜ Raw (now faccells) (now sdccells) (now msccells) (now raw) ⌝ }
+    requires { ⌜ (27 ≤ at) × (at ≤ length (now bytes)) × CellRoom (now fac) (now sdc) (now msc) ⌝ }
 {
-    let got = read_blocks(fac, sdc, msc);
+    let done = code(
+        state,
+        &bytes[0..27],
+        &bytes[27..at],
+        &bytes[at..],
+        memory,
+        fac,
+        sdc,
+        msc,
+    );
+    write_coded(done, fac, sdc, msc)
+}
+
+// The same with buffers of its own for the cells, of which the sizes ask for a part.
+fn code_bytes(state: State, z: Sizes, bytes: &[u8], memory: &mut [i16]) -> Step
+    requires { ⌜ Enough z × BytesLent z (now bytes) ⌝ }
+{
+    let mut fac = buffers::fac_cells();
+    let mut sdc = buffers::sdc_cells();
+    let mut msc = buffers::msc_cells();
+    let at = 27 + z.sdcbytes as usize;
+    let n = z.sdcnumbers as usize;
+    let m = z.mscnumbers as usize;
+    code_super_frame(
+        state,
+        bytes,
+        at,
+        memory,
+        &mut fac,
+        &mut sdc[0..n],
+        &mut msc[0..m],
+    )
+}
+
+// The next super frame, if there is one.
+fn next(state: State, z: Sizes, bytes: &mut [u8], memory: &mut [i16]) -> Step
+    requires { ⌜ Enough z × BytesLent z (now bytes) ⌝ }
+{
+    let got = read_super_frame(bytes);
     match got {
-        Got::All => code_super_frame(
-            state,
-            fac,
-            sdc,
-            msc,
-            memory,
-            faccells,
-            sdccells,
-            msccells,
-            raw,
-        ),
-        Got::Part => Step::Over(End::Inside),
-        Got::Nothing => Step::Over(End::Whole),
-        Got::Failed => Step::Over(End::Unread),
+        Got::All => code_bytes(state, z, bytes, memory),
+        Got::Over(end) => Step::Over(end),
     }
 }
 
 // Super frames up to the end of the input or the first that does not go through. A loop that is proved to end counts its turns.
-fn run(
-    start: State,
-    fac: &mut [u8],
-    sdc: &mut [u8],
-    msc: &mut [u8],
-    memory: &mut [i16],
-    faccells: &mut [i16],
-    sdccells: &mut [i16],
-    msccells: &mut [i16],
-    raw: &mut [u8],
-) -> Run
-    requires { ⌜ Raw (now faccells) (now sdccells) (now msccells) (now raw) ⌝ }
+fn run(start: State, z: Sizes, bytes: &mut [u8], memory: &mut [i16]) -> Run
+    requires { ⌜ Enough z × BytesLent z (now bytes) ⌝ }
 {
     let mut state = start;
     let mut count: u64 = 0;
     while count < u64::MAX {
-        let step = next(
-            state,
-            fac,
-            sdc,
-            msc,
-            memory,
-            faccells,
-            sdccells,
-            msccells,
-            raw,
-        );
+        let step = next(state, z, bytes, memory);
         match step {
             Step::On(after) => state = after,
             Step::Over(end) => return Run { end, count },
@@ -114,19 +110,9 @@ fn run(
     }
 }
 
-// A run on a memory of its own, from a reset.
-fn begin(
-    s: Settings,
-    fac: &mut [u8],
-    sdc: &mut [u8],
-    msc: &mut [u8],
-    memory: &mut [i16],
-    faccells: &mut [i16],
-    sdccells: &mut [i16],
-    msccells: &mut [i16],
-    raw: &mut [u8],
-) -> Run
-    requires { ⌜ Raw (now faccells) (now sdccells) (now msccells) (now raw) ⌝ }
+// A run from a reset; settings that it refuses are refused at the first super frame too.
+fn begin(s: Settings, z: Sizes, bytes: &mut [u8], memory: &mut [i16]) -> Run
+    requires { ⌜ Enough z × BytesLent z (now bytes) ⌝ }
 {
     let old = State {
         settings: s,
@@ -134,57 +120,8 @@ fn begin(
         count: 0,
     };
     let done = reset(old, s, memory);
-    if done.refusal != 0 {
-        return Run {
-            end: End::Refused(done.refusal, 0),
-            count: 0,
-        };
-    }
     let start = done.state;
-    run(
-        start,
-        fac,
-        sdc,
-        msc,
-        memory,
-        faccells,
-        sdccells,
-        msccells,
-        raw,
-    )
-}
-
-// A run on the parts of the buffers that the sizes ask for.
-fn begin_on(
-    s: Settings,
-    z: Sizes,
-    fac: &mut [u8],
-    sdc: &mut [u8],
-    msc: &mut [u8],
-    memory: &mut [i16],
-    faccells: &mut [i16],
-    sdccells: &mut [i16],
-    msccells: &mut [i16],
-    raw: &mut [u8],
-) -> Run
-    requires { ⌜ Enough z × Lent (now sdc) (now msc) (now memory) (now faccells) (now sdccells) (now msccells) (now raw) ⌝ }
-{
-    let sdcbytes = z.sdcbytes as usize;
-    let mscbytes = z.mscbytes as usize;
-    let numbers = z.memory as usize;
-    let sdcnumbers = z.sdcnumbers as usize;
-    let mscnumbers = z.mscnumbers as usize;
-    begin(
-        s,
-        fac,
-        &mut sdc[0..sdcbytes],
-        &mut msc[0..mscbytes],
-        &mut memory[0..numbers],
-        faccells,
-        &mut sdccells[0..sdcnumbers],
-        &mut msccells[0..mscnumbers],
-        raw,
-    )
+    run(start, z, bytes, memory)
 }
 
 fn code_all(s: Settings) {
@@ -193,26 +130,11 @@ fn code_all(s: Settings) {
         report::say_settings_refused(z.refusal);
         return;
     }
-    let mut fac = buffers::fac_bytes();
-    let mut sdc = buffers::sdc_bytes();
-    let mut msc = buffers::msc_bytes();
+    let mut bytes = buffers::bytes();
     let mut memory = buffers::memory();
-    let mut faccells = buffers::fac_cells();
-    let mut sdccells = buffers::sdc_cells();
-    let mut msccells = buffers::msc_cells();
-    let mut raw = buffers::raw_bytes();
-    report::say_run(begin_on(
-        s,
-        z,
-        &mut fac,
-        &mut sdc,
-        &mut msc,
-        &mut memory,
-        &mut faccells,
-        &mut sdccells,
-        &mut msccells,
-        &mut raw,
-    ));
+    let n = 27 + z.sdcbytes as usize + z.mscbytes as usize;
+    let m = z.memory as usize;
+    report::say_run(begin(s, z, &mut bytes[0..n], &mut memory[0..m]));
 }
 
 fn main() {

@@ -4,8 +4,9 @@ use desk::End;
 use desk::Run;
 use desk::Step;
 use desk::buffers;
+use desk::cells::take_cells;
 use desk::input::Got;
-use desk::input::read_all_cells;
+use desk::input::read_super_frame;
 use desk::output::write_blocks;
 use desk::report;
 use line::Parsed;
@@ -14,85 +15,104 @@ use settings::Settings;
 use settings::Sizes;
 use settings::answers;
 use superframe::Answer;
+use superframe::Reading;
 use superframe::State;
-ghost use Rattle.desk.specs.Room.{Enough, Raw, Lent};
+ghost use Prim.Native.Nat.{_≤_};
+ghost use lib.ListN.{length};
+ghost use Rattle.desk.specs.Room.{Enough, CellBytesLent, CellsLent, BlockRoom};
 
-// A super frame whose cells have come.
-fn read_super_frame(
-    state: State,
-    faccells: &[i16],
-    sdccells: &[i16],
-    msccells: &[i16],
-    memory: &mut [i16],
-    fac: &mut [u8],
-    sdc: &mut [u8],
-    msc: &mut [u8],
-) -> Step {
-    let reading = read(state, faccells, sdccells, msccells, memory, fac, sdc, msc);
+// A super frame that was read, refused or not.
+fn write_read(reading: Reading, fac: &[u8], sdc: &[u8], msc: &[u8]) -> Step
+    requires { ⌜ BlockRoom (now fac) (now sdc) (now msc) ⌝ }
+{
     let answer = reading.answer;
-    let after = reading.state;
     match answer {
         Answer::Finished(n) => {
             if !write_blocks(fac, sdc, n, msc) {
                 return Step::Over(End::Unwritten);
             }
+            let after = reading.state;
             Step::On(after)
         }
         Answer::Refused(number, block) => Step::Over(End::Refused(number, block)),
     }
 }
 
-// The next super frame, if there is one.
-fn next(
+// A super frame whose cells have come; those of the MSC start at a place.
+fn read_cells(
     state: State,
+    cells: &[i16],
+    at: usize,
+    memory: &mut [i16],
     fac: &mut [u8],
     sdc: &mut [u8],
     msc: &mut [u8],
-    memory: &mut [i16],
-    faccells: &mut [i16],
-    sdccells: &mut [i16],
-    msccells: &mut [i16],
-    raw: &mut [u8],
 ) -> Step
-    requires { ⌜ Raw (now faccells) (now sdccells) (now msccells) (now raw) ⌝ }
+    requires { ⌜ (390 ≤ at) × (at ≤ length (now cells)) × BlockRoom (now fac) (now sdc) (now msc) ⌝ }
 {
-    let got = read_all_cells(faccells, sdccells, msccells, raw);
+    let reading = read(
+        state,
+        &cells[0..390],
+        &cells[390..at],
+        &cells[at..],
+        memory,
+        fac,
+        sdc,
+        msc,
+    );
+    write_read(reading, fac, sdc, msc)
+}
+
+// The same with buffers of its own for the bytes, of which the sizes ask for a part.
+fn read_numbers(state: State, z: Sizes, cells: &[i16], memory: &mut [i16]) -> Step
+    requires { ⌜ Enough z × CellsLent z (now cells) ⌝ }
+{
+    let mut fac = buffers::fac_bytes();
+    let mut sdc = buffers::sdc_bytes();
+    let mut msc = buffers::msc_bytes();
+    let at = 390 + z.sdcnumbers as usize;
+    let n = z.sdcbytes as usize;
+    let m = z.mscbytes as usize;
+    read_cells(
+        state,
+        cells,
+        at,
+        memory,
+        &mut fac,
+        &mut sdc[0..n],
+        &mut msc[0..m],
+    )
+}
+
+// The same from the bytes of the cells.
+fn read_bytes(state: State, z: Sizes, bytes: &[u8], memory: &mut [i16]) -> Step
+    requires { ⌜ Enough z × CellBytesLent z (now bytes) ⌝ }
+{
+    let mut cells = buffers::cells();
+    take_cells(bytes, &mut cells);
+    let end = bytes.len() / 2;
+    read_numbers(state, z, &cells[0..end], memory)
+}
+
+// The next super frame, if there is one.
+fn next(state: State, z: Sizes, bytes: &mut [u8], memory: &mut [i16]) -> Step
+    requires { ⌜ Enough z × CellBytesLent z (now bytes) ⌝ }
+{
+    let got = read_super_frame(bytes);
     match got {
-        Got::All => read_super_frame(state, faccells, sdccells, msccells, memory, fac, sdc, msc),
-        Got::Part => Step::Over(End::Inside),
-        Got::Nothing => Step::Over(End::Whole),
-        Got::Failed => Step::Over(End::Unread),
+        Got::All => read_bytes(state, z, bytes, memory),
+        Got::Over(end) => Step::Over(end),
     }
 }
 
 // Super frames up to the end of the input or the first that does not go through. A loop that is proved to end counts its turns.
-fn run(
-    start: State,
-    fac: &mut [u8],
-    sdc: &mut [u8],
-    msc: &mut [u8],
-    memory: &mut [i16],
-    faccells: &mut [i16],
-    sdccells: &mut [i16],
-    msccells: &mut [i16],
-    raw: &mut [u8],
-) -> Run
-    requires { ⌜ Raw (now faccells) (now sdccells) (now msccells) (now raw) ⌝ }
+fn run(start: State, z: Sizes, bytes: &mut [u8], memory: &mut [i16]) -> Run
+    requires { ⌜ Enough z × CellBytesLent z (now bytes) ⌝ }
 {
     let mut state = start;
     let mut count: u64 = 0;
     while count < u64::MAX {
-        let step = next(
-            state,
-            fac,
-            sdc,
-            msc,
-            memory,
-            faccells,
-            sdccells,
-            msccells,
-            raw,
-        );
+        let step = next(state, z, bytes, memory);
         match step {
             Step::On(after) => state = after,
             Step::Over(end) => return Run { end, count },
@@ -105,19 +125,9 @@ fn run(
     }
 }
 
-// A run on a memory of its own, from a reset.
-fn begin(
-    s: Settings,
-    fac: &mut [u8],
-    sdc: &mut [u8],
-    msc: &mut [u8],
-    memory: &mut [i16],
-    faccells: &mut [i16],
-    sdccells: &mut [i16],
-    msccells: &mut [i16],
-    raw: &mut [u8],
-) -> Run
-    requires { ⌜ Raw (now faccells) (now sdccells) (now msccells) (now raw) ⌝ }
+// A run from a reset; settings that it refuses are refused at the first super frame too.
+fn begin(s: Settings, z: Sizes, bytes: &mut [u8], memory: &mut [i16]) -> Run
+    requires { ⌜ Enough z × CellBytesLent z (now bytes) ⌝ }
 {
     let old = State {
         settings: s,
@@ -125,57 +135,8 @@ fn begin(
         count: 0,
     };
     let done = reset(old, s, memory);
-    if done.refusal != 0 {
-        return Run {
-            end: End::Refused(done.refusal, 0),
-            count: 0,
-        };
-    }
     let start = done.state;
-    run(
-        start,
-        fac,
-        sdc,
-        msc,
-        memory,
-        faccells,
-        sdccells,
-        msccells,
-        raw,
-    )
-}
-
-// A run on the parts of the buffers that the sizes ask for.
-fn begin_on(
-    s: Settings,
-    z: Sizes,
-    fac: &mut [u8],
-    sdc: &mut [u8],
-    msc: &mut [u8],
-    memory: &mut [i16],
-    faccells: &mut [i16],
-    sdccells: &mut [i16],
-    msccells: &mut [i16],
-    raw: &mut [u8],
-) -> Run
-    requires { ⌜ Enough z × Lent (now sdc) (now msc) (now memory) (now faccells) (now sdccells) (now msccells) (now raw) ⌝ }
-{
-    let sdcbytes = z.sdcbytes as usize;
-    let mscbytes = z.mscbytes as usize;
-    let numbers = z.memory as usize;
-    let sdcnumbers = z.sdcnumbers as usize;
-    let mscnumbers = z.mscnumbers as usize;
-    begin(
-        s,
-        fac,
-        &mut sdc[0..sdcbytes],
-        &mut msc[0..mscbytes],
-        &mut memory[0..numbers],
-        faccells,
-        &mut sdccells[0..sdcnumbers],
-        &mut msccells[0..mscnumbers],
-        raw,
-    )
+    run(start, z, bytes, memory)
 }
 
 fn read_all(s: Settings) {
@@ -184,26 +145,11 @@ fn read_all(s: Settings) {
         report::say_settings_refused(z.refusal);
         return;
     }
-    let mut fac = buffers::fac_bytes();
-    let mut sdc = buffers::sdc_bytes();
-    let mut msc = buffers::msc_bytes();
+    let mut bytes = buffers::cell_bytes();
     let mut memory = buffers::memory();
-    let mut faccells = buffers::fac_cells();
-    let mut sdccells = buffers::sdc_cells();
-    let mut msccells = buffers::msc_cells();
-    let mut raw = buffers::raw_bytes();
-    report::say_run(begin_on(
-        s,
-        z,
-        &mut fac,
-        &mut sdc,
-        &mut msc,
-        &mut memory,
-        &mut faccells,
-        &mut sdccells,
-        &mut msccells,
-        &mut raw,
-    ));
+    let n = 2 * (390 + z.sdcnumbers as usize + z.mscnumbers as usize);
+    let m = z.memory as usize;
+    report::say_run(begin(s, z, &mut bytes[0..n], &mut memory[0..m]));
 }
 
 fn main() {

@@ -2,8 +2,8 @@
 use mathlib.Core.Path.{_≡_, refl}
 use native.Mathlib.Omega.{arith}
 use lib.Dec.{lit<, lit≤}
-use Rattle.component.specs.Patterns.{R3/5}
-use Rattle.component.specs.Decoding.{codedLength}
+use Rattle.component.specs.Patterns.{R3/5, pattern}
+use Rattle.component.proofs.Codeword.{coded-none}
 use Rattle.component.proofs.Patterns.{pattern-sound}
 use Rattle.component.proofs.Lengths.{fac-length}
 use Rattle.settings.specs.Rates.{facRate}
@@ -22,8 +22,8 @@ unfolding bitCount facBlock facLevel totalA totalB facBits
 fac-bits = refl
 
 size-A : sizeA facLevel ≡ 0
-unfolding sizeA facLevel codedLength
-size-A = refl
+unfolding sizeA facLevel facRate
+size-A = coded-none (pattern R3/5) 0
 
 size-B : sizeB facLevel ≡ 130
 unfolding sizeB facLevel facRate facBits

@@ -5,4 +5,3 @@ pub mod Coded
 pub mod Fac
 pub mod Sdc
 pub mod Msc
-pub mod Planned

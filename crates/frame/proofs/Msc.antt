@@ -10,9 +10,9 @@ use lib.ListN.{length, getD, drop}
 use lib.Seq.{getD-drop}
 use lib.Dec.{T, eqb, ltb, eqb→eq, ltb→lt, lit<}
 use borrow.Author.Tests.{eqb-true}
-use Rattle.component.specs.Lists.{total}
-use Rattle.component.specs.Patterns.{RY}
-use Rattle.component.specs.Decoding.{codedLength}
+use Rattle.lists.specs.Lists.{total}
+use Rattle.component.specs.Patterns.{RY, pattern}
+use Rattle.component.proofs.Codeword.{coded-none}
 use Rattle.component.proofs.Patterns.{pattern-sound}
 use Rattle.settings.specs.declared.Settings.{Settings}
 use Rattle.settings.specs.Rates.{rates, table67, table68, table69, table71, commonDenominator, vsppRate}
@@ -98,7 +98,7 @@ protected-totalB w cells1 cells2 (rateA ∷ ratesA) (rateB ∷ ratesB) ts e =
 
 -- the level of the very strongly protected part has w N coded bits
 vspp-level : (w n rate : ℕ) → rate < 13 → 12 ≤ w * n → LevelFits (w * n) (vsppLevel w n rate)
-unfolding vsppLevel sizeA sizeB codedLength
+unfolding vsppLevel sizeA sizeB
 vspp-level w n rate h l =
     record {
       soundA = pattern-sound rate h;
@@ -106,7 +106,7 @@ vspp-level w n rate h l =
       soundTail = tail-fits w n rate h;
       mixesA = plain refl;
       mixesB = plain refl;
-      size = rw zero-add (sizeB-is w n rate h l);
+      size = rw (coded-none (pattern rate) 0, zero-add) (sizeB-is w n rate h l);
     }
 
 -- facts of every protection level, each one computed test

@@ -8,7 +8,7 @@ use native.Mathlib.Omega.{arith}
 use lib.Dec.{T, lit<, ltb, eqb, ltb→lt, eqb→eq}
 use lib.ListN.{length, getD, drop}
 use lib.Seq.{getD-drop}
-use Rattle.component.specs.Lists.{table}
+use Rattle.lists.specs.Lists.{table}
 use Rattle.component.specs.Patterns.{RX, RY, numerators, denominators, pattern, tailPattern}
 use Rattle.component.specs.Decoding.{patternAt}
 use Rattle.component.proofs.Patterns.{pattern-at, tail-at}

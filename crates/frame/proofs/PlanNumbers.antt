@@ -14,7 +14,7 @@ use Rattle.settings.specs.Rates.{rates, vsppRate, sdcRates, facRate}
 use Rattle.settings.specs.Formulas.{hierarchical, width, facBits}
 use Rattle.settings.specs.Lengths.{nMux, nSdc, n1}
 use Rattle.settings.proofs.LookUps.{and-left, and-right, all, all-at}
-use Rattle.coder.specs.Coder.{Known}
+use Rattle.block.specs.Plan.{Known}
 use Rattle.frame.specs.Sdc.{sdcSteps}
 use Rattle.frame.specs.Msc.{mscSteps}
 use Rattle.frame.specs.Plans.{row, rows, vsppRow, vsppRows, mscRows, mscPlan, sdcPlan, facPlan}

@@ -10,7 +10,7 @@ use lib.Arith.{digits-div, digits-mod}
 use lib.Dec.{T, lit≤, ltb, ltb→lt}
 use lib.ListN.{length, getD, set, drop, drop-of-length-le, length-append, take}
 use lib.Seq.{sets, sets-eq, take-at, length-sets, drop-cons, drop-drop, getD-drop}
-use Rattle.component.specs.Lists.{table}
+use Rattle.lists.specs.Lists.{table}
 use Rattle.component.specs.Patterns.{RY}
 use Rattle.component.proofs.Lengths.{RY-low}
 use Rattle.component.proofs.Sets.{sets-append}

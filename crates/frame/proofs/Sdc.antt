@@ -8,8 +8,9 @@ use native.Mathlib.Omega.{arith}
 use lib.ListN.{length, getD, drop}
 use lib.Seq.{getD-drop}
 use lib.Dec.{lit<}
-use Rattle.component.specs.Lists.{total}
-use Rattle.component.specs.Decoding.{codedLength}
+use Rattle.lists.specs.Lists.{total}
+use Rattle.component.proofs.Codeword.{coded-none}
+use Rattle.component.specs.Patterns.{pattern}
 use Rattle.component.proofs.Patterns.{pattern-sound}
 use Rattle.settings.specs.declared.Settings.{Settings}
 use Rattle.settings.specs.Rates.{sdcRates}
@@ -26,8 +27,8 @@ use Rattle.frame.proofs.Coded.{sizeB-is, tail-fits, Step, mixes}
 
 -- a level of n cells
 size-A : (n rate t : ℕ) → sizeA (sdcLevel n rate t) ≡ 0
-unfolding sizeA sdcLevel codedLength
-size-A n rate t = refl
+unfolding sizeA sdcLevel
+size-A n rate t = coded-none (pattern rate) 0
 
 size-B : (n rate t : ℕ) → rate < 13 → 6 ≤ n → sizeB (sdcLevel n rate t) ≡ 2 * n
 unfolding sizeB sdcLevel

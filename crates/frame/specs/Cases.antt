@@ -4,10 +4,10 @@ use mathlib.Core.Path.{_≡_}
 use mathlib.Core.List.{List, [], _∷_}
 use lib.ListN.{replicate, getD}
 use lib.IntN.{ℤ, pos, negsuc}
-use Rattle.component.specs.Lists.{table}
+use Rattle.lists.specs.Lists.{table}
 use Rattle.component.specs.Patterns.{pattern, R1/2}
 use Rattle.component.specs.Codeword.{encode}
-use Rattle.component.specs.Interleaving.{place}
+use Rattle.interleaver.specs.Interleaving.{place}
 use Rattle.settings.specs.declared.Settings.{Settings}
 use Rattle.settings.specs.Formulas.{sdcBits}
 use Rattle.settings.specs.Lengths.{n1, l2, lVspp}

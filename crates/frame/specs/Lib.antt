@@ -2,5 +2,4 @@ pub mod Fac
 pub mod Sdc
 pub mod Msc
 pub mod Plans
-pub mod Lent
 pub mod Cases

@@ -1,7 +1,5 @@
-// FAC blocks, SDC blocks and multiplex frames: bits to cells and back.
-pub mod calls;
+// FAC blocks, SDC blocks and multiplex frames as blocks, and their tables of levels.
 pub mod plan;
-pub mod readers;
 
 ghost use Rattle.frame.specs.Cases.{Cases};
 

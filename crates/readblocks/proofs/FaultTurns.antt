@@ -12,14 +12,15 @@ use lib.IntN.{ℤ, pos}
 use mir.Syntax.{w16}
 use mir.Val.{toZ, ofZ}
 use mir.Facts.{toZ-ofZ}
-use Rattle.component.specs.Lists.{table}
+use Rattle.lists.specs.Lists.{table}
 use Rattle.settings.specs.declared.Settings.{Settings}
 use Rattle.settings.specs.Lengths.{nMux, nSfa}
 use Rattle.settings.specs.Cells.{facCells}
 use Rattle.settings.specs.Sizes.{depth}
-use Rattle.block.specs.Points.{sameNumber, sameNumbers, every, arePoints}
+use Rattle.lists.specs.Same.{sameNumber, sameNumbers}
+use Rattle.block.specs.Points.{every, arePoints}
 use Rattle.block.specs.Mapping.{constellation}
-use Rattle.block.proofs.Mapping.{sameNumber-refl, sameNumber-true}
+use Rattle.lists.proofs.Same.{sameNumber-refl, sameNumber-true}
 use Rattle.frame.specs.Fac.{facBlock}
 use Rattle.frame.specs.Sdc.{sdcBlock}
 use Rattle.superframe.specs.Memory.{slotSize}
@@ -28,10 +29,10 @@ use Rattle.superframe.specs.Call.{part, parts}
 use Rattle.superframe.specs.Read.{ReadCall, rowPoints, countAt, fillersOf, pointTests, firstFault}
 use Rattle.cellrows.specs.Cells.{farthest, allWanted}
 use Rattle.readblocks.specs.Faults.{pointTest, CellsLent}
-use Rattle.codecall.specs.Coding.{fillerNumbers}
+use Rattle.cellrows.specs.Fillers.{fillerNumbers}
 use Rattle.cellrows.proofs.Reach.{all-wanted}
 use Rattle.cellrows.proofs.Laid.{part-is}
-use Rattle.codecall.proofs.CodeTurns.{filler-fits}
+use Rattle.cellrows.proofs.FillerTurns.{filler-fits}
 use lib.Seq.{drop-cons, getD-take, length-take-le, take-all}
 use lib.Signed.{mag}
 use borrow.Author.Needs.{sfits-of}

@@ -1,3 +1,2 @@
 pub mod FaultTurns
 pub mod ReadTurns
-pub mod BlockTurns

@@ -13,8 +13,8 @@ use lib.ListN.{length, length-append, take-append-drop, take, drop, replicate, l
 use lib.Seq.{sets, drop-drop}
 use lib.IntN.{ℤ, pos}
 use lib.Dec.{eqb, leb}
-use Rattle.component.specs.Lists.{table}
-use Rattle.component.proofs.Counting.{below-or}
+use Rattle.lists.specs.Lists.{table}
+use Rattle.lists.proofs.Counting.{below-or}
 use Rattle.settings.specs.declared.Settings.{Settings}
 use Rattle.settings.specs.Accepted.{Accepted}
 use Rattle.settings.specs.Lengths.{nMux}
@@ -32,12 +32,12 @@ use Rattle.superframe.specs.Read.{firstFault, rowsOf, handedOut}
 use Rattle.readblocks.specs.Finishing.{FacRead, FinishFits, FrameFinished, RowsLent, RowsRead}
 use Rattle.superframe.specs.declared.State.{State}
 use Rattle.superframe.specs.Code.{progressOf}
-use Rattle.block.proofs.Lists.{map-table}
+use Rattle.lists.proofs.Tables.{map-table}
 use Rattle.superframe.proofs.Lists.{and-left, and-right}
 use Rattle.superframe.proofs.Memory.{slot-before}
 use Rattle.cellrows.proofs.Ring.{slot-near, slot-far, later-last, later-more}
 use Rattle.cellrows.proofs.Laid.{Laid, laid-part, laid-parts, part-is, part-within, part-below, length-mid, put-sets, take-sets, drop-sets}
-use Rattle.codecall.proofs.CodeTurns.{later-is, positive, progress}
+use Rattle.cellrows.proofs.Progress.{later-is, positive, progress}
 use Rattle.cellrows.proofs.Turns.{taken-from}
 use Rattle.readblocks.proofs.FaultTurns.{Faultless, faultless-stop, faultless-turn, faultless-end}
 

@@ -10,7 +10,8 @@ use Rattle.settings.specs.declared.Settings.{Settings}
 use Rattle.settings.specs.Accepted.{Accepted}
 use Rattle.settings.specs.Lengths.{nSdc, nSfa}
 use Rattle.settings.specs.Sizes.{depth}
-use Rattle.block.specs.Points.{arePoints, sameNumbers}
+use Rattle.block.specs.Points.{arePoints}
+use Rattle.lists.specs.Same.{sameNumbers}
 use Rattle.frame.specs.Fac.{facBlock}
 use Rattle.frame.specs.Sdc.{sdcBlock}
 use Rattle.superframe.specs.Memory.{slotSize}

@@ -8,19 +8,18 @@ use lib.Seq.{sets}
 use lib.IntN.{ℤ}
 use Rattle.settings.specs.declared.Settings.{Settings}
 use Rattle.settings.specs.Accepted.{Accepted}
-use Rattle.settings.specs.Lengths.{nMux, nSdc}
-use Rattle.settings.specs.Sizes.{depth, frameBytes, sdcBytes}
+use Rattle.settings.specs.Lengths.{nMux}
+use Rattle.settings.specs.Sizes.{depth, frameBytes}
 use Rattle.block.specs.Points.{every}
 use Rattle.block.specs.Reading.{given, bytesRead}
 use Rattle.frame.specs.Fac.{facBlock}
-use Rattle.frame.specs.Sdc.{sdcBlock}
 use Rattle.frame.specs.Msc.{mscBlock}
 use Rattle.superframe.specs.declared.State.{State}
 use Rattle.superframe.specs.Memory.{slotSize}
 use Rattle.superframe.specs.Interleaving.{finishedBy, finishedFrames, afterRows}
 use Rattle.superframe.specs.Call.{parts, joined}
 use Rattle.superframe.specs.Code.{progressOf}
-use Rattle.superframe.specs.Read.{ReadCall, rowsOf, firstFault, handedOut, givenTests}
+use Rattle.superframe.specs.Read.{ReadCall, rowsOf, firstFault, handedOut}
 
 -- Three FAC blocks read: the first that no bits give, and the bytes where there is none.
 pub record FacRead (cells : List ℤ) (r : ℕ) (out : List ℕ) : Type 0 where
@@ -72,29 +71,6 @@ pub record RowsRead (state : State) (msc memory : List ℤ) (r : ℕ) (memory′
   pub bytes :
       every (map (given (mscBlock (state .settings))) (finishedFrames (state .settings) (progressOf state memory) (rowsOf (state .settings) msc))) ≡ true
       → out′ ≡ handedOut (state .settings) (finishedFrames (state .settings) (progressOf state memory) (rowsOf (state .settings) msc))
-
--- All blocks of a call, memory in order, and working buffers of their lengths.
-pub record BlocksLent (state : State) (faccells sdccells msccells memory : List ℤ) (fac sdc msc : List ℕ) : Type 0 where
-  pub rows : RowsLent state msccells memory msc
-  pub faclong : length faccells ≡ 390
-  pub sdclong : length sdccells ≡ 2 * nSdc (state .settings)
-  pub facroom : length fac ≡ 27
-  pub sdcroom : length sdc ≡ sdcBytes (state .settings)
-
--- What they hold where bits give every block.
-pub record BlocksDone (state : State) (memory : List ℤ) (c : ReadCall) (memory′ : List ℤ) (fac sdc msc : List ℕ) : Type 0 where
-  pub held : memory′ ≡ afterRows (state .settings) (progressOf state memory) (rowsOf (state .settings) (c .msccells)) .memory
-  pub facbytes : fac ≡ joined (map (bytesRead facBlock) (parts 130 (c .faccells)))
-  pub sdcbytes : sdc ≡ bytesRead (sdcBlock (state .settings)) (c .sdccells)
-  pub mscbytes : msc ≡ handedOut (state .settings) (finishedFrames (state .settings) (progressOf state memory) (rowsOf (state .settings) (c .msccells)))
-
--- The block at fault, or 8 and the number of finished frames.
-pub record BlocksRead (state : State) (memory : List ℤ) (c : ReadCall) (r : ℕ) (memory′ : List ℤ) (fac sdc msc : List ℕ) : Type 0 where
-  pub number :
-      r ≡ cond (every (givenTests (state .settings) (progressOf state memory) c))
-      (8 + length (finishedFrames (state .settings) (progressOf state memory) (rowsOf (state .settings) (c .msccells))))
-      (firstFault (givenTests (state .settings) (progressOf state memory) c))
-  pub done : every (givenTests (state .settings) (progressOf state memory) c) ≡ true → BlocksDone state memory c memory′ fac sdc msc
 
 -- What a Read call is lent.
 abbrev pub readCall : List ℤ → List ℤ → List ℤ → List ℕ → List ℕ → List ℕ → ReadCall

@@ -2,16 +2,15 @@
 use cellrows::rows::next_count;
 use cellrows::rows::next_modulo;
 use cellrows::rows::take_row;
-use frame::readers::read_fac;
-use frame::readers::read_frame;
-use frame::readers::read_sdc;
+use channels::readers::read_fac;
+use channels::readers::read_frame;
 use settings::Settings;
 use settings::answers;
 use settings::tables;
 use superframe::State;
 ghost use mathlib.Core.Path.{_≡_};
 ghost use lib.ListN.{length};
-ghost use Rattle.readblocks.specs.Finishing.{FacRead, FinishFits, FrameFinished, RowsLent, RowsRead, BlocksLent, BlocksRead, readCall};
+ghost use Rattle.readblocks.specs.Finishing.{FacRead, FinishFits, FrameFinished, RowsLent, RowsRead};
 
 // Three FAC blocks: the first that no bits give, 3 where there is none.
 pub fn read_fac_blocks(cells: &[i16], out: &mut [u8]) -> usize
@@ -89,28 +88,4 @@ pub fn read_rows(state: State, msc: &[i16], memory: &mut [i16], out: &mut [u8]) 
         i += 1;
     }
     8 + k
-}
-
-// All blocks of a call: the one at fault, or 8 and the number of finished frames.
-pub fn read_blocks(
-    state: State,
-    faccells: &[i16],
-    sdccells: &[i16],
-    msccells: &[i16],
-    memory: &mut [i16],
-    fac: &mut [u8],
-    sdc: &mut [u8],
-    msc: &mut [u8],
-) -> usize
-    requires { ⌜ BlocksLent state (now faccells) (now sdccells) (now msccells) (now memory) (now fac) (now sdc) (now msc) ⌝ }
-    ensures { λ r. ⌜ BlocksRead state (now (memory .entry)) (readCall (now (faccells .entry)) (now (sdccells .entry)) (now (msccells .entry)) (now (fac .entry)) (now (sdc .entry)) (now (msc .entry))) r (now (memory .exit)) (now (fac .exit)) (now (sdc .exit)) (now (msc .exit)) ⌝ }
-{
-    let fault = read_fac_blocks(faccells, fac);
-    if fault < 3 {
-        return fault;
-    }
-    if !read_sdc(state.settings, sdccells, sdc) {
-        return 3;
-    }
-    read_rows(state, msccells, memory, msc)
 }

@@ -1,21 +1,21 @@
 // Refusal 13: the lowest block at fault. 01 "Operations".
-use block::points::are_points;
 use cellrows::cells::all_wanted;
 use cellrows::cells::farthest;
-use codecall::code::FILLERS;
+use cellrows::fillers::FILLERS;
+use mapping::points::are_points;
 use settings::Settings;
 use settings::answers;
 use settings::tables;
 ghost use mathlib.Core.Path.{_≡_};
 ghost use Prim.Native.Nat.{_+_, _-_, _*_, _≤_, _<_, min};
 ghost use lib.ListN.{length, take};
-ghost use Rattle.component.specs.Lists.{table};
+ghost use Rattle.lists.specs.Lists.{table};
 ghost use Rattle.settings.specs.Accepted.{Accepted};
 ghost use Rattle.settings.specs.Sizes.{depth};
-ghost use Rattle.block.specs.Points.{sameNumbers};
+ghost use Rattle.lists.specs.Same.{sameNumbers};
 ghost use Rattle.superframe.specs.Memory.{slotSize};
 ghost use Rattle.superframe.specs.Call.{part};
-ghost use Rattle.codecall.specs.Coding.{fillerNumbers};
+ghost use Rattle.cellrows.specs.Fillers.{fillerNumbers};
 ghost use Rattle.superframe.specs.Read.{rowPoints, countAt, firstFault};
 ghost use Rattle.readblocks.specs.Faults.{pointTest, CellsLent};
 

@@ -1,48 +1,49 @@
 -- The call Read from its refusals and from the blocks read into working buffers. Assumes nothing.
 use mathlib.Core.Path.{_≡_, refl, sym, ap, _∙_}
-use mathlib.Core.Bool.{Bool, true, false, cond, not}
+use mathlib.Core.Bool.{Bool, true, false, not, true≢false}
 use mathlib.Core.List.{List, [], _∷_}
 use Prim.Native.Nat.{ℕ, zero, suc, _+_, _-_, _*_, _≤_, _<_, min}
-use native.Mathlib.Nat.{sub-zero, mod-lt, mul-le-mul-right}
+use native.Mathlib.Nat.{sub-zero, zero-add, mul-le-mul-right}
 use native.Mathlib.Omega.{arith}
-use lib.ListN.{length, getD, take, drop, replicate, length-append, length-map, length-replicate}
-use lib.Seq.{length-take-le}
+use borrow.Author.Tests.{lt-ltb, le-ltb}
+use lib.ListN.{length, take, drop, replicate, length-append, length-map, length-replicate}
+use borrow.Rule.Slice.PartMut.{putMid}
+use lib.Seq.{length-take-le, length-sets, take-at}
 use lib.IntN.{ℤ}
-use Rattle.component.specs.Lists.{table}
-use Rattle.component.proofs.Tables.{length-table, Filled, filled-end}
+use Rattle.lists.specs.Lists.{table}
+use Rattle.lists.proofs.Tables.{length-table}
 use Rattle.settings.specs.Refusal.{first}
 use Rattle.settings.specs.Cells.{facCells}
-use Rattle.settings.specs.Accepted.{Accepted}
 use Rattle.settings.specs.Formulas.{roundUp}
 use Rattle.settings.specs.Lengths.{nMux}
 use Rattle.settings.specs.Sizes.{depth, bytesFor, frameBytes, sdcBytes}
 use Rattle.settings.proofs.Bounds.{accepted-of}
 use Rattle.block.specs.Points.{every}
-use Rattle.block.proofs.Lists.{table-is}
 use Rattle.superframe.specs.declared.State.{State}
 use Rattle.superframe.specs.declared.Answer.{Answer}
+use Rattle.superframe.specs.declared.Reading.{Reading}
 use Rattle.superframe.specs.declared.Answer.the-variants.{Finished, Refused}
 use Rattle.superframe.specs.Memory.{slotSize}
-use Rattle.superframe.specs.Interleaving.{advanced, finishedFrames, afterRows}
+use Rattle.superframe.specs.Interleaving.{advanced, afterRows}
 use Rattle.superframe.specs.Call.{part, parts, inOrder, memoryLength}
 use Rattle.superframe.specs.Code.{byteLengths, cellLengths, progressOf, stateOf}
 use Rattle.superframe.specs.Read.{ReadCall, rowsOf, pointTests, givenTests, firstFault, orderRefusal, answerOf, readAccepted, readRefused, readOf}
+use Rattle.superframe.specs.Answers.{blocksAnswer}
 use Rattle.superframe.specs.Facts.{ReadFits}
 use Rattle.superframe.proofs.Calls.{read-fits, answer-order, answer-points, answer-blocks, read-accepts, read-refuses}
-use Rattle.superframe.proofs.Demand2.{finished-count}
 use Rattle.cellrows.specs.Rows.{later}
 use Rattle.cellrows.specs.Refusals.{refusalThen}
 use Rattle.cellrows.proofs.Chains.{then-stops, then-goes-on}
-use Rattle.codecall.proofs.CodeTurns.{later-is, positive, depth-most}
+use Rattle.cellrows.proofs.Progress.{later-is, later-low}
+use Rattle.superframe.proofs.Coding.{depth-high}
 use Rattle.readblocks.specs.Faults.{pointTest, CellsLent}
-use Rattle.readblocks.specs.Finishing.{BlocksLent, BlocksRead, readCall}
-use Rattle.readcall.specs.Working.{ReadPasses, WorkFits, WorkEnough, SameLengths, HandedOut, readYield}
+use Rattle.channels.specs.Lent.{SdcLent}
+use Rattle.channels.proofs.Lengths.{sdc-lent}
+use Rattle.cellrows.proofs.Laid.{put-sets}
+use Rattle.readblocks.specs.Finishing.{RowsLent, readCall}
+use Rattle.readcall.specs.Working.{readYield, ReadPasses, Answered, framesOf, blockTests, FramesLent, FramesWork, SdcFramesLent, BlocksRead}
 use Rattle.readblocks.proofs.FaultTurns.{fault-some, fault-none, fault-most, tests-are}
-
--- What is filled with a list's elements is this list.
-pub copied : {A : Type 0} (z : A) (from d out : List A) (i : ℕ) → length d ≡ length from → i ≡ length from → Filled z (λ k. getD from k z) d out i → out ≡ from
-copied z from d out i e n w =
-    filled-end z (λ k. getD from k z) d out (length from) e (rw n at w) ∙ table-is (λ k. getD from k z) z (length from) from refl (λ k h. refl)
+use Rattle.readcall.proofs.Given.{number-is, given-is, frames-few}
 
 -- 1 to 10, and then 12.
 module _ (state : State) (memory faccells sdccells msccells : List ℤ) (fac sdc msc : List ℕ) (n : ℕ)
@@ -108,89 +109,103 @@ module _ (state : State) (memory : List ℤ) (c : ReadCall) where
       pub passes-points : 8 ≤ f → ReadPasses state memory c
       passes-points l = record { order = sym e ∙ h; points = fault-none _ (omega (arith, fault-is, eight)) }
 
--- What a call yields whose blocks were read on a copy of memory, into working buffers that are lent as outputs there.
-module _ (state : State) (memory faccells sdccells msccells : List ℤ) (fac sdc msc f g h : List ℕ)
-    (w : ReadPasses state memory (readCall faccells sdccells msccells fac sdc msc)) (work : List ℤ) (k : work ≡ memory) (r : ℕ) (memory′ : List ℤ)
-    (fac′ sdc′ msc′ : List ℕ) (a : BlocksRead state work (readCall faccells sdccells msccells f g h) r memory′ fac′ sdc′ msc′) where
-  b : BlocksRead state memory (readCall faccells sdccells msccells f g h) r memory′ fac′ sdc′ msc′
-  b = rw k at a
+-- An answer is not both.
+isFinished : Answer → Bool
+isFinished (Finished n) = true
+isFinished (Refused r b) = false
 
-  abbrev call : ReadCall
-  call = readCall faccells sdccells msccells fac sdc msc
+finished≢refused : {n r b : ℕ} → Finished n ≡ Refused r b → ⊥
+unfolding isFinished
+finished≢refused e = true≢false (ap isFinished e)
 
+-- The answer with the state that follows it.
+pub answered-refused : (state : State) (answer : Answer) (n b : ℕ) → answer ≡ Refused n b → Answered state answer (record { answer = answer; state = state })
+answered-refused state answer n b e =
+    record { refused = λ n b f. refl; finished = λ n f. absurd (finished≢refused (sym f ∙ e)) }
+
+pub answered-finished : (state after : State) (answer : Answer) (n : ℕ) → answer ≡ Finished n
+    → ((memory a b c : List ℤ) → after ≡ stateOf (state .settings) (afterRows (state .settings) (progressOf state memory) (a ∷ b ∷ c ∷ [])))
+    → Answered state answer (record { answer = answer; state = after })
+answered-finished state after answer n e s =
+    record {
+      refused = λ n b f. absurd (finished≢refused (sym e ∙ f));
+      finished = λ n f memory a b c. rw (s memory a b c);
+    }
+
+-- What a call yields whose blocks were read.
+module _ (state : State) (memory : List ℤ) (c : ReadCall) (w : ReadPasses state memory c) (r : ℕ) (memory′ : List ℤ) (fac′ sdc′ msc′ : List ℕ)
+    (b : BlocksRead state memory c r memory′ fac′ sdc′ msc′) where
   abbrev tests : List Bool
-  tests = givenTests (state .settings) (progressOf state memory) call
+  tests = blockTests state memory c
 
-  abbrev finished : List (List ℤ)
-  finished = finishedFrames (state .settings) (progressOf state memory) (rowsOf (state .settings) msccells)
+  abbrev frames : List (List ℤ)
+  frames = framesOf state memory (c .msccells)
 
-  -- A call's tests do not depend on its outputs.
-  tests-same : givenTests (state .settings) (progressOf state memory) (readCall faccells sdccells msccells f g h) ≡ tests
-  unfolding givenTests
-  tests-same = refl
+  few : length frames ≤ 3
+  few = frames-few state memory (c .msccells) (read-fits state memory c (w .order) .order .count)
 
-  number-is : r ≡ cond (every tests) (8 + length finished) (firstFault tests)
-  number-is = b .number ∙ rw tests-same
+  tests-long : length tests ≤ 7
+  unfolding givenTests parts
+  tests-long = let e : length tests ≡ 3 + suc (length frames) = simp (length-append, length-map, length-table) in omega (arith, few)
 
-  rows-three : rowsOf (state .settings) msccells
-      ≡ part (slotSize (state .settings)) msccells 0 ∷ part (slotSize (state .settings)) msccells 1 ∷ part (slotSize (state .settings)) msccells 2 ∷ []
+  number-given : every tests ≡ true → r ≡ 8 + length frames
+  number-given e = b .number ∙ number-is tests 0 _ true e
+
+  number-fault : every tests ≡ false → (r ≡ firstFault tests) × (r < 8)
+  number-fault e =
+      let x : r ≡ firstFault tests = b .number ∙ number-is tests 0 _ false e ∙ zero-add _ in
+      (x, omega (arith, x, fault-most tests, tests-long))
+
+  answer-given : every tests ≡ true → blocksAnswer r ≡ Finished (length frames)
+  unfolding blocksAnswer
+  answer-given e =
+      let n : r - 8 ≡ length frames = omega (arith, number-given e) in
+      rw (le-ltb r 8 (omega (arith, number-given e)), n)
+
+  answer-fault : every tests ≡ false → blocksAnswer r ≡ Refused 14 r
+  unfolding blocksAnswer
+  answer-fault e = rw (lt-ltb r 8 (number-fault e .1))
+
+  rows-three : rowsOf (state .settings) (c .msccells)
+      ≡ part (slotSize (state .settings)) (c .msccells) 0 ∷ part (slotSize (state .settings)) (c .msccells) 1 ∷ part (slotSize (state .settings)) (c .msccells) 2 ∷ []
   unfolding rowsOf parts table
   rows-three = refl
 
-  -- At most three frames are finished, and there are at most seven blocks.
-  most : length finished ≤ 3
-  unfolding rowsOf parts progressOf
-  most =
-      let low = read-fits state memory call (w .order) .order .count in
-      omega (arith, finished-count (state .settings) (rowsOf (state .settings) msccells) (progressOf state memory) (omega arith), length-table (part (slotSize (state .settings)) msccells) 0 3)
+  module _ (answer : Answer) (i : answer ≡ blocksAnswer r) (reading : Reading) (d : Answered state answer reading) where
+    yield-given : every tests ≡ true → readYield reading memory′ fac′ sdc′ msc′ ≡ readOf state memory c
+    unfolding readAccepted
+    yield-given e =
+        let a = i ∙ answer-given e in
+        rw (
+          d .finished _ a memory (part (slotSize (state .settings)) (c .msccells) 0) (part (slotSize (state .settings)) (c .msccells) 1) (part (slotSize (state .settings)) (c .msccells) 2),
+          a,
+          ← rows-three,
+          b .held ∙ given-is tests true e _ _,
+          b .facbytes ∙ given-is tests true e _ _,
+          b .sdcbytes ∙ given-is tests true e _ _,
+          b .mscbytes ∙ given-is tests true e _ _,
+        )
+        (sym (read-accepts state memory c (w .order) (w .points) e))
 
-  length-tests : length tests ≡ 3 + suc (length finished)
-  unfolding givenTests parts
-  length-tests = simp (length-append, length-map, length-table)
+    yield-fault : every tests ≡ false → readYield reading memory′ fac′ sdc′ msc′ ≡ readOf state memory c
+    yield-fault e =
+        let a = i ∙ answer-fault e in
+        rw (
+          d .refused _ _ a,
+          a,
+          b .held ∙ given-is tests false e _ _,
+          b .facbytes ∙ given-is tests false e _ _,
+          b .sdcbytes ∙ given-is tests false e _ _,
+          b .mscbytes ∙ given-is tests false e _ _,
+        )
+        (refused-is state memory c 14 r (answer-blocks state memory c (w .order) (w .points) e ∙ rw (← number-fault e .0)) (omega arith))
 
-  tests-long : length tests ≤ 7
-  tests-long = omega (arith, length-tests, most)
-
-  holds : 8 ≤ r → every tests ≡ true
-  holds l = go (every tests) refl
-    where
-      go : (t : Bool) → every tests ≡ t → t ≡ true
-      go true e = refl
-      go false e = let x : r ≡ firstFault tests = number-is ∙ rw e in absurd (omega (arith, fault-most tests, tests-long))
-
-  fails : r < 8 → every tests ≡ false
-  fails l = go (every tests) refl
-    where
-      go : (t : Bool) → every tests ≡ t → t ≡ false
-      go true e = let x : r ≡ 8 + length finished = number-is ∙ rw e in absurd (omega arith)
-      go false e = refl
-
-  pub blocks-refuse : r < 8 → readYield (record { answer = Refused 14 r; state = state }) memory fac sdc msc ≡ readOf state memory call
-  blocks-refuse l =
-      let x : r ≡ firstFault tests = number-is ∙ rw (fails l) in
-      refused-is state memory call 14 r (answer-blocks state memory call (w .order) (w .points) (fails l) ∙ rw (← x)) (omega arith)
-
-  count-is : 8 ≤ r → r ≡ 8 + length finished
-  count-is l = number-is ∙ rw (holds l)
-
-  pub blocks-few : 8 ≤ r → (8 ≤ r) × (r ≤ 11)
-  blocks-few l = (l, omega (arith, count-is l, most))
-
-  pub blocks-accept : (answer : Answer) (after : State) → answer ≡ Finished (r - 8)
-      → ((memory a b c : List ℤ) → after ≡ stateOf (state .settings) (afterRows (state .settings) (progressOf state memory) (a ∷ b ∷ c ∷ [])))
-      → 8 ≤ r → (memory″ : List ℤ) (fac″ sdc″ msc″ : List ℕ) → HandedOut memory′ fac′ sdc′ msc′ memory″ fac″ sdc″ msc″
-      → readYield (record { answer = answer; state = after }) memory″ fac″ sdc″ msc″ ≡ readOf state memory call
-  unfolding readAccepted facCells
-  blocks-accept answer after x s l memory″ fac″ sdc″ msc″ o =
-      let d = b .done (ap every tests-same ∙ holds l) in
-      let n : r - 8 ≡ length finished = omega (arith, count-is l) in
-      rw (x, n, state-is, o .numbers ∙ d .held, o .facbytes ∙ d .facbytes, o .sdcbytes ∙ d .sdcbytes, o .mscbytes ∙ d .mscbytes)
-      (sym (read-accepts state memory call (w .order) (w .points) (holds l)))
-    where
-      state-is : after ≡ stateOf (state .settings) (afterRows (state .settings) (progressOf state memory) (rowsOf (state .settings) msccells))
-      state-is =
-          s memory (part (slotSize (state .settings)) msccells 0) (part (slotSize (state .settings)) msccells 1) (part (slotSize (state .settings)) msccells 2)
-          ∙ rw rows-three
+    pub blocks-yield : readYield reading memory′ fac′ sdc′ msc′ ≡ readOf state memory c
+    blocks-yield = go (every tests) refl
+      where
+        go : (t : Bool) → every tests ≡ t → readYield reading memory′ fac′ sdc′ msc′ ≡ readOf state memory c
+        go true e = yield-given e
+        go false e = yield-fault e
 
 -- Zeros cut short.
 take-zeros : (a b : ℕ) → a ≤ b → take a (replicate {A = ℕ} b 0) ≡ replicate a 0
@@ -198,88 +213,102 @@ take-zeros zero b h = refl
 take-zeros (suc a) zero h = absurd (omega arith)
 take-zeros (suc a) (suc b) h = ap (λ (l : List ℕ). 0 ∷ l) (take-zeros a b (omega arith))
 
+-- What the blocks require, of a call that passes.
+module _ (state : State) (memory faccells sdccells msccells : List ℤ) (fac sdc msc : List ℕ)
+    (w : ReadPasses state memory (readCall faccells sdccells msccells fac sdc msc)) where
+  facts : ReadFits state memory (readCall faccells sdccells msccells fac sdc msc)
+  facts = read-fits state memory (readCall faccells sdccells msccells fac sdc msc) (w .order)
+
+  pub in-order-of : (state .position < depth (state .settings)) × (state .count < depth (state .settings))
+  in-order-of = (facts .order .position, facts .order .count)
+
+  pub fac-cells : length faccells ≡ 390
+  unfolding facCells
+  fac-cells = facts .cells .faclong
+
+  pub fac-room : length fac ≡ 27
+  fac-room = facts .bytes .faclong
+
+  pub sdc-frames-lent : SdcFramesLent state sdccells msccells memory sdc msc
+  unfolding memoryLength slotSize
+  sdc-frames-lent =
+      let s = accepted-of _ (facts .fits .settings) in
+      record {
+        frames =
+            record {
+              allowed = s;
+              position = facts .order .position;
+              count = facts .order .count;
+              rows = omega (arith, facts .cells .msclong, s .ranges .threeFrames);
+              slots = facts .fits .long;
+              room = facts .bytes .msclong;
+            };
+        cells = facts .cells .sdclong;
+        room = facts .bytes .sdclong;
+      }
+
+-- A part lent from the front, as it was left: it lies within the whole, and is what was left.
+module _ (n : ℕ) (l v : List ℕ) (h : n ≤ length l) (e : length v ≡ length (take (n - 0) (drop 0 l))) where
+  part-long : length v ≡ n
+  part-long = e ∙ length-take-le (n - 0) l (omega arith) ∙ sub-zero n
+
+  pub part-within : n ≤ length (putMid 0 (n - 0) l v)
+  part-within = rw (put-sets 0 n l v (omega arith) h (omega (arith, part-long)), length-sets l 0 v) h
+
+  pub part-back : take (n - 0) (drop 0 (putMid 0 (n - 0) l v)) ≡ v
+  part-back = rw sub-zero (take-at v _ n part-long)
+
+-- Working buffers for the largest settings are long enough, and parts of them have the right lengths.
+pub sdc-most : (state : State) (sdccells msccells memory : List ℤ) (sdc msc : List ℕ) → SdcFramesLent state sdccells msccells memory sdc msc → length sdc ≤ 210
+unfolding sdcBytes bytesFor roundUp
+sdc-most state sdccells msccells memory sdc msc w = omega (arith, w .room, w .frames .allowed .sdcBitsMost)
+
+pub sdc-work-lent : (state : State) (sdccells msccells memory : List ℤ) (sdc msc : List ℕ) → SdcFramesLent state sdccells msccells memory sdc msc
+    → (sdcwork : List ℕ) → length sdcwork ≡ 210 → SdcLent (state .settings) (take (length sdc - 0) (drop 0 sdcwork)) sdccells
+sdc-work-lent state sdccells msccells memory sdc msc w sdcwork e =
+    sdc-lent (w .frames .allowed)
+    (length-take-le (length sdc - 0) sdcwork (omega (arith, sdc-most state sdccells msccells memory sdc msc w)) ∙ sub-zero (length sdc) ∙ w .room)
+    (w .cells)
+
 -- Working buffers of the right lengths.
-module _ (state : State) (memory faccells sdccells msccells : List ℤ) (fac sdc msc : List ℕ) where
-  abbrev lent : ReadCall
-  lent = readCall faccells sdccells msccells fac sdc msc
+module _ (state : State) (msccells memory : List ℤ) (msc : List ℕ) (work : List ℤ) (mscwork : List ℕ) (w : FramesWork state msccells memory msc work mscwork) where
+  pub rows-lent : (work′ : List ℤ) → work′ ≡ memory → RowsLent state msccells work′ mscwork
+  rows-lent work′ e =
+      let f = w .frames in
+      record {
+        allowed = f .allowed;
+        position = f .position;
+        count = f .count;
+        rows = f .rows;
+        slots = rw e (f .slots);
+        zeros = w .zeros;
+      }
 
-  pub in-order-of : ReadPasses state memory lent → (state .position < depth (state .settings)) × (state .count < depth (state .settings))
-  in-order-of w = let f = read-fits state memory lent (w .order) in (f .order .position, f .order .count)
+  pub msc-same : (mscwork′ : List ℕ) → length mscwork′ ≡ length mscwork → length msc ≡ length mscwork′
+  msc-same mscwork′ e = w .frames .room ∙ sym (e ∙ ap length (w .zeros) ∙ length-replicate {A = ℕ} (3 * frameBytes (state .settings)) 0)
 
-  module _ (work : List ℤ) (facwork sdcwork mscwork : List ℕ) (w : WorkFits state memory lent work facwork sdcwork mscwork) where
-    facts : ReadFits state memory lent
-    facts = read-fits state memory lent (w .passes .order)
+module _ (state : State) (msccells memory : List ℤ) (msc : List ℕ) (w : FramesLent state msccells memory msc) where
+  pub numbers-most : length memory ≤ 61180
+  unfolding slotSize
+  numbers-most =
+      let d = depth-high (state .settings) in
+      let m : depth (state .settings) * (2 * nMux (state .settings)) ≤ 5 * (2 * nMux (state .settings)) = mul-le-mul-right (2 * nMux (state .settings)) d in
+      omega (arith, w .slots, w .allowed .ranges .muxMost)
 
-    pub blocks-lent : (work′ : List ℤ) → work′ ≡ memory → BlocksLent state faccells sdccells msccells work′ facwork sdcwork mscwork
-    unfolding facCells memoryLength slotSize
-    blocks-lent work′ e =
-        let s = accepted-of _ (facts .fits .settings) in
-        record {
-          rows =
-              record {
-                allowed = s;
-                position = facts .order .position;
-                count = facts .order .count;
-                rows = omega (arith, facts .cells .msclong, s .ranges .threeFrames);
-                slots = rw e (facts .fits .long);
-                zeros = w .zeros;
-              };
-          faclong = facts .cells .faclong;
-          sdclong = facts .cells .sdclong;
-          facroom = w .faclong;
-          sdcroom = w .sdclong;
-        }
+  pub msc-most : length msc ≤ 13767
+  unfolding frameBytes bytesFor roundUp
+  msc-most = omega (arith, w .room, w .allowed .frameMost, w .allowed .ranges .muxMost)
 
-    pub same-lengths : (work′ : List ℤ) (facwork′ sdcwork′ mscwork′ : List ℕ) → length work′ ≡ length work → length facwork′ ≡ length facwork
-        → length sdcwork′ ≡ length sdcwork → length mscwork′ ≡ length mscwork → SameLengths work′ facwork′ sdcwork′ mscwork′ memory fac sdc msc
-    same-lengths work′ facwork′ sdcwork′ mscwork′ a b c d =
-        record {
-          numbers = sym (a ∙ w .worklong);
-          facbytes = facts .bytes .faclong ∙ sym (b ∙ w .faclong);
-          sdcbytes = facts .bytes .sdclong ∙ sym (c ∙ w .sdclong);
-          mscbytes = facts .bytes .msclong ∙ sym (d ∙ ap length (w .zeros) ∙ length-replicate {A = ℕ} (3 * frameBytes (state .settings)) 0);
-        }
-
-  -- Working buffers for the largest settings are long enough, and parts of them have the right lengths.
-  module _ (work : List ℤ) (facwork sdcwork mscwork : List ℕ) (w : WorkEnough state memory lent work facwork sdcwork mscwork) where
-    known : ReadFits state memory lent
-    known = read-fits state memory lent (w .passes .order)
-
-    allowed : Accepted (state .settings)
-    allowed = accepted-of _ (known .fits .settings)
-
-    pub numbers-low : length memory ≤ length work
-    unfolding memoryLength slotSize
-    numbers-low =
-        let d = depth-most (state .settings) in
-        let m : depth (state .settings) * (2 * nMux (state .settings)) ≤ 5 * (2 * nMux (state .settings)) = mul-le-mul-right (2 * nMux (state .settings)) d in
-        omega (arith, known .fits .long, allowed .ranges .muxMost, w .worklong)
-
-    pub sdc-low : length sdc ≤ length sdcwork
-    unfolding sdcBytes bytesFor roundUp
-    sdc-low = omega (arith, known .bytes .sdclong, allowed .sdcBitsMost, w .sdclong)
-
-    msc-most : length msc ≤ 13767
-    unfolding frameBytes bytesFor roundUp
-    msc-most = omega (arith, known .bytes .msclong, allowed .frameMost, allowed .ranges .muxMost)
-
-    pub msc-low : length msc ≤ length mscwork
-    msc-low = let e = ap length (w .zeros) ∙ length-replicate {A = ℕ} 13767 0 in omega (arith, e, msc-most)
-
-    pub work-fits : WorkFits state memory lent (take (length memory - 0) (drop 0 work)) facwork (take (length sdc - 0) (drop 0 sdcwork)) (take (length msc - 0) (drop 0 mscwork))
-    work-fits =
-        record {
-          passes = w .passes;
-          worklong = length-take-le (length memory - 0) work (omega (arith, numbers-low)) ∙ sub-zero (length memory);
-          faclong = w .faclong;
-          sdclong = length-take-le (length sdc - 0) sdcwork (omega (arith, sdc-low)) ∙ sub-zero (length sdc) ∙ known .bytes .sdclong;
-          zeros = rw (w .zeros, sub-zero (length msc), take-zeros (length msc) 13767 msc-most, known .bytes .msclong);
-        }
+  pub frames-work : (work : List ℤ) (mscwork : List ℕ) → length work ≡ 61180 → mscwork ≡ replicate 13767 0
+      → FramesWork state msccells memory msc (take (length memory - 0) (drop 0 work)) (take (length msc - 0) (drop 0 mscwork))
+  frames-work work mscwork e z =
+      record {
+        frames = w;
+        same = length-take-le (length memory - 0) work (omega (arith, numbers-most)) ∙ sub-zero (length memory);
+        zeros = rw (z, sub-zero (length msc), take-zeros (length msc) 13767 msc-most, w .room);
+      }
 
 -- The state after three rows, from a position and a count that went on three times.
-pub later-low : (D d p : ℕ) → d < D → p ≡ later D d → p < D
-later-low D d p h e = rw (later-is D d p h e) (mod-lt (d + 1) (positive h))
-
 pub after-three : (state : State) (D p₁ p₂ p₃ c₁ c₂ c₃ : ℕ) → D ≡ depth (state .settings) → state .position < D
     → p₁ ≡ later D (state .position) → p₂ ≡ later D p₁ → p₃ ≡ later D p₂
     → c₁ ≡ min (state .count + 1) (D - 1) → c₂ ≡ min (c₁ + 1) (D - 1) → c₃ ≡ min (c₂ + 1) (D - 1) → (memory a b c : List ℤ)

@@ -2,26 +2,30 @@
 use cellrows::refusal;
 use cellrows::rows::next_count;
 use cellrows::rows::next_modulo;
-use readblocks::blocks::read_blocks;
+use channels::readers::read_sdc;
+use lists::bytes::copy as copy_bytes;
+use lists::numbers::copy as copy_numbers;
+use readblocks::blocks::read_fac_blocks;
+use readblocks::blocks::read_rows;
 use readblocks::faults::point_fault;
 use settings::Settings;
 use settings::answers;
 use superframe::Answer;
 use superframe::Reading;
 use superframe::State;
+use superframe::answers::blocks_answer;
 ghost use mathlib.Core.Path.{_≡_};
 ghost use mathlib.Core.List.{List, [], _∷_};
-ghost use Prim.Native.Nat.{_-_, _≤_, _<_};
+ghost use Prim.Native.Nat.{_<_};
 ghost use lib.ListN.{length, replicate};
 ghost use lib.IntN.{ℤ};
 ghost use Rattle.settings.specs.Sizes.{depth};
-ghost use Rattle.superframe.specs.declared.Answer.the-variants.{Finished};
 ghost use Rattle.superframe.specs.Interleaving.{afterRows};
 ghost use Rattle.superframe.specs.Code.{byteLengths, cellLengths, progressOf, stateOf};
 ghost use Rattle.superframe.specs.Read.{orderRefusal, readOf};
 ghost use Rattle.cellrows.specs.Refusals.{refusalThen};
 ghost use Rattle.readblocks.specs.Finishing.{readCall};
-ghost use Rattle.readcall.specs.Working.{readYield, SameLengths, HandedOut, WorkFits, WorkEnough, ReadPasses};
+ghost use Rattle.readcall.specs.Working.{readYield, Answered, FramesLent, FramesWork, FramesRead, SdcFramesLent, SdcFramesRead, ReadPasses, BlocksRead};
 
 // 1 to 10: the cells come in, and bytes go out.
 fn read_lengths(
@@ -74,30 +78,6 @@ fn order_refusal(
     0
 }
 
-// Numbers copied whole.
-fn copy_numbers(from: &[i16], to: &mut [i16])
-    requires { ⌜ length (now to) ≡ length (now from) ⌝ }
-    ensures { λ r. ⌜ now (to .exit) ≡ now (from .entry) ⌝ }
-{
-    let mut k = 0;
-    while k < from.len() {
-        to[k] = from[k];
-        k += 1;
-    }
-}
-
-// Bytes copied whole.
-fn copy_bytes(from: &[u8], to: &mut [u8])
-    requires { ⌜ length (now to) ≡ length (now from) ⌝ }
-    ensures { λ r. ⌜ now (to .exit) ≡ now (from .entry) ⌝ }
-{
-    let mut i = 0;
-    while i < from.len() {
-        to[i] = from[i];
-        i += 1;
-    }
-}
-
 // The state after three rows, whatever they hold.
 fn after_rows(state: State) -> State
     requires { ⌜ (state .position < depth (state .settings)) × (state .count < depth (state .settings)) ⌝ }
@@ -120,111 +100,18 @@ fn after_rows(state: State) -> State
     }
 }
 
-// Working buffers handed out whole.
-fn hand_out(
-    work: &[i16],
-    facwork: &[u8],
-    sdcwork: &[u8],
-    mscwork: &[u8],
-    memory: &mut [i16],
-    fac: &mut [u8],
-    sdc: &mut [u8],
-    msc: &mut [u8],
-)
-    requires { ⌜ SameLengths (now work) (now facwork) (now sdcwork) (now mscwork) (now memory) (now fac) (now sdc) (now msc) ⌝ }
-    ensures { λ r. ⌜ HandedOut (now (work .entry)) (now (facwork .entry)) (now (sdcwork .entry)) (now (mscwork .entry)) (now (memory .exit)) (now (fac .exit)) (now (sdc .exit)) (now (msc .exit)) ⌝ }
+// The answer with the state that follows it: a refusal leaves the state as it was.
+fn answered(state: State, answer: Answer) -> Reading
+    requires { ⌜ (state .position < depth (state .settings)) × (state .count < depth (state .settings)) ⌝ }
+    ensures { λ r. ⌜ Answered state answer r ⌝ }
 {
-    copy_numbers(work, memory);
-    copy_bytes(facwork, fac);
-    copy_bytes(sdcwork, sdc);
-    copy_bytes(mscwork, msc);
-}
-
-// The answer where bits give every block: read_blocks gave 8 and the number of finished frames.
-fn finished(number: usize) -> Answer
-    requires { ⌜ (8 ≤ number) × (number ≤ 11) ⌝ }
-    ensures { λ r. ⌜ r ≡ Finished (number - 8) ⌝ }
-{
-    Answer::Finished((number - 8) as u8)
-}
-
-// The blocks read into working buffers, on a copy of memory; handed out where bits give every block.
-fn read_working(
-    state: State,
-    faccells: &[i16],
-    sdccells: &[i16],
-    msccells: &[i16],
-    memory: &mut [i16],
-    fac: &mut [u8],
-    sdc: &mut [u8],
-    msc: &mut [u8],
-    work: &mut [i16],
-    facwork: &mut [u8],
-    sdcwork: &mut [u8],
-    mscwork: &mut [u8],
-) -> Reading
-    requires { ⌜ WorkFits state (now memory) (readCall (now faccells) (now sdccells) (now msccells) (now fac) (now sdc) (now msc)) (now work) (now facwork) (now sdcwork) (now mscwork) ⌝ }
-    ensures { λ r. ⌜ readYield r (now (memory .exit)) (now (fac .exit)) (now (sdc .exit)) (now (msc .exit)) ≡ readOf state (now (memory .entry)) (readCall (now (faccells .entry)) (now (sdccells .entry)) (now (msccells .entry)) (now (fac .entry)) (now (sdc .entry)) (now (msc .entry))) ⌝ }
-{
-    copy_numbers(memory, work);
-    let number = read_blocks(
-        state,
-        faccells,
-        sdccells,
-        msccells,
-        work,
-        facwork,
-        sdcwork,
-        mscwork,
-    );
-    if number < 8 {
-        return Reading {
-            answer: Answer::Refused(14, number as u8),
-            state,
-        };
+    if let Answer::Refused(_, _) = answer {
+        return Reading { answer, state };
     }
-    hand_out(work, facwork, sdcwork, mscwork, memory, fac, sdc, msc);
     Reading {
-        answer: finished(number),
+        answer,
         state: after_rows(state),
     }
-}
-
-// The same with working buffers for the largest settings.
-fn read_with(
-    state: State,
-    faccells: &[i16],
-    sdccells: &[i16],
-    msccells: &[i16],
-    memory: &mut [i16],
-    fac: &mut [u8],
-    sdc: &mut [u8],
-    msc: &mut [u8],
-    work: &mut [i16],
-    facwork: &mut [u8],
-    sdcwork: &mut [u8],
-    mscwork: &mut [u8],
-) -> Reading
-    requires { ⌜ WorkEnough state (now memory) (readCall (now faccells) (now sdccells) (now msccells) (now fac) (now sdc) (now msc)) (now work) (now facwork) (now sdcwork) (now mscwork) ⌝ }
-    ensures { λ r. ⌜ readYield r (now (memory .exit)) (now (fac .exit)) (now (sdc .exit)) (now (msc .exit)) ≡ readOf state (now (memory .entry)) (readCall (now (faccells .entry)) (now (sdccells .entry)) (now (msccells .entry)) (now (fac .entry)) (now (sdc .entry)) (now (msc .entry))) ⌝ }
-{
-    let numbers = memory.len();
-    let sdcbytes = sdc.len();
-    let mscbytes = msc.len();
-    read_working(
-        state,
-        faccells,
-        sdccells,
-        msccells,
-        memory,
-        fac,
-        sdc,
-        msc,
-        &mut work[0..numbers],
-        facwork,
-        &mut sdcwork[0..sdcbytes],
-        &mut mscwork[0..mscbytes],
-    )
 }
 
 // Working buffers for the largest settings, each from a function of its own: proofs then take its length and do not write it out.
@@ -247,8 +134,74 @@ fn msc_buffer() -> [u8; 13767]
     [0u8; 13767]
 }
 
-// A call that no number from 1 to 13 refuses.
-fn read_passed(
+// The frames that a call's rows finish, read on a copy of memory; memory and bytes are handed out where bits give every frame.
+fn read_frames_with(
+    state: State,
+    msccells: &[i16],
+    memory: &mut [i16],
+    msc: &mut [u8],
+    work: &mut [i16],
+    mscwork: &mut [u8],
+) -> usize
+    requires { ⌜ FramesWork state (now msccells) (now memory) (now msc) (now work) (now mscwork) ⌝ }
+    ensures { λ r. ⌜ FramesRead state (now (msccells .entry)) (now (memory .entry)) (now (msc .entry)) r (now (memory .exit)) (now (msc .exit)) ⌝ }
+{
+    copy_numbers(memory, work);
+    let number = read_rows(state, msccells, work, mscwork);
+    if number < 8 {
+        return number;
+    }
+    copy_numbers(work, memory);
+    copy_bytes(mscwork, msc);
+    number
+}
+
+// The same with working buffers for the largest settings.
+fn read_frames(state: State, msccells: &[i16], memory: &mut [i16], msc: &mut [u8]) -> usize
+    requires { ⌜ FramesLent state (now msccells) (now memory) (now msc) ⌝ }
+    ensures { λ r. ⌜ FramesRead state (now (msccells .entry)) (now (memory .entry)) (now (msc .entry)) r (now (memory .exit)) (now (msc .exit)) ⌝ }
+{
+    let mut work = memory_buffer();
+    let mut mscwork = msc_buffer();
+    let numbers = memory.len();
+    let bytes = msc.len();
+    read_frames_with(
+        state,
+        msccells,
+        memory,
+        msc,
+        &mut work[0..numbers],
+        &mut mscwork[0..bytes],
+    )
+}
+
+// The SDC block and the frames: bytes of the block are handed out where bits give it and every frame.
+fn read_sdc_frames(
+    state: State,
+    sdccells: &[i16],
+    msccells: &[i16],
+    memory: &mut [i16],
+    sdc: &mut [u8],
+    msc: &mut [u8],
+) -> usize
+    requires { ⌜ SdcFramesLent state (now sdccells) (now msccells) (now memory) (now sdc) (now msc) ⌝ }
+    ensures { λ r. ⌜ SdcFramesRead state (now (sdccells .entry)) (now (msccells .entry)) (now (memory .entry)) (now (sdc .entry)) (now (msc .entry)) r (now (memory .exit)) (now (sdc .exit)) (now (msc .exit)) ⌝ }
+{
+    let mut sdcwork = sdc_buffer();
+    let bytes = sdc.len();
+    if !read_sdc(state.settings, sdccells, &mut sdcwork[0..bytes]) {
+        return 3;
+    }
+    let number = read_frames(state, msccells, memory, msc);
+    if number < 8 {
+        return number;
+    }
+    copy_bytes(&sdcwork[0..bytes], sdc);
+    number
+}
+
+// All blocks of a call that no number from 1 to 13 refuses: the one at fault, or 8 and the number of finished frames.
+fn read_blocks(
     state: State,
     faccells: &[i16],
     sdccells: &[i16],
@@ -257,28 +210,21 @@ fn read_passed(
     fac: &mut [u8],
     sdc: &mut [u8],
     msc: &mut [u8],
-) -> Reading
+) -> usize
     requires { ⌜ ReadPasses state (now memory) (readCall (now faccells) (now sdccells) (now msccells) (now fac) (now sdc) (now msc)) ⌝ }
-    ensures { λ r. ⌜ readYield r (now (memory .exit)) (now (fac .exit)) (now (sdc .exit)) (now (msc .exit)) ≡ readOf state (now (memory .entry)) (readCall (now (faccells .entry)) (now (sdccells .entry)) (now (msccells .entry)) (now (fac .entry)) (now (sdc .entry)) (now (msc .entry))) ⌝ }
+    ensures { λ r. ⌜ BlocksRead state (now (memory .entry)) (readCall (now (faccells .entry)) (now (sdccells .entry)) (now (msccells .entry)) (now (fac .entry)) (now (sdc .entry)) (now (msc .entry))) r (now (memory .exit)) (now (fac .exit)) (now (sdc .exit)) (now (msc .exit)) ⌝ }
 {
-    let mut work = memory_buffer();
     let mut facwork = fac_buffer();
-    let mut sdcwork = sdc_buffer();
-    let mut mscwork = msc_buffer();
-    read_with(
-        state,
-        faccells,
-        sdccells,
-        msccells,
-        memory,
-        fac,
-        sdc,
-        msc,
-        &mut work,
-        &mut facwork,
-        &mut sdcwork,
-        &mut mscwork,
-    )
+    let fault = read_fac_blocks(faccells, &mut facwork);
+    if fault < 3 {
+        return fault;
+    }
+    let number = read_sdc_frames(state, sdccells, msccells, memory, sdc, msc);
+    if number < 8 {
+        return number;
+    }
+    copy_bytes(&facwork, fac);
+    number
 }
 
 // The cells of a super frame to three FAC blocks, an SDC block and the multiplex frames that it finishes; a refusal leaves everything as it was.
@@ -314,5 +260,6 @@ pub fn read(
             state,
         };
     }
-    read_passed(state, faccells, sdccells, msccells, memory, fac, sdc, msc)
+    let number = read_blocks(state, faccells, sdccells, msccells, memory, fac, sdc, msc);
+    answered(state, blocks_answer(number))
 }

@@ -5,24 +5,26 @@ use mathlib.Core.Bool.{Bool, true, false, cond}
 use mathlib.Core.List.{List}
 use native.Mathlib.Omega.{arith}
 use lib.ListN.{length, take}
+use lib.Seq.{length-take-le}
 use lib.IntN.{ℤ}
 use Rattle.block.specs.Packing.{bytesOf, packed}
 use Rattle.block.specs.Block.{bitCount, cellsOf, cellsFrom}
-use Rattle.block.specs.Points.{sameNumbers}
+use Rattle.lists.specs.Same.{sameNumbers}
 use Rattle.block.specs.Reading.{candidate, given, bytesRead}
 use Rattle.block.specs.Fits.{LevelsFit}
-use Rattle.block.specs.Plan.{levelsOf, bitsBefore}
-use Rattle.block.specs.Requirements.{Packs, Sums}
+use Rattle.block.specs.Plan.{levelsOf, bitsBefore, blockOf}
+use Rattle.packing.specs.Requirements.{Packs}
+use Rattle.levels.specs.Requirements.{Sums}
 use Rattle.candidate.specs.Candidate.{digitAt}
 use Rattle.block.proofs.Block.{candidate-block, unpacked-block}
-use Rattle.coder.specs.Coder.{blockOf, CodesBlock}
+use Rattle.coder.specs.Coder.{CodesBlock}
 use Rattle.coder.proofs.Lists.{length-start}
 use Rattle.coder.proofs.Plans.{totalA-plan, totalB-plan, length-levelsOf, level-ready}
 use Rattle.coder.proofs.Blocks.{labels-low}
 use Rattle.reader.specs.Reader.{BlockRead, ReadsBlockIn, ReadsBlockWith, HandsOut}
 
-module _ {plan : List ℕ} {v : ℕ} {one : Bool} {c n1 : ℕ} {cells : List ℤ} {re im coded a b bits pack₀ : List ℕ} {again₀ : List ℤ} {bytes : List ℕ}
-    (R : ReadsBlockIn plan v one c n1 cells re im coded a b bits pack₀ again₀ bytes)
+module _ {plan : List ℕ} {v : ℕ} {one : Bool} {c n1 : ℕ} {cells : List ℤ} {re im coded b bits pack₀ : List ℕ} {again₀ : List ℤ} {bytes : List ℕ}
+    (R : ReadsBlockIn plan v one c n1 cells re im coded b bits pack₀ again₀ bytes)
     {u : List ℕ} (eu : u ≡ candidate (blockOf plan v one c (length cells / 2)) cells) where
   -- the candidate's bits can be packed
   pub packs : Packs u pack₀
@@ -82,8 +84,8 @@ unfolding digitAt
 digits-low true s l h k = omega arith
 digits-low false s l h k = omega arith
 
-module _ {plan : List ℕ} {v : ℕ} {one : Bool} {c n1 : ℕ} {cells : List ℤ} {re im coded a b bits packed₀ : List ℕ} {again : List ℤ} {bytes : List ℕ}
-    (R : ReadsBlockWith plan v one c n1 cells re im coded a b bits packed₀ again bytes) where
+module _ {plan : List ℕ} {v : ℕ} {one : Bool} {c n1 : ℕ} {cells : List ℤ} {re im coded b bits packed₀ : List ℕ} {again : List ℤ} {bytes : List ℕ}
+    (R : ReadsBlockWith plan v one c n1 cells re im coded b bits packed₀ again bytes) where
   all-bits : bitCount (blockOf plan v one c (length cells / 2)) ≡ bitsBefore plan 0 (length plan / 6) + bitsBefore plan 1 (length plan / 6)
   unfolding bitCount
   all-bits = ap₂ _+_ (totalA-plan plan) (totalB-plan plan)
@@ -124,33 +126,36 @@ module _ {plan : List ℕ} {v : ℕ} {one : Bool} {c n1 : ℕ} {cells : List ℤ
         (rw (← R .block .fits .levels, length-levelsOf plan) h)
 
     -- the block can be read with parts of the buffers
-    pub reads-in : ReadsBlockIn plan v one c n1 cells (take (n - 0) re) (take (n - 0) im) coded (take (x - 0) a) (take (y - 0) b) (take (x + y - 0) bits)
+    pub reads-in : ReadsBlockIn plan v one c n1 cells (take (n - 0) re) (take (n - 0) im) coded (take (y - 0) b) (take (x + y - 0) bits)
         (take (length bytes - 0) packed₀) (take (length cells - 0) again) bytes
     reads-in =
         let re-long : length (take (n - 0) re) ≡ n = length-start n re (omega (arith, numbers-low, R .real)) in
         let im-long : length (take (n - 0) im) ≡ n = length-start n im (omega (arith, numbers-low, R .imaginary)) in
-        let a-long : length (take (x - 0) a) ≡ x = length-start x a (omega (arith, bits-low, R .partA)) in
         let b-long : length (take (y - 0) b) ≡ y = length-start y b (omega (arith, bits-low, R .partB)) in
         let bits-long : length (take (x + y - 0) bits) ≡ x + y = length-start (x + y) bits (omega (arith, bits-low, R .both)) in
+        let n-long : length (take (x + y - 0) bits) - length (take (y - 0) b) ≡ x = omega arith in
+        let a-long : length (take (length (take (x + y - 0) bits) - length (take (y - 0) b)) (take (x + y - 0) bits)) ≡ x = rw n-long (length-take-le x (take (x + y - 0) bits) (omega arith)) in
         record {
           block = R .block;
           candidate = record {
-            levels = record {
+            parts = record {
+              fit = omega arith;
               levels = record {
-                few = omega (arith, R .block .few);
-                ready = λ l h. rw re-long (level-ready fit (R .block .numbers) l h);
-                digits = low;
-                same = im-long ∙ sym re-long;
-                long = (a-long ∙ e, b-long ∙ f);
-                short = (omega (arith, a-long, bits-low), omega (arith, b-long, bits-low));
-                buffer = omega (arith, re-long, numbers-low, R .buffer);
-                high = omega (arith, re-long, numbers-low);
+                levels = record {
+                  few = omega (arith, R .block .few);
+                  ready = λ l h. rw re-long (level-ready fit (R .block .numbers) l h);
+                  digits = low;
+                  same = im-long ∙ sym re-long;
+                  long = (a-long ∙ e, b-long ∙ f);
+                  short = (omega (arith, a-long, bits-low), omega (arith, b-long, bits-low));
+                  buffer = omega (arith, re-long, numbers-low, R .buffer);
+                  high = omega (arith, re-long, numbers-low);
+                };
+                known = R .block .known;
+                whole = R .block .whole;
+                numbers = re-long ∙ g;
               };
-              known = R .block .known;
-              whole = R .block .whole;
-              numbers = re-long ∙ g;
             };
-            both = bits-long ∙ rw (a-long, b-long);
             front = omega (arith, bits-long, e, f, all-bits, R .block .fits .front);
           };
           same = length-start (length bytes) packed₀ bytes-low;

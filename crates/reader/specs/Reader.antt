@@ -15,21 +15,20 @@ pub record BlockRead (k : Block) (cells : List ℤ) (bytes : List ℕ) (answer :
   pub answered : answer ≡ given k cells
   pub written : bytes' ≡ cond (given k cells) (bytesRead k cells) bytes
 
--- A block, and working buffers of its lengths: for the numbers of its cells, its coded bits, the bits of parts A and B and of both, the candidate's packed
+-- A block, and working buffers of its lengths: for the numbers of its cells, its coded bits, the bits of part B and of both parts, the candidate's packed
 -- bytes and its cells.
-pub record ReadsBlockIn (plan : List ℕ) (v : ℕ) (one : Bool) (c n1 : ℕ) (cells : List ℤ) (re im coded a b bits packed : List ℕ) (again : List ℤ) (bytes : List ℕ) : Type 0 where
+pub record ReadsBlockIn (plan : List ℕ) (v : ℕ) (one : Bool) (c n1 : ℕ) (cells : List ℤ) (re im coded b bits packed : List ℕ) (again : List ℤ) (bytes : List ℕ) : Type 0 where
   pub block : CodesBlock plan v one c n1 bytes cells
-  pub candidate : ReadsCandidate plan v one c cells re im coded a b bits
+  pub candidate : ReadsCandidate plan v one c cells re im coded b bits
   pub same : length packed ≡ length bytes
   pub all : length again ≡ length cells
 
 -- A block, and working buffers for the largest.
-pub record ReadsBlockWith (plan : List ℕ) (v : ℕ) (one : Bool) (c n1 : ℕ) (cells : List ℤ) (re im coded a b bits packed : List ℕ) (again : List ℤ) (bytes : List ℕ) : Type 0 where
+pub record ReadsBlockWith (plan : List ℕ) (v : ℕ) (one : Bool) (c n1 : ℕ) (cells : List ℤ) (re im coded b bits packed : List ℕ) (again : List ℤ) (bytes : List ℕ) : Type 0 where
   pub block : CodesBlock plan v one c n1 bytes cells
   pub real : length re ≡ 12236
   pub imaginary : length im ≡ 12236
   pub buffer : length coded ≡ 12236
-  pub partA : length a ≡ 36708
   pub partB : length b ≡ 36708
   pub both : length bits ≡ 36708
   pub room : length packed ≡ 4589

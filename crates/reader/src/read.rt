@@ -1,14 +1,15 @@
 // A block read back: the candidate's bits, packed, coded again and compared with the cells. 01 "Operations".
 use crate::compare::hand_out;
-use block::bits::pack;
-use block::blocks::bits_before;
-use candidate::levels::candidate_bits;
+use candidate::bits::candidate_bits;
 use coder::code::code_block;
+use levels::plan::bits_before;
+use packing::bits::pack;
 ghost use mathlib.Core.Path.{_≡_};
 ghost use mathlib.Core.Bool.{cond};
 ghost use Prim.Native.Nat.{_/_};
 ghost use lib.ListN.{length};
-ghost use Rattle.coder.specs.Coder.{blockOf, CodesBlock};
+ghost use Rattle.block.specs.Plan.{blockOf};
+ghost use Rattle.coder.specs.Coder.{CodesBlock};
 ghost use Rattle.reader.specs.Reader.{BlockRead, ReadsBlockIn, ReadsBlockWith};
 
 // The packed bytes that give the cells, if there are such, with working buffers of the block's lengths.
@@ -22,17 +23,16 @@ fn read_block_in(
     re: &mut [u8],
     im: &mut [u8],
     coded: &mut [u8],
-    a: &mut [u8],
     b: &mut [u8],
     bits: &mut [u8],
     packed: &mut [u8],
     again: &mut [i16],
     bytes: &mut [u8],
 ) -> bool
-    requires { ⌜ ReadsBlockIn (now plan) vspp one c n1 (now cells) (now re) (now im) (now coded) (now a) (now b) (now bits) (now packed) (now again) (now bytes) ⌝ }
+    requires { ⌜ ReadsBlockIn (now plan) vspp one c n1 (now cells) (now re) (now im) (now coded) (now b) (now bits) (now packed) (now again) (now bytes) ⌝ }
     ensures { λ r. ⌜ BlockRead (blockOf (now (plan .entry)) vspp one c (length (now (cells .entry)) / 2)) (now (cells .entry)) (now (bytes .entry)) r (now (bytes .exit)) ⌝ }
 {
-    candidate_bits(plan, vspp, one, c, cells, re, im, coded, a, b, bits);
+    candidate_bits(plan, vspp, one, c, cells, re, im, coded, b, bits);
     pack(bits, packed);
     code_block(plan, vspp, one, c, n1, packed, again);
     hand_out(packed, again, cells, bytes)
@@ -59,14 +59,13 @@ fn read_block_with(
     re: &mut [u8],
     im: &mut [u8],
     coded: &mut [u8],
-    a: &mut [u8],
     b: &mut [u8],
     bits: &mut [u8],
     packed: &mut [u8],
     again: &mut [i16],
     bytes: &mut [u8],
 ) -> bool
-    requires { ⌜ ReadsBlockWith (now plan) vspp one c n1 (now cells) (now re) (now im) (now coded) (now a) (now b) (now bits) (now packed) (now again) (now bytes) ⌝ }
+    requires { ⌜ ReadsBlockWith (now plan) vspp one c n1 (now cells) (now re) (now im) (now coded) (now b) (now bits) (now packed) (now again) (now bytes) ⌝ }
     ensures { λ r. ⌜ BlockRead (blockOf (now (plan .entry)) vspp one c (length (now (cells .entry)) / 2)) (now (cells .entry)) (now (bytes .entry)) r (now (bytes .exit)) ⌝ }
 {
     let count = plan.len() / 6;
@@ -86,7 +85,6 @@ fn read_block_with(
         &mut re[0..n],
         &mut im[0..n],
         coded,
-        &mut a[0..front],
         &mut b[0..rest],
         &mut bits[0..total],
         &mut packed[0..k],
@@ -127,7 +125,6 @@ pub fn read_block(
     let mut re = cell_buffer();
     let mut im = cell_buffer();
     let mut coded = cell_buffer();
-    let mut a = bit_buffer();
     let mut b = bit_buffer();
     let mut bits = bit_buffer();
     let mut packed = byte_buffer();
@@ -142,7 +139,6 @@ pub fn read_block(
         &mut re,
         &mut im,
         &mut coded,
-        &mut a,
         &mut b,
         &mut bits,
         &mut packed,

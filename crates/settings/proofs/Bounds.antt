@@ -8,7 +8,7 @@ use native.Mathlib.Omega.{arith}
 use lib.Dec.{T, leb, leb→le}
 use lib.ListN.{length, getD, drop}
 use borrow.Author.Tests.{eq-eqb, ne-eqb, leb-true}
-use Rattle.component.specs.Lists.{total}
+use Rattle.lists.specs.Lists.{total}
 use Rattle.component.specs.Patterns.{RX, RY, numerators, denominators}
 use Rattle.settings.specs.declared.Settings.{Settings}
 use Rattle.settings.specs.Rates.{rates, table67, table68, table69, table71, commonDenominator, vsppRate, sdcRates}

@@ -7,7 +7,7 @@ use native.Mathlib.Nat.{le-trans, mul-le-mul, div-le-self, mul-le-mul-right, mul
 use native.Mathlib.Omega.{arith}
 use lib.Dec.{T, leb, eqb, leb→le, eqb→eq}
 use lib.ListN.{length, getD}
-use Rattle.component.specs.Lists.{total}
+use Rattle.lists.specs.Lists.{total}
 use Rattle.component.specs.Patterns.{RX, RY, numerators, denominators}
 use Rattle.settings.specs.Rates.{rates, table67, table68, table69, table71, commonDenominator}
 use Rattle.settings.specs.Formulas.{hierarchical, width, bitsA, partA, roundUp, cellsA}

@@ -10,7 +10,7 @@ use lib.Dec.{T, leb, ltb, leb→le, ltb→lt}
 use lib.ListN.{length, getD, drop, drop-of-length-le, List·getD-eq-default}
 use lib.Seq.{drop-cons}
 use borrow.Author.Tests.{ltb-true, ltb-false}
-use Rattle.component.specs.Lists.{total}
+use Rattle.lists.specs.Lists.{total}
 use Rattle.component.specs.Patterns.{RX, RY, numerators, denominators}
 use Rattle.settings.specs.Rates.{rates, vsppRate, sdcRates}
 use Rattle.settings.specs.Formulas.{hierarchical, width, bitsB, partVspp, sdcBits}

@@ -3,7 +3,7 @@ use Prim.Native.Nat.{ℕ, _+_, _-_, _*_, _/_, _%_}
 use mathlib.Core.Bool.{Bool, cond, _||_}
 use mathlib.Core.List.{List, map}
 use lib.Dec.{eqb}
-use Rattle.component.specs.Lists.{total}
+use Rattle.lists.specs.Lists.{total}
 use Rattle.component.specs.Patterns.{RX, RY}
 use Rattle.settings.specs.Rates.{rates, commonDenominator, vsppRate, sdcRates}
 

@@ -1,7 +1,7 @@
 -- The input bits of levels from their coded bits, as the code sums them: nothing of 01 is stated here.
 use Prim.Native.Nat.{ℕ, _*_, _/_}
 use mathlib.Core.List.{List, map}
-use Rattle.component.specs.Lists.{total}
+use Rattle.lists.specs.Lists.{total}
 use Rattle.component.specs.Patterns.{RX, RY}
 
 -- A level's input bits for whole rounds of its rate's pattern in so many coded bits: RX floor(coded / RY).

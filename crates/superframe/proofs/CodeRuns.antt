@@ -11,8 +11,8 @@ use lib.ListN.{length, getD, drop, length-drop, length-append, List·getD-append
 use lib.Seq.{getD-drop, drop-drop, drop-at}
 use lib.IntN.{ℤ}
 use borrow.Author.Tests.{ne-eqb, eq-eqb}
-use Rattle.component.specs.Lists.{table}
-use Rattle.component.proofs.Tables.{length-table}
+use Rattle.lists.specs.Lists.{table}
+use Rattle.lists.proofs.Tables.{length-table, table-at, table-ext, table-from, map-table}
 use Rattle.settings.specs.declared.Settings.{Settings}
 use Rattle.settings.specs.Refusal.{first, refusal}
 use Rattle.settings.specs.Sizes.{frameBytes}
@@ -30,7 +30,6 @@ use Rattle.superframe.specs.Runs.{Bits, noBits, bitsOf, codes, brought, 
 use Rattle.superframe.specs.Standard.{standardRow, superFrame}
 use Rattle.superframe.specs.Demand3.{runNumber}
 use Rattle.block.proofs.Block.{bits-block}
-use Rattle.block.proofs.Lists.{getD-table, table-ext, table-from, map-table}
 use Rattle.superframe.proofs.Lists.{both}
 use Rattle.block.specs.Fits.{BlockBits}
 use Rattle.superframe.proofs.Coding.{AllBits, none, more, all-at, all-append, Coding}
@@ -130,7 +129,7 @@ module _ (k : Block) (n : ℕ) (bytes : List ℕ) (l ys : List (List ℕ)) (a : 
   pub three-bits : (i : ℕ) → i < 3 → getD l (a + i) [] ≡ bitsOf k (part n bytes i)
   three-bits i h =
       at-front l (map (bitsOf k) (parts n bytes)) ys a i [] e (rw three-long h)
-      ∙ ap (λ r. getD r i []) three ∙ getD-table (λ i. bitsOf k (part n bytes i)) 0 3 i [] h ∙ rw zero-add
+      ∙ ap (λ r. getD r i []) three ∙ table-at (λ i. bitsOf k (part n bytes i)) 0 3 i [] h ∙ rw zero-add
 
   pub three-after : drop (a + 3) l ≡ ys
   three-after = past-front l (map (bitsOf k) (parts n bytes)) ys a 3 e three-long

@@ -6,7 +6,7 @@ use native.Mathlib.Nat.{add-zero, add-suc, suc-add}
 use native.Mathlib.Omega.{arith}
 use lib.ListN.{length, getD}
 use lib.IntN.{pos}
-use Rattle.component.specs.Lists.{table}
+use Rattle.lists.specs.Lists.{table}
 use Rattle.settings.specs.declared.Settings.{Settings}
 use Rattle.settings.specs.Lengths.{nMux}
 use Rattle.settings.specs.Sizes.{depth}
@@ -14,7 +14,7 @@ use Rattle.superframe.specs.Memory.{slotSize, numberIn, stored}
 use Rattle.superframe.specs.Interleaving.{Progress, sentPlace, delay, slotBefore, advanced, sentRow, afterFrames, sentRows}
 use Rattle.superframe.specs.Call.{joined}
 use Rattle.superframe.specs.Standard.{standardRow}
-use Rattle.block.proofs.Lists.{table-ext}
+use Rattle.lists.proofs.Tables.{table-ext}
 use Rattle.superframe.proofs.Memory.{length-stored, stored-same, stored-other}
 use Rattle.superframe.proofs.Slots.{slot-zero, slot-once, slot-next, next-low}
 use Rattle.superframe.proofs.Places.{delay-low, sent-low}

@@ -24,7 +24,7 @@ use Rattle.superframe.specs.Runs.{bitsOf}
 use Rattle.block.specs.Fits.{BlockBits}
 use Rattle.block.specs.Reads.{ReadsBytes}
 use Rattle.block.proofs.Block.{length-cells}
-use Rattle.block.proofs.Lists.{getD-table}
+use Rattle.lists.proofs.Tables.{table-at}
 use Rattle.superframe.proofs.Lists.{both, every-at}
 
 -- Bits of a block, each of a list.
@@ -93,7 +93,7 @@ depth-high s = go (eqb (s .interleaving) 0)
 -- If all cells are points then each is.
 on-axis : (k : Constellation) (cells : List ℤ) → arePoints k cells ≡ true → (j : ℕ) → j < length cells → onAxis (axis k j) (getD cells j (pos 0)) ≡ true
 unfolding arePoints
-on-axis k cells h j b = sym (getD-table (λ j. onAxis (axis k j) (getD cells j (pos 0))) 0 (length cells) j true b ∙ rw zero-add) ∙ every-at _ h j
+on-axis k cells h j b = sym (table-at (λ j. onAxis (axis k j) (getD cells j (pos 0))) 0 (length cells) j true b ∙ rw zero-add) ∙ every-at _ h j
 
 axis-real : (k : Constellation) (j : ℕ) → axis k (2 * j) ≡ k .real
 unfolding axis

@@ -9,13 +9,14 @@ use native.Mathlib.Omega.{arith}
 use lib.ListN.{length, getD, length-replicate, getD-replicate}
 use lib.IntN.{ℤ, pos}
 use borrow.Author.Tests.{le-leb, lt-leb}
-use Rattle.component.specs.Lists.{table}
-use Rattle.component.proofs.Counting.{below-or}
+use Rattle.lists.specs.Lists.{table}
+use Rattle.lists.proofs.Counting.{below-or}
 use Rattle.settings.specs.declared.Settings.{Settings}
 use Rattle.settings.specs.Lengths.{nMux}
 use Rattle.settings.specs.Sizes.{depth}
 use Rattle.block.specs.Block.{cellsOf}
-use Rattle.block.specs.Points.{isPoint, sameNumber, every}
+use Rattle.block.specs.Points.{isPoint, every}
+use Rattle.lists.specs.Same.{sameNumber}
 use Rattle.frame.specs.Msc.{mscBlock}
 use Rattle.superframe.specs.Memory.{slotSize, numberIn, startFrame, slotOf}
 use Rattle.superframe.specs.Interleaving.{Progress, sentPlace, delay, slotBefore}
@@ -24,8 +25,8 @@ use Rattle.superframe.specs.Reset.{startMemory}
 use Rattle.superframe.specs.Code.{stateOf}
 use Rattle.superframe.specs.Facts.{Ordered}
 use Rattle.superframe.specs.Standard.{earlierCells, standardRow}
-use Rattle.block.proofs.Lists.{getD-table}
-use Rattle.superframe.proofs.Lists.{part-joined, length-joined, replicate-table, every-table}
+use Rattle.lists.proofs.Tables.{table-at, replicate-table}
+use Rattle.superframe.proofs.Lists.{part-joined, length-joined, every-table}
 use Rattle.superframe.proofs.Memory.{getD-slot}
 use Rattle.superframe.proofs.Slots.{slot-low, slot-cover}
 use Rattle.superframe.proofs.Places.{sent-real, sent-imaginary, cell-sent, sent-low}
@@ -92,7 +93,7 @@ module _ (s : Settings) (F : List (List ℕ)) where
       → getD (standardRow s F f) k (pos 0) ≡ getD (aged s F (suc f) (delay (depth s) k)) (sentPlace (nMux s) k) (pos 0)
   unfolding standardRow
   row-number f k h =
-      getD-table (λ k. getD (earlierCells s F f (delay (depth s) k)) (sentPlace (nMux s) k) (pos 0)) 0 (slotSize s) k (pos 0) h
+      table-at (λ k. getD (earlierCells s F f (delay (depth s) k)) (sentPlace (nMux s) k) (pos 0)) 0 (slotSize s) k (pos 0) h
       ∙ rw (zero-add, earlier-aged)
 
 -- What memory keeps before frame f, if the number at sent place k of the slot written d + 1 frames before the position is of the frame of age a d k.

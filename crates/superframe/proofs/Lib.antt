@@ -11,5 +11,7 @@ pub mod CodeRuns
 pub mod ReadCalls
 pub mod ReadRuns
 pub mod Demand3
+pub mod Tests
+pub mod Faults
 pub mod Demand2
 pub mod Accepted

@@ -5,11 +5,11 @@ use mathlib.Core.Bool.{Bool, true, false, _&&_}
 use mathlib.Core.List.{List, [], _∷_, _++_, append-assoc, append-nil}
 use native.Mathlib.Nat.{add-zero, zero-add, add-suc, suc-add, mul-zero, mul-suc, zero-mul}
 use native.Mathlib.Omega.{arith}
-use lib.ListN.{length, getD, take, drop, replicate, length-append, length-take}
+use lib.ListN.{length, getD, take, drop, length-append, length-take}
 use lib.Seq.{getD-take, take-at, drop-append-add}
-use Rattle.component.specs.Lists.{table}
+use Rattle.lists.specs.Lists.{table}
 use Rattle.block.specs.Points.{every}
-use Rattle.block.proofs.Lists.{table-is, table-ext, table-from}
+use Rattle.lists.proofs.Tables.{table-is, table-ext, table-from}
 use Rattle.superframe.specs.Call.{part, parts, joined}
 
 -- The first of a list's elements.
@@ -51,12 +51,6 @@ module _ {A : Type 0} (n : ℕ) (f : ℕ → List A) where
   length-joined k zero long = rw zero-mul
   length-joined k (suc m) long =
       rw (length-append, length-joined (suc k) m (λ i a b. long i (omega arith) (omega arith)), long k (omega arith) (omega arith)) (omega arith)
-
--- Equal elements are a table.
-pub replicate-table : {A : Type 0} (a : A) (k n : ℕ) → replicate n a ≡ table (λ i. a) k n
-unfolding table
-replicate-table a k zero = refl
-replicate-table a k (suc n) = ap (λ l. a ∷ l) (replicate-table a (suc k) n)
 
 -- Two tests that hold, one of two that hold.
 pub both : {a b : Bool} → a ≡ true → b ≡ true → (a && b) ≡ true

@@ -3,10 +3,10 @@ use Prim.Native.Nat.{ℕ, _+_, _*_, _/_, _%_, _≤_, _<_}
 use mathlib.Core.Path.{_≡_, refl}
 use native.Mathlib.Nat.{mod-lt}
 use native.Mathlib.Omega.{arith}
-use Rattle.component.specs.Interleaving.{place}
-use Rattle.component.specs.Deinterleaving.{Cycles}
-use Rattle.component.proofs.Counting.{Among}
-use Rattle.component.proofs.Places.{place-low, place-cover, place-once}
+use Rattle.interleaver.specs.Interleaving.{place}
+use Rattle.interleaver.specs.Deinterleaving.{Cycles}
+use Rattle.lists.proofs.Counting.{Among}
+use Rattle.interleaver.proofs.Places.{place-low, place-cover, place-once}
 use Rattle.superframe.specs.Interleaving.{sentPlace, delay}
 
 -- A delay is below the depth, and the two numbers of a cell have one delay.

@@ -8,18 +8,19 @@ use native.Mathlib.Omega.{arith}
 use lib.ListN.{length, getD, take, length-append, length-take}
 use lib.IntN.{pos}
 use borrow.Author.Tests.{le-leb, lt-leb}
-use Rattle.component.specs.Lists.{table}
-use Rattle.component.specs.Interleaving.{place}
-use Rattle.component.proofs.Tables.{length-table}
-use Rattle.component.proofs.Places.{place-low}
-use Rattle.component.proofs.Counting.{below-or}
+use Rattle.lists.specs.Lists.{table}
+use Rattle.interleaver.specs.Interleaving.{place}
+use Rattle.lists.proofs.Tables.{length-table, table-ext, table-from, map-table}
+use Rattle.interleaver.proofs.Places.{place-low}
+use Rattle.lists.proofs.Counting.{below-or}
 use Rattle.settings.specs.declared.Settings.{Settings}
 use Rattle.settings.specs.Refusal.{refusal}
 use Rattle.settings.specs.Cells.{facCells}
 use Rattle.settings.specs.Lengths.{nMux, nSfa}
 use Rattle.settings.specs.Sizes.{depth, frameBytes}
 use Rattle.block.specs.Block.{Block, cellsOf}
-use Rattle.block.specs.Points.{sameNumbers, isPoint, arePoints, every}
+use Rattle.lists.specs.Same.{sameNumbers}
+use Rattle.block.specs.Points.{isPoint, arePoints, every}
 use Rattle.block.specs.Reading.{given, bytesRead}
 use Rattle.frame.specs.Fac.{facBlock}
 use Rattle.frame.specs.Sdc.{sdcBlock}
@@ -32,8 +33,7 @@ use Rattle.superframe.specs.Read.{ReadCall, answerNumber, answerFrames, 
 use Rattle.superframe.specs.Facts.{BytesFit, CellsFit}
 use Rattle.superframe.specs.Runs.{Bits, SuperFrame, bitsOf, reads, handed}
 use Rattle.superframe.specs.Standard.{standardRow, superFrame}
-use Rattle.block.proofs.Mapping.{sameNumbers-refl}
-use Rattle.block.proofs.Lists.{table-ext, table-from, map-table}
+use Rattle.lists.proofs.Same.{sameNumbers-refl}
 use Rattle.superframe.proofs.Lists.{take-of-table, every-table, every-append, three-part, three-parts, only-parts, three-rest, three-length, first-parts}
 use Rattle.superframe.proofs.Places.{delay-cell, sent-real, sent-imaginary}
 use Rattle.block.specs.Fits.{BlockBits}

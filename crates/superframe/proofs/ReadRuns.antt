@@ -9,7 +9,7 @@ use native.Mathlib.Omega.{arith}
 use lib.ListN.{length, getD, replicate, length-replicate}
 use lib.IntN.{ℤ}
 use lib.Dec.{eqb}
-use Rattle.component.specs.Lists.{table}
+use Rattle.lists.specs.Lists.{table}
 use Rattle.settings.specs.declared.Settings.{Settings}
 use Rattle.settings.specs.Refusal.{refusal}
 use Rattle.settings.specs.Sizes.{depth, frameBytes, sdcBytes}
@@ -19,7 +19,7 @@ use Rattle.superframe.specs.Code.{stateOf}
 use Rattle.superframe.specs.Read.{ReadCall, answerNumber, answerOf, readAccepted, readRefused, readOf}
 use Rattle.superframe.specs.Runs.{Bits, noBits, SuperFrame, reads, readCount, handed, Feeds, unreadAfter, Fed, Accepts}
 use Rattle.superframe.specs.Standard.{superFrame}
-use Rattle.block.proofs.Lists.{table-add}
+use Rattle.lists.proofs.Tables.{table-add}
 use Rattle.superframe.proofs.Coding.{Coding}
 use Rattle.superframe.proofs.History.{Keeps}
 use Rattle.superframe.proofs.Reader.{sentAge}

@@ -12,8 +12,8 @@ use lib.Seq.{ext-getD}
 use lib.IntN.{ℤ, pos}
 use lib.Dec.{leb}
 use borrow.Author.Tests.{le-leb, lt-leb, eq-eqb, ne-eqb}
-use Rattle.component.specs.Lists.{table}
-use Rattle.component.proofs.Counting.{below-or, Among}
+use Rattle.lists.specs.Lists.{table}
+use Rattle.lists.proofs.Counting.{below-or, Among}
 use Rattle.settings.specs.declared.Settings.{Settings}
 use Rattle.settings.specs.Lengths.{nMux}
 use Rattle.settings.specs.Sizes.{depth}

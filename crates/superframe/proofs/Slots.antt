@@ -4,7 +4,7 @@ use mathlib.Core.Path.{_≡_, sym, _∙_}
 use mathlib.Core.Logic.{_⊎_, inl, inr}
 use native.Mathlib.Nat.{mod-lt, mod-eq-of-lt, add-mod-right, mod-self}
 use native.Mathlib.Omega.{arith}
-use Rattle.component.proofs.Counting.{below-or}
+use Rattle.lists.proofs.Counting.{below-or}
 use Rattle.superframe.specs.Interleaving.{slotBefore}
 
 module _ (D p : ℕ) (low : p < D) where

@@ -6,8 +6,8 @@ use mathlib.Core.List.{List, [], _∷_, _++_}
 use lib.ListN.{take, getD}
 use lib.IntN.{ℤ, pos, negsuc}
 use lib.Dec.{leb, eqb}
-use Rattle.component.specs.Lists.{table}
-use Rattle.component.specs.Interleaving.{place}
+use Rattle.lists.specs.Lists.{table}
+use Rattle.interleaver.specs.Interleaving.{place}
 use Rattle.settings.specs.declared.Settings.{Settings}
 use Rattle.settings.specs.Lengths.{nMux, nSfa}
 use Rattle.settings.specs.Sizes.{depth}

@@ -4,6 +4,7 @@ pub mod Call
 pub mod Reset
 pub mod Code
 pub mod Read
+pub mod Answers
 pub mod Facts
 pub mod Runs
 pub mod Standard

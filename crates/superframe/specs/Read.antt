@@ -5,14 +5,15 @@ use mathlib.Core.List.{List, [], _∷_, _++_, map}
 use lib.ListN.{length, getD, take, drop, replicate}
 use lib.IntN.{ℤ, pos}
 use lib.Dec.{eqb, ltb, leb}
-use Rattle.component.specs.Lists.{table}
+use Rattle.lists.specs.Lists.{table}
 use Rattle.settings.specs.declared.Settings.{Settings}
 use Rattle.settings.specs.Refusal.{first, refusal}
 use Rattle.settings.specs.Cells.{facCells}
 use Rattle.settings.specs.Lengths.{nMux}
 use Rattle.settings.specs.Sizes.{depth, frameBytes}
 use Rattle.block.specs.Block.{Block}
-use Rattle.block.specs.Points.{isPoint, arePoints, sameNumbers, every}
+use Rattle.block.specs.Points.{isPoint, arePoints, every}
+use Rattle.lists.specs.Same.{sameNumbers}
 use Rattle.block.specs.Reading.{given, bytesRead}
 use Rattle.frame.specs.Fac.{facBlock}
 use Rattle.frame.specs.Sdc.{sdcBlock}

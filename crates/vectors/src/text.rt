@@ -1,4 +1,4 @@
-// Lines of text on standard output.
+// Lines of text on standard output. The functions promise nothing: what they print is compared by the gate with the stored text.
 use libc::STDOUT_FILENO;
 use settings::Settings;
 

@@ -1,24 +1,50 @@
 use borrow.Author.Needs.{needs}
+use native.Mathlib.Nat.{sub-zero}
 use native.Mathlib.Omega.{arith}
+use lib.Seq.{length-take-le}
 use Rattle.desk.proofs.Rooms.{enough}
 use Rattle.desk_read.proofs.read_all.Statement.{statement}
 use Rattle.desk_read.proofs.read_all.Tie as tie
 
-begin-on-requires : tie.Need-begin-on-requires
-begin-on-requires c κs =
-    let b = c .before .before .before .before .before .before .before .before in
-    let t = b .before .before .before .before .before .before .before .before in (
-      enough _ _ (t .before .before .sizes .ensures) (t .if1 .left),
-      record {
-        sdcroom = omega (arith, b .before .before .before .before .before .before .sdc-bytes .ok);
-        mscroom = omega (arith, b .before .before .before .before .before .msc-bytes .ok);
-        room = omega (arith, b .before .before .before .before .memory .ok);
-        facroom = omega (arith, b .before .before .before .fac-cells .ok);
-        sdccellroom = omega (arith, b .before .before .sdc-cells .ok);
-        msccellroom = omega (arith, b .before .msc-cells .ok);
-        rawroom = omega (arith, b .raw-bytes .ok);
-      },
-    )
+part-bytes-end : tie.Need-part-bytes-end
+part-bytes-end c =
+    let b = c .before .before .before .before in
+    let e = enough _ _ (b .before .before .before .sizes .ensures) (b .before .if1 .left) in
+    omega (arith, e .sdcnumbers, e .mscnumbers, b .cell-bytes .ok)
+
+part-memory-end : tie.Need-part-memory-end
+part-memory-end c =
+    let b = c .before .before .before .before in
+    let e = enough _ _ (b .before .before .before .before .sizes .ensures) (b .before .before .if1 .left) in
+    omega (arith, e .memory, b .memory .ok)
+
+begin-requires : tie.Need-begin-requires
+begin-requires c κs =
+    let b = c .before .before .before .before .before .before in
+    let e = enough _ _ (b .before .before .before .sizes .ensures) (b .before .if1 .left) in
+    (e, record { byteroom = rw (sub-zero) (length-take-le _ (b .cell-bytes .result) (omega (arith, e .sdcnumbers, e .mscnumbers, b .cell-bytes .ok))) })
 
 pub read-all-spec : {M : Type 1} → statement M
-read-all-spec = tie.close (tie.spec (λ c κs. search needs) (λ c κs. search needs) (λ c. search needs) (λ c κs. search needs) (λ c κs. search needs) (λ c κs. search needs) (λ c κs. search needs) (λ c κs. search needs) (λ c κs. search needs) (λ c κs. search needs) (λ c κs. search needs) (λ c. search needs) (λ c. search needs) (λ c. search needs) (λ c. search needs) (λ c. search needs) (λ c. search needs) (λ c. search needs) (λ c. search needs) begin-on-requires (λ c κs. search needs) (λ c. search needs))
+read-all-spec =
+    tie.close
+    (tie.spec
+    (λ c κs. search needs)
+    (λ c κs. search needs)
+    (λ c. search needs)
+    (λ c κs. search needs)
+    (λ c κs. search needs)
+    (λ c. search needs)
+    (λ c. search needs)
+    (λ c. search needs)
+    (λ c. search needs)
+    (λ c. search needs)
+    (λ c. search needs)
+    (λ c. search needs)
+    (λ c. search needs)
+    part-bytes-end
+    (λ c. search needs)
+    (λ c. search needs)
+    part-memory-end
+    begin-requires
+    (λ c κs. search needs)
+    (λ c. search needs))

@@ -1,11 +1,11 @@
 -- `frame::cases` meets its contract: each marked case of 01 holds of the definitions by computation.
 use mathlib.Core.Path.{refl}
 use lib.Count.{ones, onesIn}
-use Rattle.component.specs.Lists.{table, total}
+use Rattle.lists.specs.Lists.{table, total}
 use Rattle.component.specs.Register.{next, parity, parities}
 use Rattle.component.specs.Patterns.{pattern, table65, columns, numerators, denominators, RX, RY}
 use Rattle.component.specs.Codeword.{encode, kept, following}
-use Rattle.component.specs.Interleaving.{place, nextPlace, again, step, offset, size, doubled}
+use Rattle.interleaver.specs.Interleaving.{place, nextPlace, again, step, offset, size, doubled}
 use Rattle.settings.specs.Rates.{rates, table67, table68, table69, table71, commonDenominator, vsppRate, sdcRates}
 use Rattle.settings.specs.Cells.{entry, muxTable}
 use Rattle.settings.specs.Formulas.{hierarchical, width, bitsA, bitsB, partA, partB, partVspp, roundUp, cellsA, sdcBits}

@@ -6,7 +6,7 @@ use mir.Syntax.{w16}
 use mir.Facts.{toZ-ofZ}
 use Rattle.block.specs.Mapping.{standard64}
 use Rattle.block.specs.Reading.{placeOf}
-use Rattle.block.proofs.Numbers.{standard-low}
+use Rattle.mapping.proofs.Numbers.{standard-low}
 use Rattle.cellrows.specs.Cells.{reach}
 use Rattle.cellrows.proofs.Reach.{reach-bits, reach-place, distances}
 use Rattle.cellrows.proofs.cells.reach.Statement.{statement}

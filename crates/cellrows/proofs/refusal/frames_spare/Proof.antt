@@ -6,11 +6,11 @@ use mathlib.Core.List.{List, map}
 use borrow.Author.Needs.{needs}
 use borrow.Author.Tests.{not-true, not-false}
 use lib.ListN.{length}
-use Rattle.component.specs.Lists.{table}
+use Rattle.lists.specs.Lists.{table}
 use Rattle.block.specs.Packing.{spareZero}
 use Rattle.block.specs.Points.{every}
 use Rattle.superframe.specs.Call.{part, parts}
-use Rattle.block.proofs.Lists.{map-table}
+use Rattle.lists.proofs.Tables.{map-table}
 use Rattle.cellrows.proofs.Every.{Tested, tested-start, tested-turn, tested-stop, tested-end}
 use Rattle.cellrows.proofs.Laid.{part-within, part-is}
 use Rattle.cellrows.proofs.refusal.frames_spare.Statement.{statement}

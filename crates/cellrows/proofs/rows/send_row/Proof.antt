@@ -4,8 +4,8 @@ use Prim.Native.Nat.{_-_, _*_}
 use native.Mathlib.Omega.{arith}
 use borrow.Author.Needs.{needs}
 use lib.IntN.{pos}
-use Rattle.component.proofs.Places.{size-four}
-use Rattle.component.proofs.Tables.{Filled, filled-start}
+use Rattle.interleaver.proofs.Places.{size-four}
+use Rattle.lists.proofs.Tables.{Filled, filled-start}
 use Rattle.cellrows.specs.Rows.{sentNumber}
 use Rattle.cellrows.proofs.Turns.{Stepping, stepping-start, stepping-turn, row-interleaves, send-turn, send-end}
 use Rattle.cellrows.proofs.rows.send_row.Statement.{statement}

@@ -3,7 +3,7 @@ use borrow.Author.Needs.{needs}
 use Rattle.superframe.specs.Call.{memoryLength}
 use Rattle.settings.specs.Cells.{facCells}
 use Rattle.settings.proofs.Bounds.{accepted-of}
-use Rattle.codecall.proofs.Lent.{sdc-lent}
+use Rattle.channels.proofs.Lengths.{sdc-lent}
 use Rattle.codecall.proofs.CodeCalls.{accepted-call}
 use Rattle.codecall.proofs.code.code_accepted.Statement.{statement}
 use Rattle.codecall.proofs.code.code_accepted.Tie as tie

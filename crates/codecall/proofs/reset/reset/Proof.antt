@@ -11,7 +11,7 @@ returns c =
 returns-2 : tie.Need-returns-2
 returns-2 c =
     let b = c .before .before .before .before in
-    accepted-reset _ _ _ _ (b .before .sizes .ensures) _ (b .length-refusal .ensures) _ (c .before .before .before .if1 .left) (c .before .fill-zero .ensures)
+    accepted-reset _ _ _ _ (b .before .sizes .ensures) _ (b .length-refusal .ensures) _ (c .before .before .before .if1 .left) (c .before .clear .ensures)
 
 pub reset-spec : {M : Type 1} → statement M
 reset-spec =

@@ -1,37 +1,41 @@
 use borrow.Author.Needs.{needs}
 use Prim.Native.Nat.{_*_, _-_, _≤_}
+use mathlib.Core.Path.{_≡_, refl, _∙_}
 use native.Mathlib.Omega.{arith}
-use lib.ListN.{length}
-use lib.IntN.{pos}
-use Rattle.component.proofs.Tables.{Filled, filled-start, filled-turn, filled-end}
-use mathlib.Core.Path.{_≡_}
-use Rattle.desk.proofs.Turns.{byte-made}
-use Rattle.desk.specs.Cells.{byteOf, cellBytes, cellOf, bytesCells}
+use lib.ListN.{length, take, length-set}
+use lib.Seq.{sets}
+use Rattle.desk.specs.Cells.{cellBytes}
+use Rattle.desk.proofs.Copied.{copied-more, copied-all}
+use Rattle.desk.proofs.Turns.{byte-made, byte-there, cell-bytes-long}
 use Rattle.desk.proofs.cells.put_cells.Statement.{statement}
 use Rattle.desk.proofs.cells.put_cells.Tie as tie
 
 abbrev Inv-loop : tie.InvT-loop
-Inv-loop cells bytes₀ k₀ bytes k = Filled 0 (byteOf cells) bytes₀ bytes k × (k ≤ length bytes₀)
+Inv-loop cells out₀ at n k₀ out k = (out ≡ sets out₀ at (take k (cellBytes cells))) × (k ≤ n) × (length out ≡ length out₀)
 
 abbrev μ-loop : tie.MeasureT-loop
-μ-loop cells bytes₀ k₀ bytes k = length bytes₀ - k
+μ-loop cells out₀ at n k₀ out k = n - k
 
 loop-holds : tie.Need-loop-holds Inv-loop μ-loop
-loop-holds c = (filled-start 0 _ _, search needs)
+loop-holds c = (refl, search needs, search needs)
 
 loop-again : tie.Need-loop-again Inv-loop μ-loop
 loop-again c =
     let l = c .before .before .before .before .loop in
-    let e = byte-made (c .before .before .before .before .before .before .args .cells .now) (l .k) _ _ (c .before .before .unsigned-arg .given) (c .before .unsigned .ensures) (c .byte-of .ensures) in
-    (filled-turn 0 _ _ (l .bytes) (l .k) _ (search needs) e (l .inv .0), search needs)
+    let i = l .inv in
+    let a = c .before .before .before .before .before .before .args in
+    let x = a .cells .now in
+    let h = c .before .before .before .loop-test .taken in
+    let e = byte-made x (l .k) _ _ (c .before .before .unsigned-arg .given) (c .before .unsigned .ensures) (c .byte-of .ensures) in
+    (copied-more 0 _ (cellBytes x) (l .out) (a .at) (l .k) _ (omega (arith, h, cell-bytes-long x)) (byte-there x (l .k) _ h e) (i .0), search needs, length-set (l .out) _ _ ∙ i .2)
 
 returns : tie.Need-returns Inv-loop μ-loop
-unfolding cellBytes
 returns c =
     let l = c .before .loop in
-    let P = c .before .before .before .pre in
-    let e : l .k ≡ 2 * length (c .before .before .before .args .cells .now) = omega (arith, P, l .inv .1, l .inv .0 .long) in
-    filled-end 0 _ _ (l .bytes) _ P (rw e at (l .inv .0))
+    let x = c .before .before .before .args .cells .now in
+    let e : l .k ≡ length (cellBytes x) = omega (arith, l .inv .1, cell-bytes-long x) in
+    copied-all 0 _ (cellBytes x) _ _ (l .k) e (l .inv .0)
 
 pub put-cells-spec : {M : Type 1} → statement M
-put-cells-spec = tie.close (tie.spec Inv-loop μ-loop loop-holds (λ c. search needs) (λ c. search needs) (λ c κs. search needs) (λ c κs. search needs) (λ c. search needs) (λ c. search needs) (λ c. search needs) loop-again (λ c. search needs) returns)
+put-cells-spec =
+    tie.close (tie.spec Inv-loop μ-loop (λ c. search needs) loop-holds (λ c. search needs) (λ c. search needs) (λ c κs. search needs) (λ c κs. search needs) (λ c. search needs) (λ c. search needs) (λ c. search needs) (λ c. search needs) loop-again (λ c. search needs) returns)

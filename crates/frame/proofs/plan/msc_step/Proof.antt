@@ -1,6 +1,6 @@
 -- The code's table is the definition's, five places a row: checked by computation.
 use borrow.Author.Needs.{needs}
-use Rattle.component.specs.Lists.{table}
+use Rattle.lists.specs.Lists.{table}
 use Rattle.frame.specs.Msc.{mscSteps}
 use Rattle.frame.proofs.Plans.{step-at}
 use Rattle.frame.proofs.plan.msc_step.Statement.{statement}

@@ -5,7 +5,7 @@ use native.Mathlib.Omega.{arith}
 use borrow.Author.Needs.{needs}
 use lib.ListN.{length}
 use Rattle.cellrows.proofs.Laid.{length-mid, laid-start}
-use Rattle.codecall.proofs.Lent.{fac-lent}
+use Rattle.channels.proofs.Lengths.{fac-lent}
 use Rattle.readblocks.proofs.FaultTurns.{faultless-start}
 use Rattle.readblocks.proofs.ReadTurns.{FacReading, fac-stop, fac-turn, fac-end}
 use Rattle.readblocks.proofs.blocks.read_fac_blocks.Statement.{statement}

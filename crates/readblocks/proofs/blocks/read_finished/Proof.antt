@@ -5,7 +5,7 @@ use mathlib.Core.Path.{_∙_}
 use borrow.Author.Needs.{needs}
 use lib.ListN.{length}
 use Rattle.cellrows.proofs.Laid.{length-mid}
-use Rattle.codecall.proofs.Lent.{frame-lent}
+use Rattle.channels.proofs.Lengths.{frame-lent}
 use Rattle.readblocks.proofs.ReadTurns.{finish-none, finish-within, finish-room, finish-one, finish-fault}
 use Rattle.readblocks.proofs.blocks.read_finished.Statement.{statement}
 use Rattle.readblocks.proofs.blocks.read_finished.Tie as tie

@@ -4,7 +4,7 @@ use native.Mathlib.Omega.{arith}
 use borrow.Author.Needs.{needs}
 use lib.ListN.{length}
 use Rattle.settings.specs.Lengths.{nMux}
-use Rattle.codecall.proofs.CodeTurns.{progress}
+use Rattle.cellrows.proofs.Progress.{progress}
 use Rattle.readblocks.proofs.ReadTurns.{RowsReading, rows-reading-start, row-within, row-fits, row-finish, row-fault, row-turn, rows-fault, rows-end}
 use Rattle.readblocks.proofs.blocks.read_rows.Statement.{statement}
 use Rattle.readblocks.proofs.blocks.read_rows.Tie as tie

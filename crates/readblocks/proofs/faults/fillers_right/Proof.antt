@@ -2,7 +2,7 @@
 use Prim.Native.Nat.{_-_}
 use borrow.Author.Needs.{needs}
 use lib.ListN.{length, take}
-use Rattle.codecall.specs.Coding.{fillerNumbers}
+use Rattle.cellrows.specs.Fillers.{fillerNumbers}
 use Rattle.readblocks.proofs.FaultTurns.{Agrees, agrees-start, agrees-turn, agrees-stop, agrees-end, fillers-long, filler-same, filler-differs}
 use Rattle.readblocks.proofs.faults.fillers_right.Statement.{statement}
 use Rattle.readblocks.proofs.faults.fillers_right.Tie as tie

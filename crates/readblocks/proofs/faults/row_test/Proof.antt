@@ -7,7 +7,7 @@ use lib.ListN.{length}
 use Rattle.settings.specs.Lengths.{nMux}
 use Rattle.superframe.specs.Memory.{slotSize}
 use Rattle.cellrows.proofs.Laid.{part-below, length-mid}
-use Rattle.codecall.proofs.CodeTurns.{depth-most}
+use Rattle.superframe.proofs.Coding.{depth-high}
 use Rattle.readblocks.proofs.FaultTurns.{row-test-is}
 use Rattle.readblocks.proofs.faults.row_test.Statement.{statement}
 use Rattle.readblocks.proofs.faults.row_test.Tie as tie
@@ -24,7 +24,7 @@ within c =
 count-at-requires : tie.Need-count-at-requires
 count-at-requires c κs =
     let p = c .before .before .before .pre in
-    (omega (arith, c .before .depth .ensures, p .1), p .0, omega (arith, c .before .depth .ensures, depth-most (c .before .before .before .args .s)))
+    (omega (arith, c .before .depth .ensures, p .1), p .0, omega (arith, c .before .depth .ensures, depth-high (c .before .before .before .args .s)))
 
 all-wanted-requires : tie.Need-all-wanted-requires
 all-wanted-requires c κs =

@@ -2,8 +2,9 @@
 use Prim.Native.Nat.{_<_}
 use native.Mathlib.Omega.{arith}
 use borrow.Author.Needs.{needs}
-use Rattle.codecall.proofs.CodeTurns.{depth-most}
-use Rattle.readcall.proofs.ReadParts.{later-low, after-three}
+use Rattle.superframe.proofs.Coding.{depth-high}
+use Rattle.cellrows.proofs.Progress.{later-low}
+use Rattle.readcall.proofs.ReadParts.{after-three}
 use Rattle.readcall.proofs.read.after_rows.Statement.{statement}
 use Rattle.readcall.proofs.read.after_rows.Tie as tie
 
@@ -21,12 +22,12 @@ cast-t9 : tie.Need-cast-t9
 cast-t9 c =
     let p = c .before .before .before .before in
     let d = p .before .before .before .before in
-    omega (arith, low3 p, d .depth .ensures, depth-most (d .before .before .args .state .settings))
+    omega (arith, low3 p, d .depth .ensures, depth-high (d .before .before .args .state .settings))
 
 cast-t10 : tie.Need-cast-t10
 cast-t10 c =
     let d = c .before .before .before .before .before .before .before .before in
-    omega (arith, c .next-count3 .ensures, d .depth .ensures, depth-most (d .before .before .args .state .settings))
+    omega (arith, c .next-count3 .ensures, d .depth .ensures, depth-high (d .before .before .args .state .settings))
 
 returns : tie.Need-returns
 returns c =

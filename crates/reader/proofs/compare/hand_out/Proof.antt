@@ -6,11 +6,11 @@ use Rattle.reader.proofs.compare.hand_out.Statement.{statement}
 use Rattle.reader.proofs.compare.hand_out.Tie as tie
 
 returns : tie.Need-returns
-returns c = rw (sym (c .before .same-cells .ensures) ∙ not-true _ (c .if1 .taken)) (refl, refl)
+returns c = rw (sym (c .before .same .ensures) ∙ not-true _ (c .if1 .taken)) (refl, refl)
 
 returns-2 : tie.Need-returns-2
 returns-2 c =
-    rw (sym (c .before .before .before .before .before .same-cells .ensures) ∙ not-false _ (c .before .before .before .before .if1 .left))
+    rw (sym (c .before .before .before .before .before .same .ensures) ∙ not-false _ (c .before .before .before .before .if1 .left))
     (refl, c .before .before .copy .ensures)
 
 pub hand-out-spec : {M : Type 1} → statement M

@@ -6,11 +6,10 @@ use Rattle.reader.proofs.read.read_block.Tie as tie
 read-block-with-requires : tie.Need-read-block-with-requires
 read-block-with-requires c κs =
     record {
-      block = c .before .before .before .before .before .before .before .before .before .before .before .before .before .before .before .before .before .before .before .pre;
+      block = c .before .before .before .before .before .before .before .before .before .before .before .before .before .before .before .before .before .pre;
       real = search needs;
       imaginary = search needs;
       buffer = search needs;
-      partA = search needs;
       partB = search needs;
       both = search needs;
       room = search needs;
@@ -28,8 +27,6 @@ read-block-spec =
     (λ c κs. search needs)
     (λ c κs. search needs)
     (λ c κs. search needs)
-    (λ c κs. search needs)
-    (λ c. search needs)
     (λ c. search needs)
     (λ c. search needs)
     (λ c. search needs)

@@ -2,7 +2,7 @@
 use mathlib.Core.Path.{sym}
 use lib.ListN.{List·getD-eq-default}
 use borrow.Author.Needs.{needs}
-use Rattle.component.specs.Lists.{table}
+use Rattle.lists.specs.Lists.{table}
 use Rattle.component.specs.Patterns.{RX, numerators}
 use Rattle.settings.proofs.LookUps.{value-at}
 use Rattle.settings.proofs.tables.numerator.Statement.{statement}

@@ -3,7 +3,7 @@ use mathlib.Core.Path.{sym}
 use native.Mathlib.Nat.{le-trans}
 use lib.ListN.{List·getD-eq-default}
 use borrow.Author.Needs.{needs}
-use Rattle.component.specs.Lists.{table}
+use Rattle.lists.specs.Lists.{table}
 use Rattle.settings.specs.Rates.{rates, table67, table68, table69, table71}
 use Rattle.settings.proofs.Levels.{few-rates, rate-at}
 use Rattle.settings.proofs.tables.rate.Statement.{statement}

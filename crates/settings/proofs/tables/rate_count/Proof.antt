@@ -1,6 +1,6 @@
 -- The code's table is the definition's, written row by row: checked by computation.
 use borrow.Author.Needs.{needs}
-use Rattle.component.specs.Lists.{table}
+use Rattle.lists.specs.Lists.{table}
 use Rattle.settings.specs.Rates.{rates, table67, table68, table69, table71}
 use Rattle.settings.proofs.Levels.{count-at}
 use Rattle.settings.proofs.tables.rate_count.Statement.{statement}

@@ -2,7 +2,7 @@
 use borrow.Author.Needs.{needs}
 use mathlib.Core.Path.{sym, ap}
 use lib.ListN.{getD}
-use Rattle.component.specs.Lists.{table}
+use Rattle.lists.specs.Lists.{table}
 use Rattle.settings.specs.Rates.{sdcRates}
 use Rattle.settings.proofs.Levels.{no-sdc, sdc-rates-beside, sdc-rate-at}
 use Rattle.settings.proofs.tables.sdc_rate.Statement.{statement}

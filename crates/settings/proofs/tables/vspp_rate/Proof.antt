@@ -1,7 +1,7 @@
 -- The code's table is the definition's: checked by computation.
 use borrow.Author.Needs.{needs}
 use mathlib.Core.Path.{sym}
-use Rattle.component.specs.Lists.{table}
+use Rattle.lists.specs.Lists.{table}
 use Rattle.settings.specs.Rates.{vsppRate}
 use Rattle.settings.proofs.LookUps.{value-at}
 use Rattle.settings.proofs.Levels.{no-vspp}

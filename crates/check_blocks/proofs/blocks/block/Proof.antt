@@ -1,0 +1,38 @@
+-- `block` meets its contract. Assumes nothing.
+use mathlib.Core.Path.{sym, _∙_}
+use borrow.Author.Needs.{needs}
+use borrow.Author.Tests.{eq-eqb, ne-eqb}
+use Rattle.settings.specs.Refusal.{refusal}
+use Rattle.check_blocks.specs.Kinds.{drawnOf}
+use Rattle.check_blocks.proofs.blocks.block.Statement.{statement}
+use Rattle.check_blocks.proofs.blocks.block.Tie as tie
+
+returns : tie.Need-returns
+unfolding drawnOf
+returns c = rw (ne-eqb (refusal (c .before .before .args .s)) 0 (λ e. c .if1 .taken (c .before .refusal .ensures ∙ e)))
+
+block-with-requires : tie.Need-block-with-requires
+block-with-requires c κs =
+    let left = c .before .before .before .before .before .before in
+    (sym (left .before .refusal .ensures) ∙ left .if1 .left, record { drawn = search needs; read = search needs; whole = search needs })
+
+returns-2 : tie.Need-returns-2
+unfolding drawnOf
+returns-2 c =
+    let left = c .before .before .before .before .before .before .before .before .before .before in
+    rw (eq-eqb (refusal (left .before .before .args .s)) 0 (sym (left .before .refusal .ensures) ∙ left .if1 .left)) (c .before .before .before .block-with .ensures)
+
+pub block-spec : {M : Type 1} → statement M
+block-spec =
+    tie.close
+    (tie.spec
+    (λ c κs. search needs)
+    returns
+    (λ c κs. search needs)
+    (λ c κs. search needs)
+    (λ c κs. search needs)
+    (λ c. search needs)
+    (λ c. search needs)
+    (λ c. search needs)
+    block-with-requires
+    returns-2)

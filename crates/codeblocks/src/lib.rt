@@ -1,0 +1,2 @@
+// The blocks of a Code call.
+pub mod blocks;

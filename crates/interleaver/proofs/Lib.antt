@@ -1,0 +1,5 @@
+pub mod Cycle
+pub mod Size
+pub mod Places
+pub mod Interleaving
+pub mod Weights

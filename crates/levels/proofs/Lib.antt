@@ -1,0 +1,4 @@
+pub mod Parts
+pub mod OneLevel
+pub mod Planning
+pub mod Summing

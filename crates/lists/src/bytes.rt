@@ -1,0 +1,15 @@
+// Bytes.
+ghost use mathlib.Core.Path.{_≡_};
+ghost use lib.ListN.{length};
+
+// Bytes copied whole.
+pub fn copy(from: &[u8], out: &mut [u8])
+    requires { ⌜ length (now out) ≡ length (now from) ⌝ }
+    ensures { λ r. ⌜ now (out .exit) ≡ now (from .entry) ⌝ }
+{
+    let mut i = 0;
+    while i < from.len() {
+        out[i] = from[i];
+        i += 1;
+    }
+}

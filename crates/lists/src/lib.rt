@@ -1,0 +1,3 @@
+// Lists by their places, and buffers copied and compared.
+pub mod bytes;
+pub mod numbers;

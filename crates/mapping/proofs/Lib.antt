@@ -1,0 +1,3 @@
+pub mod Coordinates
+pub mod Numbers
+pub mod Signed

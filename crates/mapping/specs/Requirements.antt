@@ -1,0 +1,42 @@
+-- What the functions of this crate require of the buffers that they are lent: nothing of 01 is stated here.
+use Prim.Native.Nat.{ℕ, _*_, _%_, _<_}
+use mathlib.Core.Path.{_≡_}
+use mathlib.Core.List.{List}
+use lib.ListN.{length, getD}
+use lib.IntN.{ℤ}
+
+-- Numbers of at most three level bits.
+pub record Numbers (l : List ℕ) : Type 0 where
+  pub low : (k : ℕ) → getD l k 0 < 8
+
+-- A constellation, whole cells, and a number of level bits for each coordinate.
+pub record Maps (c : ℕ) (numbers : List ℕ) (out : List ℤ) : Type 0 where
+  pub known : c < 5
+  pub same : length out ≡ length numbers
+  pub whole : length numbers % 2 ≡ 0
+  pub low : Numbers numbers
+
+-- A constellation, and a number of level bits of each axis for each cell.
+pub record MapsAxes (c : ℕ) (re im : List ℕ) (out : List ℤ) : Type 0 where
+  pub known : c < 5
+  pub same : length out ≡ 2 * length re
+  pub both : length im ≡ length re
+  pub lowReal : Numbers re
+  pub lowImaginary : Numbers im
+
+-- A constellation, whole cells, and room for a number for each coordinate.
+pub record Unmaps (c : ℕ) (cells : List ℤ) (out : List ℕ) : Type 0 where
+  pub known : c < 5
+  pub same : length out ≡ length cells
+  pub whole : length cells % 2 ≡ 0
+
+-- A constellation's axis, whole cells, and room for a number for each cell.
+pub record UnmapsAxis (c a : ℕ) (cells : List ℤ) (out : List ℕ) : Type 0 where
+  pub known : c < 5
+  pub real : a < 2
+  pub same : length cells ≡ 2 * length out
+
+-- A constellation and whole cells.
+pub record WholeCells (c : ℕ) (cells : List ℤ) : Type 0 where
+  pub known : c < 5
+  pub whole : length cells % 2 ≡ 0

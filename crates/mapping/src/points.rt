@@ -1,0 +1,213 @@
+// Level bits to coordinates and back. 01 "Mapping"; 001 clause 7.4.
+ghost use mathlib.Core.Path.{_≡_};
+ghost use Prim.Native.Nat.{_<_};
+ghost use lib.ListN.{length, getD};
+ghost use lib.Dec.{ltb};
+ghost use lib.IntN.{pos};
+ghost use lib.Bits.{bitAnd};
+ghost use mir.Syntax.{w16};
+ghost use mir.Val.{ofZ};
+ghost use Rattle.lists.specs.Lists.{table};
+ghost use Rattle.block.specs.Mapping.{standard64, constellation, axis, weave};
+ghost use Rattle.block.specs.Points.{arePoints};
+ghost use Rattle.block.specs.Reading.{placeOf, numbersOf};
+ghost use Rattle.mapping.specs.Numbers.{coordinates, axisNumbers, numbersBy};
+ghost use Rattle.mapping.specs.Requirements.{Maps, MapsAxes, Unmaps, UnmapsAxis, WholeCells};
+
+// The coordinates of an axis by the number of its level bits, filled up with zeros to eight.
+const QAM4: [i16; 8] = [1, -1, 0, 0, 0, 0, 0, 0];
+
+const QAM16: [i16; 8] = [3, 1, -1, -3, 0, 0, 0, 0];
+
+const STANDARD64: [i16; 8] = [7, 5, 3, 1, -1, -3, -5, -7];
+
+const SYMMETRIC64: [i16; 8] = [7, -1, 5, -3, 3, -5, 1, -7];
+
+// The labelling of a constellation's real axis.
+fn real_axis(c: u8) -> [i16; 8]
+    requires { ⌜ c < 5 ⌝ }
+    ensures { λ r. ⌜ r ≡ table (λ n. getD (constellation c .real) n (pos 0)) 0 8 ⌝ }
+{
+    match c {
+        0 => QAM4,
+        1 => QAM16,
+        2 => STANDARD64,
+        3 => SYMMETRIC64,
+        4 => SYMMETRIC64,
+        _ => QAM4,
+    }
+}
+
+// The labelling of a constellation's imaginary axis.
+fn imaginary_axis(c: u8) -> [i16; 8]
+    requires { ⌜ c < 5 ⌝ }
+    ensures { λ r. ⌜ r ≡ table (λ n. getD (constellation c .imaginary) n (pos 0)) 0 8 ⌝ }
+{
+    match c {
+        0 => QAM4,
+        1 => QAM16,
+        2 => STANDARD64,
+        3 => SYMMETRIC64,
+        4 => STANDARD64,
+        _ => QAM4,
+    }
+}
+
+// Numbers i0 + 2 × i1 + 4 × i2, flat, real before imaginary, to coordinates.
+pub fn map_cells(c: u8, numbers: &[u8], out: &mut [i16])
+    requires { ⌜ Maps c (now numbers) (now out) ⌝ }
+    ensures { λ r. ⌜ now (out .exit) ≡ coordinates (constellation c) (now (numbers .entry)) ⌝ }
+{
+    let real = real_axis(c);
+    let imaginary = imaginary_axis(c);
+    let cells = out.len() / 2;
+    let mut k = 0;
+    while k < cells {
+        out[2 * k] = real[numbers[2 * k] as usize];
+        out[2 * k + 1] = imaginary[numbers[2 * k + 1] as usize];
+        k += 1;
+    }
+}
+
+// Numbers of the real and of the imaginary axis to coordinates.
+pub fn map_axes(c: u8, re: &[u8], im: &[u8], out: &mut [i16])
+    requires { ⌜ MapsAxes c (now re) (now im) (now out) ⌝ }
+    ensures { λ r. ⌜ now (out .exit) ≡ coordinates (constellation c) (weave (now (re .entry)) (now (im .entry))) ⌝ }
+{
+    let real = real_axis(c);
+    let imaginary = imaginary_axis(c);
+    let mut k = 0;
+    while k < re.len() {
+        out[2 * k] = real[re[k] as usize];
+        out[2 * k + 1] = imaginary[im[k] as usize];
+        k += 1;
+    }
+}
+
+// The coordinates by their four lowest binary digits, 0 where there is none, and their places among 7, 5, .. -7.
+const COORDINATES: [i16; 16] = [0, 1, 0, 3, 0, 5, 0, 7, 0, -7, 0, -5, 0, -3, 0, -1];
+
+const PLACES: [u8; 16] = [8, 3, 8, 2, 8, 1, 8, 0, 8, 7, 8, 6, 8, 5, 8, 4];
+
+// The four lowest binary digits of a number.
+fn low_digits(v: i16) -> usize
+    ensures { λ r. ⌜ (r ≡ bitAnd (ofZ w16 v) 15) × (r < 16) ⌝ }
+{
+    (v & 15) as usize
+}
+
+// The place of a coordinate among 7, 5, .. -7; 8 where it is none of them. By a table, since a processor does not foresee jumps that follow cells.
+pub fn place_of(v: i16) -> usize
+    ensures { λ r. ⌜ r ≡ placeOf standard64 v ⌝ }
+{
+    let k = low_digits(v);
+    if v == COORDINATES[k] {
+        return PLACES[k] as usize;
+    }
+    8
+}
+
+// Numbers of level bits by a coordinate's place among 7, 5, .. -7; the last one stands for what is no coordinate.
+const NUMBERS4: [u8; 9] = [2, 2, 2, 0, 1, 2, 2, 2, 2];
+
+const NUMBERS16: [u8; 9] = [4, 4, 0, 1, 2, 3, 4, 4, 4];
+
+const NUMBERS_STANDARD64: [u8; 9] = [0, 1, 2, 3, 4, 5, 6, 7, 8];
+
+const NUMBERS_SYMMETRIC64: [u8; 9] = [0, 2, 4, 6, 1, 3, 5, 7, 8];
+
+// The numbers of a constellation's axis: axis 0 is the real, axis 1 the imaginary one.
+fn axis_numbers(c: u8, a: usize) -> [u8; 9]
+    requires { ⌜ (c < 5) × (a < 2) ⌝ }
+    ensures { λ r. ⌜ r ≡ numbersBy (axis (constellation c) a) ⌝ }
+{
+    match c {
+        0 => NUMBERS4,
+        1 => NUMBERS16,
+        2 => NUMBERS_STANDARD64,
+        3 => NUMBERS_SYMMETRIC64,
+        _ => {
+            if a == 0 {
+                return NUMBERS_SYMMETRIC64;
+            }
+            NUMBERS_STANDARD64
+        }
+    }
+}
+
+// The number of a coordinate's level bits.
+fn number_of(numbers: &[u8; 9], v: i16) -> u8
+    ensures { λ r. ⌜ r ≡ getD (now (numbers .entry)) (placeOf standard64 v) 0 ⌝ }
+{
+    numbers[place_of(v)]
+}
+
+// Coordinates, real before imaginary, back to numbers.
+pub fn unmap_cells(c: u8, cells: &[i16], out: &mut [u8])
+    requires { ⌜ Unmaps c (now cells) (now out) ⌝ }
+    ensures { λ r. ⌜ now (out .exit) ≡ numbersOf (constellation c) (now (cells .entry)) ⌝ }
+{
+    let real = axis_numbers(c, 0);
+    let imaginary = axis_numbers(c, 1);
+    let n = out.len() / 2;
+    let mut k = 0;
+    while k < n {
+        out[2 * k] = number_of(&real, cells[2 * k]);
+        out[2 * k + 1] = number_of(&imaginary, cells[2 * k + 1]);
+        k += 1;
+    }
+}
+
+// The coordinates of one axis back to numbers.
+pub fn unmap_axis(c: u8, a: usize, cells: &[i16], out: &mut [u8])
+    requires { ⌜ UnmapsAxis c a (now cells) (now out) ⌝ }
+    ensures { λ r. ⌜ now (out .exit) ≡ axisNumbers a (numbersOf (constellation c) (now (cells .entry))) ⌝ }
+{
+    let numbers = axis_numbers(c, a);
+    let mut k = 0;
+    while k < out.len() {
+        out[k] = number_of(&numbers, cells[2 * k + a]);
+        k += 1;
+    }
+}
+
+// How many coordinates an axis of a constellation has.
+fn axis_size(c: u8) -> u8
+    requires { ⌜ c < 5 ⌝ }
+    ensures { λ r. ⌜ (r ≡ length (axis (constellation c) 0)) × (r ≡ length (axis (constellation c) 1)) ⌝ }
+{
+    match c {
+        0 => 2,
+        1 => 4,
+        _ => 8,
+    }
+}
+
+// Whether a coordinate is one of its axis's: what is none has the axis's size as its number.
+fn on_axis(numbers: &[u8; 9], size: u8, v: i16) -> bool
+    ensures { λ r. ⌜ r ≡ ltb (getD (now (numbers .entry)) (placeOf standard64 v) 0) size ⌝ }
+{
+    number_of(numbers, v) < size
+}
+
+// Whether every cell is a point of the constellation.
+pub fn are_points(c: u8, cells: &[i16]) -> bool
+    requires { ⌜ WholeCells c (now cells) ⌝ }
+    ensures { λ r. ⌜ r ≡ arePoints (constellation c) (now (cells .entry)) ⌝ }
+{
+    let real = axis_numbers(c, 0);
+    let imaginary = axis_numbers(c, 1);
+    let size = axis_size(c);
+    let n = cells.len() / 2;
+    let mut k = 0;
+    while k < n {
+        if !on_axis(&real, size, cells[2 * k]) {
+            return false;
+        }
+        if !on_axis(&imaginary, size, cells[2 * k + 1]) {
+            return false;
+        }
+        k += 1;
+    }
+    true
+}

@@ -1,0 +1,2 @@
+// Packed bytes to bits and back, and dispersal. 01 "From bits to cells".
+pub mod bits;
