@@ -8,6 +8,8 @@ use channels::calls::frame_cells;
 use settings::Settings;
 use settings::answers;
 use settings::tables;
+use settings::tables::FAC_BYTES;
+use settings::tables::FAC_NUMBERS;
 use superframe::State;
 ghost use mathlib.Core.Path.{_≡_};
 ghost use mathlib.Core.List.{map};
@@ -28,7 +30,10 @@ pub fn code_fac(fac: &[u8], cells: &mut [i16])
 {
     let mut k = 0;
     while k < 3 {
-        fac_cells(&fac[9 * k..9 * k + 9], &mut cells[130 * k..130 * k + 130]);
+        fac_cells(
+            &fac[FAC_BYTES * k..FAC_BYTES * k + FAC_BYTES],
+            &mut cells[FAC_NUMBERS * k..FAC_NUMBERS * k + FAC_NUMBERS],
+        );
         k += 1;
     }
 }

@@ -2,6 +2,10 @@
 use settings::Settings;
 use settings::formulas;
 use settings::tables;
+use settings::tables::R1_2;
+use settings::tables::R1_3;
+use settings::tables::R2_3;
+use settings::tables::R3_5;
 ghost use mathlib.Core.Path.{_≡_};
 ghost use mathlib.Core.List.{[], _∷_};
 ghost use Prim.Native.Nat.{_+_, _*_, _≤_, _<_};
@@ -177,11 +181,11 @@ fn put_sdc(plan: &mut [usize], sdc: u8, coded: usize) -> usize
     ensures { λ r. ⌜ (now (plan .exit) ≡ sets (now (plan .entry)) 0 (rows 0 coded (sdcRates sdc) (sdcRates sdc) (sdcSteps sdc))) × (6 * r ≡ length (rows 0 coded (sdcRates sdc) (sdcRates sdc) (sdcSteps sdc))) × (r ≤ 6) ⌝ }
 {
     if sdc == 0 {
-        put_row(plan, 0, 0, coded, coded, 2, 2, 13);
-        put_row(plan, 6, 0, coded, coded, 7, 7, 21);
+        put_row(plan, 0, 0, coded, coded, R1_3, R1_3, 13);
+        put_row(plan, 6, 0, coded, coded, R2_3, R2_3, 21);
         return 2;
     }
-    put_row(plan, 0, 0, coded, coded, 4, 4, 21);
+    put_row(plan, 0, 0, coded, coded, R1_2, R1_2, 21);
     1
 }
 
@@ -190,6 +194,6 @@ pub fn fac_plan(plan: &mut [usize]) -> usize
     requires { ⌜ 6 ≤ length (now plan) ⌝ }
     ensures { λ r. ⌜ (now (plan .exit) ≡ sets (now (plan .entry)) 0 facPlan) × (6 * r ≡ length facPlan) × (r ≤ 6) ⌝ }
 {
-    put_numbers(plan, 0, 0, 72, 6, 6, 6, 21);
+    put_numbers(plan, 0, 0, 72, R3_5, R3_5, R3_5, 21);
     1
 }

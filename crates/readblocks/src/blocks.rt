@@ -7,6 +7,8 @@ use channels::readers::read_frame;
 use settings::Settings;
 use settings::answers;
 use settings::tables;
+use settings::tables::FAC_BYTES;
+use settings::tables::FAC_NUMBERS;
 use superframe::State;
 ghost use mathlib.Core.Path.{_≡_};
 ghost use lib.ListN.{length};
@@ -19,7 +21,10 @@ pub fn read_fac_blocks(cells: &[i16], out: &mut [u8]) -> usize
 {
     let mut i = 0;
     while i < 3 {
-        if !read_fac(&cells[130 * i..130 * i + 130], &mut out[9 * i..9 * i + 9]) {
+        if !read_fac(
+            &cells[FAC_NUMBERS * i..FAC_NUMBERS * i + FAC_NUMBERS],
+            &mut out[FAC_BYTES * i..FAC_BYTES * i + FAC_BYTES],
+        ) {
             return i;
         }
         i += 1;

@@ -6,6 +6,7 @@ use mapping::points::are_points;
 use settings::Settings;
 use settings::answers;
 use settings::tables;
+use settings::tables::FAC_NUMBERS;
 ghost use mathlib.Core.Path.{_≡_};
 ghost use Prim.Native.Nat.{_+_, _-_, _*_, _≤_, _<_, min};
 ghost use lib.ListN.{length, take};
@@ -67,7 +68,7 @@ fn point_test(s: Settings, count: usize, fac: &[i16], sdc: &[i16], msc: &[i16], 
     ensures { λ b. ⌜ b ≡ pointTest s count (now (fac .entry)) (now (sdc .entry)) (now (msc .entry)) i ⌝ }
 {
     if i < 3 {
-        return are_points(0, &fac[130 * i..130 * i + 130]);
+        return are_points(0, &fac[FAC_NUMBERS * i..FAC_NUMBERS * i + FAC_NUMBERS]);
     }
     if i == 3 {
         return are_points(1 - s.sdc, sdc);

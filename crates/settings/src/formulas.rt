@@ -104,10 +104,10 @@ pub fn sdc_bits(sdc: u8, n: usize) -> usize
 {
     let bits = less_tail(2 * n);
     if sdc == 0 {
-        return share(bits, 2) + share(bits, 7);
+        return share(bits, tables::R1_3) + share(bits, tables::R2_3);
     }
     if sdc == 1 {
-        return share(bits, 4);
+        return share(bits, tables::R1_2);
     }
     0
 }

@@ -93,6 +93,20 @@ const N_SDC: [usize; 25] = [
     0,
 ];
 
+// Code rates by their numbers in table 65, those that FAC and SDC have.
+pub const R1_3: usize = 2;
+
+pub const R1_2: usize = 4;
+
+pub const R3_5: usize = 6;
+
+pub const R2_3: usize = 7;
+
+// An FAC block: 72 bits and 65 cells.
+pub const FAC_BYTES: usize = 9;
+
+pub const FAC_NUMBERS: usize = 130;
+
 // 001 table 65: RX and RY of the thirteen rates, smallest rate first.
 const NUMERATORS: [usize; 13] = [1, 3, 1, 4, 1, 4, 3, 2, 8, 3, 4, 7, 8];
 
@@ -215,7 +229,7 @@ const COMMON_DENOMINATORS: [usize; 17] = [
 const VSPP_RATES: [usize; 4] = [4, 5, 6, 7];
 
 // 001 tables 72 and 73: two places for each SDC mode.
-const SDC_RATES: [usize; 4] = [2, 7, 4, 0];
+const SDC_RATES: [usize; 4] = [R1_3, R2_3, R1_2, 0];
 
 // The place of a mode's occupancy.
 fn pairing_place(mode: u8, occupancy: u8) -> usize
