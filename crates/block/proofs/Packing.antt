@@ -13,7 +13,8 @@ use Rattle.lists.specs.Lists.{table, total}
 use Rattle.component.specs.Bits.{Bits}
 use Rattle.lists.proofs.Counting.{below-or}
 use Rattle.lists.proofs.Tables.{length-table, table-at, table-is, total-zero, zero-total}
-use Rattle.block.specs.Packing.{bitAt, unpacked, digits, bytesOf, packed, spareZero}
+use Rattle.block.specs.Packing.{bitAt, unpacked, digits, packed, spareZero}
+use Rattle.lists.specs.Bytes.{bytesFor}
 use Rattle.block.specs.Fits.{Bytes}
 use Rattle.block.proofs.Lists.{bits-table}
 
@@ -52,31 +53,31 @@ undigit bits s x (suc j) m l h =
 
 module _ {bits : List ℕ} (B : Bits bits) where
   -- every byte of packed bits
-  getD-packed : (k : ℕ) → k < bytesOf (length bits) → getD (packed bits) k 0 ≡ digits bits (8 * k) 8
+  getD-packed : (k : ℕ) → k < bytesFor (length bits) → getD (packed bits) k 0 ≡ digits bits (8 * k) 8
   unfolding packed
-  getD-packed k h = table-at (λ i. digits bits (8 * i) 8) 0 (bytesOf (length bits)) k 0 h ∙ rw zero-add
+  getD-packed k h = table-at (λ i. digits bits (8 * i) 8) 0 (bytesFor (length bits)) k 0 h ∙ rw zero-add
 
-  pub length-packed : length (packed bits) ≡ bytesOf (length bits)
+  pub length-packed : length (packed bits) ≡ bytesFor (length bits)
   unfolding packed
-  length-packed = length-table (λ i. digits bits (8 * i) 8) 0 (bytesOf (length bits))
+  length-packed = length-table (λ i. digits bits (8 * i) 8) 0 (bytesFor (length bits))
 
-  past : (k : ℕ) → bytesOf (length bits) ≤ k → getD (packed bits) k 0 ≡ 0
+  past : (k : ℕ) → bytesFor (length bits) ≤ k → getD (packed bits) k 0 ≡ 0
   past k h = List·getD-eq-default (packed bits) 0 {n = k} (rw length-packed h)
 
   -- packed bits are bytes
   pub bytes-packed : Bytes (packed bits)
-  bytes-packed = record { byte = λ k. go k (below-or k (bytesOf (length bits))) }
+  bytes-packed = record { byte = λ k. go k (below-or k (bytesFor (length bits))) }
     where
-      go : (k : ℕ) → (k < bytesOf (length bits)) ⊎ (bytesOf (length bits) ≤ k) → getD (packed bits) k 0 < 256
+      go : (k : ℕ) → (k < bytesFor (length bits)) ⊎ (bytesFor (length bits) ≤ k) → getD (packed bits) k 0 < 256
       go k (inl h) = rw (getD-packed k h) (digits-low B (8 * k) 8)
       go k (inr h) = rw (past k h) (omega arith)
 
   -- every bit of packed bits; those after the last are zero
   pub bitAt-packed : (i : ℕ) → bitAt (packed bits) i ≡ getD bits i 0
-  unfolding bitAt bytesOf
-  bitAt-packed i = go (below-or (i / 8) (bytesOf (length bits)))
+  unfolding bitAt bytesFor
+  bitAt-packed i = go (below-or (i / 8) (bytesFor (length bits)))
     where
-      go : (i / 8 < bytesOf (length bits)) ⊎ (bytesOf (length bits) ≤ i / 8) → getD (packed bits) (i / 8) 0 / 2 ^ (7 - i % 8) % 2 ≡ getD bits i 0
+      go : (i / 8 < bytesFor (length bits)) ⊎ (bytesFor (length bits) ≤ i / 8) → getD (packed bits) (i / 8) 0 / 2 ^ (7 - i % 8) % 2 ≡ getD bits i 0
       go (inl h) =
           rw (getD-packed (i / 8) h) (digit-at B (8 * (i / 8)) 8 (i % 8) (7 - i % 8) i (omega arith) (omega arith))
       go (inr h) = rw (past (i / 8) h, zero-div) (sym (List·getD-eq-default bits 0 {n = i} (omega arith)))
@@ -130,10 +131,10 @@ getD-unpacked n bytes i z = go (below-or i n) (below-or i (8 * length bytes))
         tail (inr k) = rw (List·getD-eq-default bytes 0 {n = i / 8} (omega arith), zero-div)
 
 -- packing undoes unpacking, where the spare bits are zero
-pub packed-unpacked : (n : ℕ) (bytes : List ℕ) → Bytes bytes → length bytes ≡ bytesOf n → spareZero n bytes ≡ true → packed (unpacked n bytes) ≡ bytes
+pub packed-unpacked : (n : ℕ) (bytes : List ℕ) → Bytes bytes → length bytes ≡ bytesFor n → spareZero n bytes ≡ true → packed (unpacked n bytes) ≡ bytes
 unfolding packed bitAt
 packed-unpacked n bytes B l z =
-    table-is (λ k. digits (unpacked n bytes) (8 * k) 8) 0 (bytesOf (length (unpacked n bytes))) bytes (rw length-unpacked l)
+    table-is (λ k. digits (unpacked n bytes) (8 * k) 8) 0 (bytesFor (length (unpacked n bytes))) bytes (rw length-unpacked l)
     (λ k h. undigit (unpacked n bytes) (8 * k) (getD bytes k 0) 8 0 (B .byte k) (each k) ∙ div-one (getD bytes k 0))
   where
     each : (k i j : ℕ) → i + suc j ≡ 8 + 0 → getD (unpacked n bytes) (8 * k + i) 0 ≡ getD bytes k 0 / 2 ^ j % 2

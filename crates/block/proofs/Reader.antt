@@ -5,13 +5,13 @@ use mathlib.Core.Logic.{_↔_}
 use mathlib.Core.Bool.{Bool, true, false, cond}
 use mathlib.Core.Option.{some, none}
 use mathlib.Core.List.{List}
-use native.Mathlib.Omega.{arith}
 use lib.IntN.{ℤ}
 use Rattle.block.specs.Packing.{unpacked}
 use Rattle.block.specs.Block.{Block, bitCount, cellsOf, cellsFrom}
 use Rattle.block.specs.Reading.{candidate, given, bytesRead, readBlock}
 use Rattle.block.specs.Fits.{BlockFits, BlockBits, BlockBytes}
 use Rattle.block.specs.Reads.{NoBits, NoBytes, ReadsBits, ReadsBytes}
+use Rattle.lists.proofs.Bools.{never-both}
 use Rattle.lists.proofs.Same.{sameNumbers-refl, sameNumbers-true}
 use Rattle.block.proofs.Block.{candidate-block, candidate-cells, bits-block, bytes-block, unpacked-block, packed-block}
 
@@ -27,11 +27,8 @@ module _ {X C : Type 0} (code : X → C) (back : C → X) (ok : X → Type 0) (t
   pub reader-refuses : (c : C) → (test c ≡ false) ↔ ((x : X) → ok x → code x ≡ c → ⊥)
   reader-refuses c = (refused, unless (test c) refl)
     where
-      apart : (b : Bool) → b ≡ true → b ≡ false → ⊥
-      apart b p q = let z : _≡_ {A = ℕ} 0 1 = cc in omega arith
-
       refused : test c ≡ false → (x : X) → ok x → code x ≡ c → ⊥
-      refused e x h g = apart (test c) (rw g at (reader-accepts x h)) e
+      refused e x h g = never-both (test c) (rw g at (reader-accepts x h)) e
 
       unless : (b : Bool) → test c ≡ b → ((x : X) → ok x → code x ≡ c → ⊥) → test c ≡ false
       unless true e no-input = absurd (no-input (back c) (fine c) (sound c e))

@@ -8,7 +8,8 @@ use lib.IntN.{ℤ, pos}
 use Rattle.component.specs.Bits.{Bits}
 use Rattle.component.specs.Decoding.{Sound}
 use Rattle.interleaver.specs.Deinterleaving.{Cycles}
-use Rattle.block.specs.Packing.{bytesOf, spareZero}
+use Rattle.lists.specs.Bytes.{bytesFor}
+use Rattle.block.specs.Packing.{spareZero}
 use Rattle.block.specs.Levels.{Level}
 use Rattle.block.specs.Mapping.{Constellation}
 use Rattle.block.specs.Block.{Block, bitCount}
@@ -69,5 +70,5 @@ pub record BlockBits (k : Block) (l : List ℕ) : Type 0 where
 -- Bytes of a block: as many as its bits take, the spare bits zero.
 pub record BlockBytes (k : Block) (l : List ℕ) : Type 0 where
   pub bytes : Bytes l
-  pub long : length l ≡ bytesOf (bitCount k)
+  pub long : length l ≡ bytesFor (bitCount k)
   pub spare : spareZero (bitCount k) l ≡ true

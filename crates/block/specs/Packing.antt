@@ -4,6 +4,7 @@ use mathlib.Core.Bool.{Bool}
 use mathlib.Core.List.{List}
 use lib.ListN.{length, getD}
 use lib.Dec.{eqb}
+use Rattle.lists.specs.Bytes.{bytesFor}
 use Rattle.lists.specs.Lists.{table, total}
 
 -- Bit i of packed bytes: the first bit of a byte is its highest.
@@ -19,13 +20,9 @@ unfoldable pub digits : List ℕ → ℕ → ℕ → ℕ
 digits bits i zero = 0
 digits bits i (suc n) = digits bits i n * 2 + getD bits (i + n) 0
 
--- The bytes that n bits take.
-unfoldable pub bytesOf : ℕ → ℕ
-bytesOf n = (n + 7) / 8
-
 -- Bits packed into bytes; spare bits of the last byte are zero.
 unfoldable pub packed : List ℕ → List ℕ
-packed bits = table (λ k. digits bits (8 * k) 8) 0 (bytesOf (length bits))
+packed bits = table (λ k. digits bits (8 * k) 8) 0 (bytesFor (length bits))
 
 -- No bit after the first n is set.
 unfoldable pub spareZero : ℕ → List ℕ → Bool

@@ -2,12 +2,13 @@
 use Prim.Native.Nat.{ℕ, _+_, _-_, _/_, _%_, _^_, _≤_, _<_}
 use mathlib.Core.Path.{_≡_, refl, sym, ap, ap₂, _∙_}
 use mathlib.Core.Bool.{Bool, true, false, cond}
-use mathlib.Core.List.{List, _++_, append-nil}
+use mathlib.Core.List.{List, _++_}
 use native.Mathlib.Omega.{arith}
 use lib.Dec.{eqb}
 use lib.IntN.{ℤ}
-use lib.ListN.{length, take, drop, length-append}
-use lib.Seq.{take-at, take-length, length-take-le, drop-at, drop-length}
+use lib.ListN.{length, take, drop}
+use lib.Seq.{length-take-le, drop-at}
+use Rattle.lists.proofs.Parts.{from-start, to-end, both-written}
 use Rattle.lists.specs.Lists.{table}
 use Rattle.interleaver.specs.Weights.{taken}
 use Rattle.lists.proofs.Tables.{length-table, table-ext}
@@ -82,24 +83,9 @@ pub one-buffer : {plan : List ℕ} {c : ℕ} {cells : List ℤ} {re im coded a b
     → ReadsCells plan false c cells re re coded a b
 one-buffer R = record { levels = relent (R .levels) refl refl; known = R .known; whole = R .whole; numbers = R .numbers }
 
--- a part from the start of a list
-from-start : (n : ℕ) → n - 0 ≡ n
-from-start n = omega arith
-
-module _ (x v : List ℕ) (n : ℕ) (e : length x ≡ n) (h : n ≤ length v) where
-  -- x in place of the first n elements: what follows them
-  kept : drop n (x ++ drop (n - 0) v) ≡ drop n v
-  kept = rw (from-start n) (drop-at x (drop n v) n e)
-
-  rest-length : length (x ++ drop (n - 0) v) - n ≡ length (drop n v)
-  rest-length = rw (from-start n, length-append, e) (omega arith)
-
-  rest-part : take (length (x ++ drop (n - 0) v) - n) (drop n (x ++ drop (n - 0) v)) ≡ drop n v
-  rest-part = rw (rest-length, kept) (take-length (drop n v))
-
-  -- and with y in place of that
-  both-parts : (y : List ℕ) → take n (x ++ drop (n - 0) v) ++ (y ++ drop (length (x ++ drop (n - 0) v) - n) (drop n (x ++ drop (n - 0) v))) ≡ x ++ y
-  both-parts y = rw (rest-length, kept, drop-length (drop n v), append-nil y, take-at x (drop (n - 0) v) n e)
+-- x in place of the first n elements: what follows them
+rest-part : (x v : List ℕ) (n : ℕ) → length x ≡ n → take (length (x ++ drop (n - 0) v) - n) (drop n (x ++ drop (n - 0) v)) ≡ drop n v
+rest-part x v n e = to-end n (x ++ drop (n - 0) v) ∙ rw (from-start n) (drop-at x (drop n v) n e)
 
 -- the front of the bits, where part A's are read to
 pub front-reads : {plan : List ℕ} {one : Bool} {c : ℕ} {cells : List ℤ} {re im coded b bits : List ℕ} → ReadsParts plan one c cells re im coded b bits
@@ -112,7 +98,7 @@ pub parts-read : {plan : List ℕ} {one : Bool} {c : ℕ} {cells : List ℤ} (v 
     → take n (x ++ drop (n - 0) v) ++ (y ++ drop (length (x ++ drop (n - 0) v) - n) (drop n (x ++ drop (n - 0) v))) ≡ bitsIn plan one c cells
 unfolding bitsIn
 parts-read v n {x} {b} {y} h e R f =
-    both-parts x v n (e ∙ rw (from-start n) (length-take-le n v h)) h y ∙ ap₂ _++_ (R .partA) (f ∙ R .partB)
+    both-written v x n h (e ∙ rw (from-start n) (length-take-le n v h)) y ∙ ap₂ _++_ (R .partA) (f ∙ R .partB)
 
 -- both parts of a list dispersed in place
 pub dispersed-both : (n : ℕ) (v : List ℕ) {x y : List ℕ} → n ≤ length v → x ≡ dispersed 0 (take (n - 0) v)
@@ -122,5 +108,5 @@ unfolding dispersedParts
 dispersed-both n v {x} {y} h e f =
     let g : x ≡ dispersed 0 (take n v) = rw (from-start n) at e in
     let k : length x ≡ n = rw g (length-dispersed 0 (take n v) ∙ length-take-le n v h) in
-    let z : y ≡ dispersed 0 (drop n v) = f ∙ ap (dispersed 0) (rest-part x v n k h) in
-    both-parts x v n k h y ∙ ap₂ _++_ g z
+    let z : y ≡ dispersed 0 (drop n v) = f ∙ ap (dispersed 0) (rest-part x v n k) in
+    both-written v x n h k y ∙ ap₂ _++_ g z

@@ -6,7 +6,7 @@ use mathlib.Core.List.{List, [], _++_, append-nil, append-assoc}
 use native.Mathlib.Nat.{add-zero, zero-add}
 use native.Mathlib.Numerals.{add-one}
 use native.Mathlib.Omega.{arith}
-use lib.ListN.{length, getD, take, drop, length-append, take-append-drop}
+use lib.ListN.{length, getD, take, drop, length-append}
 use lib.Seq.{sets, sets-eq, length-sets, length-take-le, take-at, take-all, drop-drop}
 use Rattle.lists.specs.Lists.{table}
 use Rattle.interleaver.specs.Weights.{taken}
@@ -20,11 +20,6 @@ use Rattle.levels.specs.Requirements.{Sums}
 use Rattle.candidate.specs.Candidate.{digitAt, imaginaryAt, streamFrom, ReadsAt, ReadAt, ReadsLevels, ReadsStream}
 use Rattle.levels.proofs.OneLevel.{level-at}
 use Rattle.levels.proofs.Planning.{before-mono, part-long}
-
--- a list with n elements from place i on replaced by as many others keeps its length
-pub length-inside : {A : Type 0} (d e : List A) (i n : ℕ) → length e ≡ length (take n (drop i d)) → length (take i d ++ (e ++ drop n (drop i d))) ≡ length d
-length-inside d e i n h =
-    rw (length-append, length-append, h, ← length-append (take n (drop i d)) (drop n (drop i d)), take-append-drop n (drop i d), ← length-append (take i d) (drop i d), take-append-drop i d)
 
 -- a part of v from d on, written over, is stored in v
 pub stored-part : (x v : List ℕ) (s n d : ℕ) → s ≡ d → length x ≡ n → d + n ≤ length v

@@ -9,7 +9,8 @@ use Rattle.settings.specs.Accepted.{Accepted}
 use Rattle.settings.specs.Cells.{facCells}
 use Rattle.settings.specs.Formulas.{facBits, roundUp}
 use Rattle.settings.specs.Lengths.{nMux, nSdc}
-use Rattle.settings.specs.Sizes.{bytesFor, frameBytes, sdcBytes}
+use Rattle.lists.specs.Bytes.{bytesFor}
+use Rattle.settings.specs.Sizes.{frameBytes, sdcBytes}
 use Rattle.channels.specs.Lent.{FrameLent, SdcLent, FacLent}
 
 pub fac-lent : {bytes : List ℕ} {cells : List ℤ} → length bytes ≡ 9 → length cells ≡ 130 → FacLent bytes cells

@@ -12,15 +12,15 @@ use Rattle.settings.specs.declared.Settings.{Settings}
 use Rattle.settings.specs.Cells.{entry, muxTable, facCells}
 use Rattle.settings.specs.Formulas.{partVspp, cellsA, facBits, roundUp}
 use Rattle.settings.specs.Lengths.{nMux, nSdc, n1, lVspp, lSdc}
-use Rattle.settings.specs.Sizes.{frameBits, bytesFor}
+use Rattle.settings.specs.Sizes.{frameBits}
+use Rattle.lists.specs.Bytes.{bytesFor}
 use Rattle.settings.specs.Accepted.{Accepted}
 use Rattle.settings.proofs.LookUps.{all-at}
-use Rattle.block.specs.Packing.{bytesOf}
 use Rattle.block.specs.Block.{Block, bitCount, cellsFrom}
 use Rattle.block.specs.Fits.{BlockFits}
 use Rattle.block.specs.Plan.{blockOf, Known}
 use Rattle.coder.specs.Coder.{CodesBlock}
-use Rattle.coder.proofs.Lists.{from-start}
+use Rattle.lists.proofs.Parts.{from-start}
 use Rattle.reader.specs.Reader.{BlockRead}
 use Rattle.frame.specs.Fac.{facBlock}
 use Rattle.frame.specs.Sdc.{sdcBlock}
@@ -55,7 +55,7 @@ module _ {plan : List ℕ} {v : ℕ} {one : Bool} {c n bits : ℕ} {k : Block} (
 
   -- it can be coded
   pub codes : {m : ℕ} → m ≤ n → CodesBlock plan v one c m bytes out
-  unfolding bytesFor bytesOf roundUp
+  unfolding bytesFor roundUp
   codes h =
       record {
         fits = rw block (P .fits);

@@ -8,7 +8,8 @@ use Rattle.settings.specs.declared.Settings.{Settings}
 use Rattle.settings.specs.Cells.{facCells}
 use Rattle.settings.specs.Formulas.{facBits}
 use Rattle.settings.specs.Lengths.{nMux, nSdc, lSdc}
-use Rattle.settings.specs.Sizes.{bytesFor, frameBits}
+use Rattle.lists.specs.Bytes.{bytesFor}
+use Rattle.settings.specs.Sizes.{frameBits}
 use Rattle.settings.specs.Accepted.{Accepted}
 use Rattle.frame.specs.Plans.{mscPlan, sdcPlan, facPlan}
 

@@ -14,7 +14,8 @@ use lib.IntN.{ℤ}
 use Rattle.lists.specs.Lists.{table, total}
 use Rattle.lists.proofs.Counting.{below-or}
 use Rattle.lists.proofs.Tables.{length-table, table-at, zero-total}
-use Rattle.block.specs.Packing.{bitAt, bytesOf, spareZero}
+use Rattle.block.specs.Packing.{bitAt, spareZero}
+use Rattle.lists.specs.Bytes.{bytesFor}
 use Rattle.block.specs.Block.{Block, bitCount, cellsFrom}
 use Rattle.block.specs.Reading.{given, bytesRead}
 use Rattle.block.specs.Fits.{BlockFits, BlockBytes}
@@ -61,9 +62,9 @@ set-low l at v h low i = go (below-or i at) (below-or at i) (below-or at (length
     go (inr p) (inr q) (inl r) = let e : i ≡ at = omega arith in rw (e, getD-set-same l at v 0 r) h
     go (inr p) (inr q) (inr r) = rw (List·getD-eq-default (set l at v) 0 {n = i} (omega (arith, length-set l at v))) (omega arith)
 
-module _ (t : ℕ) (l : List ℕ) (long : length l ≡ bytesOf t) where
+module _ (t : ℕ) (l : List ℕ) (long : length l ≡ bytesFor t) where
   -- a list with its spare bits cleared is as long, and of bytes if it was
-  length-cleared : length (cleared t l) ≡ bytesOf t
+  length-cleared : length (cleared t l) ≡ bytesFor t
   unfolding cleared
   length-cleared = length-set l _ _ ∙ long
 
@@ -73,8 +74,8 @@ module _ (t : ℕ) (l : List ℕ) (long : length l ≡ bytesOf t) where
       set-low l _ _ (omega (arith, div-mul-le-self (getD l (length l - 1) 0) (2 ^ spareBits t), low (length l - 1))) low
 
   -- and every bit from t on is zero
-  cleared-bit : (i : ℕ) → t ≤ i → i < 8 * bytesOf t → bitAt (cleared t l) i ≡ 0
-  unfolding cleared bitAt spareBits bytesOf
+  cleared-bit : (i : ℕ) → t ≤ i → i < 8 * bytesFor t → bitAt (cleared t l) i ≡ 0
+  unfolding cleared bitAt spareBits bytesFor
   cleared-bit i h k =
       let e : i / 8 ≡ length l - 1 = omega (arith, long) in
       let b = getD l (length l - 1) 0 in
@@ -99,22 +100,22 @@ drawn-bytes : (k : Block) (x : ℕ) → BlockBytes k (bytesDrawn k x)
 unfolding bytesDrawn drawnBlock
 drawn-bytes k x =
     let t = bitCount k in
-    let long = length-from x (bytesOf t) in
-    let l = bytesFrom x (bytesOf t) in
+    let long = length-from x (bytesFor t) in
+    let l = bytesFrom x (bytesFor t) in
     record {
-      bytes = record { byte = cleared-low t l long (from-low x (bytesOf t)) };
+      bytes = record { byte = cleared-low t l long (from-low x (bytesFor t)) };
       long = length-cleared t l long;
       spare = cleared-spare t l long;
     }
 
 -- A block is drawn, coded and read back: it comes back, so that the digest is that of its cells.
 pub came-back : {k : Block} → BlockFits k → (x : ℕ) {bits n y digest : ℕ} {bytes back back' : List ℕ} {cells : List ℤ} {read : Bool}
-    → bits ≡ bitCount k → n ≡ bytesOf (bitCount k) → y ≡ state x n → bytes ≡ drawnBlock x bits n → cells ≡ cellsFrom k bytes
+    → bits ≡ bitCount k → n ≡ bytesFor (bitCount k) → y ≡ state x n → bytes ≡ drawnBlock x bits n → cells ≡ cellsFrom k bytes
     → BlockRead k cells back read back' → (read ≡ true → bytes ≡ back' → digest ≡ cellsTaken 0 cells)
     → record { x = y; digest = digest } ≡ drawnFrom k x
 unfolding drawnFrom bytesDrawn
 came-back {k} F x {back = back} {cells = cells} e f s b c R D =
-    let w = drawnBlock x (bitCount k) (bytesOf (bitCount k)) in
+    let w = drawnBlock x (bitCount k) (bytesFor (bitCount k)) in
     let drawn : BlockBytes k w = drawn-bytes k x in
     let bytes-are = b ∙ ap₂ (drawnBlock x) e f in
     let cells-are = c ∙ ap (cellsFrom k) bytes-are in

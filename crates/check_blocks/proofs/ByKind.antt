@@ -11,9 +11,8 @@ use Rattle.settings.specs.declared.Settings.{Settings}
 use Rattle.settings.specs.Cells.{facCells}
 use Rattle.settings.specs.Formulas.{facBits, roundUp}
 use Rattle.settings.specs.Refusal.{refusal}
-use Rattle.settings.specs.Sizes.{bytesFor}
+use Rattle.lists.specs.Bytes.{bytesFor}
 use Rattle.settings.proofs.Bounds.{accepted-of}
-use Rattle.block.specs.Packing.{bytesOf}
 use Rattle.block.specs.Block.{Block, bitCount}
 use Rattle.block.specs.Fits.{BlockFits}
 use Rattle.frame.specs.Fac.{facBlock}
@@ -49,16 +48,12 @@ pub is-frame : (kind : ℕ) (s : Settings) → (kind ≡ 0 → ⊥) → (kind �
 unfolding blockOf
 is-frame kind s n m = rw (ne-eqb kind 0 n, ne-eqb kind 1 m)
 
-bytes-for : (n : ℕ) → bytesOf n ≡ bytesFor n
-unfolding bytesOf bytesFor roundUp
-bytes-for n = refl
-
 -- buffers of a kind's lengths are those of its block
 lent-as : {kind bits cells : ℕ} {s : Settings} {bytes : List ℕ} {numbers : List ℤ} (k : Block) → blockOf kind s ≡ k → bitCount k ≡ bits → k .cells ≡ cells
     → BlockLent kind s bytes numbers → Lent bits (2 * cells) bytes numbers
 lent-as {bits = bits} k e f g L =
     record {
-      bytesLong = L .bytesLong ∙ ap (λ b. bytesOf (bitCount b)) e ∙ ap bytesOf f ∙ bytes-for bits;
+      bytesLong = L .bytesLong ∙ ap (λ b. bytesFor (bitCount b)) e ∙ ap bytesFor f;
       cellsLong = L .cellsLong ∙ ap (λ b. 2 * b .cells) e ∙ ap (λ n. 2 * n) g;
     }
 
@@ -102,7 +97,7 @@ module _ (s : Settings) (h : refusal s ≡ 0) where
 
   -- the lengths of its buffers, as the code finds them
   pub sized : (kind b y n : ℕ) → b ≡ bitCount (blockOf kind s) → y ≡ roundUp b 8 → n ≡ blockOf kind s .cells → Sized (blockOf kind s) b y (2 * n)
-  unfolding bytesOf roundUp
+  unfolding bytesFor roundUp
   sized kind b y n e f g =
       let bits = bits-few kind in
       let cells = cells-few kind in

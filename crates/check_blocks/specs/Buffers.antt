@@ -6,14 +6,14 @@ use lib.ListN.{length}
 use lib.IntN.{ℤ}
 use Rattle.settings.specs.declared.Settings.{Settings}
 use Rattle.settings.specs.Refusal.{refusal}
-use Rattle.block.specs.Packing.{bytesOf}
+use Rattle.lists.specs.Bytes.{bytesFor}
 use Rattle.block.specs.Block.{Block, bitCount}
 use Rattle.check_blocks.specs.Kinds.{blockOf}
 
 -- Buffers of a block's lengths, for settings that are not refused.
 pub record BlockLent (kind : ℕ) (s : Settings) (bytes : List ℕ) (cells : List ℤ) : Type 0 where
   pub allowed : refusal s ≡ 0
-  pub bytesLong : length bytes ≡ bytesOf (bitCount (blockOf kind s))
+  pub bytesLong : length bytes ≡ bytesFor (bitCount (blockOf kind s))
   pub cellsLong : length cells ≡ 2 * blockOf kind s .cells
 
 -- The same with the block's bits, and bytes to be read back.
@@ -31,7 +31,7 @@ pub record Largest (bytes back : List ℕ) (cells : List ℤ) : Type 0 where
 -- A block's bits, and the lengths of its buffers, which are within those of the largest.
 pub record Sized (k : Block) (bits n m : ℕ) : Type 0 where
   pub counted : bits ≡ bitCount k
-  pub long : n ≡ bytesOf (bitCount k)
+  pub long : n ≡ bytesFor (bitCount k)
   pub few : n ≤ 4589
   pub whole : m ≡ 2 * k .cells
   pub within : m ≤ 12236

@@ -5,7 +5,7 @@ use mathlib.Core.List.{List}
 use lib.Dec.{eqb}
 use Rattle.settings.specs.declared.Settings.{Settings}
 use Rattle.settings.specs.Refusal.{refusal}
-use Rattle.block.specs.Packing.{bytesOf}
+use Rattle.lists.specs.Bytes.{bytesFor}
 use Rattle.block.specs.Block.{Block, bitCount, cellsFrom}
 use Rattle.frame.specs.Fac.{facBlock}
 use Rattle.frame.specs.Sdc.{sdcBlock}
@@ -20,11 +20,11 @@ blockOf kind s = cond (eqb kind 0) facBlock (cond (eqb kind 1) (sdcBlock s) (msc
 
 -- The bytes of a block, drawn from a state.
 unfoldable pub bytesDrawn : Block → ℕ → List ℕ
-bytesDrawn k x = drawnBlock x (bitCount k) (bytesOf (bitCount k))
+bytesDrawn k x = drawnBlock x (bitCount k) (bytesFor (bitCount k))
 
 -- The state after a block, and the digest of the cells that the definition gives.
 unfoldable pub drawnFrom : Block → ℕ → Drawn
-drawnFrom k x = record { x = state x (bytesOf (bitCount k)); digest = cellsTaken 0 (cellsFrom k (bytesDrawn k x)) }
+drawnFrom k x = record { x = state x (bytesFor (bitCount k)); digest = cellsTaken 0 (cellsFrom k (bytesDrawn k x)) }
 
 -- Nothing is drawn for settings that are refused.
 unfoldable pub drawnOf : ℕ → Settings → ℕ → Drawn

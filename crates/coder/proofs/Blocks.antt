@@ -12,7 +12,8 @@ use Rattle.lists.specs.Lists.{table}
 use Rattle.component.proofs.Bits.{bits-drop}
 use Rattle.lists.proofs.Counting.{below-or}
 use Rattle.lists.proofs.Tables.{length-table}
-use Rattle.block.specs.Packing.{bytesOf, unpacked}
+use Rattle.lists.specs.Bytes.{bytesFor}
+use Rattle.block.specs.Packing.{unpacked}
 use Rattle.block.specs.Dispersal.{dispersedParts}
 use Rattle.block.specs.Levels.{totalA, streams}
 use Rattle.block.specs.Mapping.{constellation, numberAt, mapped, weave, woven}
@@ -27,7 +28,7 @@ use Rattle.block.proofs.Dispersal.{length-dispersedParts, bits-dispersedParts}
 use Rattle.block.proofs.Mapping.{levelCount, constellation-labels}
 use Rattle.coder.specs.Coder.{cellsBy}
 use Rattle.coder.specs.Parts.{UnpacksParts, MapsParts, MapsAxesParts, PlanBits, CodesBoth, CodesAxes, CodesBits, CodesBlockIn, CodesBlockWith}
-use Rattle.coder.proofs.Lists.{from-start, to-end, length-start, length-end}
+use Rattle.lists.proofs.Parts.{from-start, to-end, length-start, length-end}
 use Rattle.coder.proofs.Plans.{totalA-plan, totalB-plan, streams-plan, length-levelsOf, level-ready, codes-levels, length-streamAt, numbers-low}
 use Rattle.coder.proofs.Woven.{mapped-numbers, numbers-woven}
 
@@ -217,7 +218,7 @@ module _ {plan : List ℕ} {v : ℕ} {one : Bool} {c n1 : ℕ} {bytes bits coded
     (C : CodesBlockIn plan v one c n1 bytes bits coded numbers imaginary out) where
   -- its bits are there
   pub unpacks-in : UnpacksParts bytes v bits
-  unfolding bytesOf
+  unfolding bytesFor
   unpacks-in =
       record {
         few = omega (arith, C .block .long, C .block .short);

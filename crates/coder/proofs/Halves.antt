@@ -16,7 +16,8 @@ use Rattle.mapping.specs.Requirements.{Maps, MapsAxes}
 use Rattle.block.proofs.Dispersal.{length-dispersed}
 use Rattle.block.proofs.Mapping.{length-weave}
 use Rattle.coder.specs.Parts.{UnpacksParts, MapsParts, MapsAxesParts}
-use Rattle.coder.proofs.Lists.{from-start, to-end, length-start, length-end, length-second, both-written, take-table, drop-table, numbers-take, numbers-drop, coordinates-parts, weave-take, weave-drop}
+use Rattle.lists.proofs.Parts.{from-start, to-end, length-start, length-end, length-second, both-written}
+use Rattle.coder.proofs.Lists.{take-table, drop-table, numbers-take, numbers-drop, coordinates-parts, weave-take, weave-drop}
 
 module _ {bytes : List ℕ} {v : ℕ} {bits : List ℕ} (U : UnpacksParts bytes v bits)
     {p : List ℕ} (e : p ≡ dispersed 0 (table (bitAt bytes) 0 (length (take (v - 0) bits)))) where

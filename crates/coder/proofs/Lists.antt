@@ -3,11 +3,11 @@ use Prim.Native.Nat.{ℕ, _+_, _-_, _*_, _/_, _%_, _≤_, _<_}
 use mathlib.Core.Path.{_≡_, sym, ap, ap₂, _∙_}
 use mathlib.Core.Logic.{_⊎_, inl, inr}
 use mathlib.Core.Bool.{Bool, true, false, cond}
-use mathlib.Core.List.{List, [], _++_, append-nil}
+use mathlib.Core.List.{List, _++_}
 use native.Mathlib.Nat.{zero-add}
 use native.Mathlib.Omega.{arith}
-use lib.ListN.{length, getD, take, drop, length-append, length-take, length-drop, List·getD-eq-default}
-use lib.Seq.{getD-take, getD-drop, length-take-le, take-all, take-at, drop-at, drop-length}
+use lib.ListN.{length, getD, take, drop, length-take, length-drop, List·getD-eq-default}
+use lib.Seq.{getD-take, getD-drop, length-take-le, take-at, drop-at}
 use lib.IntN.{ℤ, pos}
 use lib.Dec.{eqb}
 use Rattle.lists.specs.Lists.{table}
@@ -16,36 +16,6 @@ use Rattle.lists.proofs.Tables.{length-table, table-ext, table-add, table-from}
 use Rattle.block.specs.Mapping.{Constellation, axis, weave}
 use Rattle.mapping.specs.Numbers.{coordinates}
 use Rattle.mapping.specs.Requirements.{Numbers}
-
--- a part from the start of a list, and one to its end
-pub from-start : (n : ℕ) → n - 0 ≡ n
-from-start n = omega arith
-
-pub to-end : {A : Type 0} (n : ℕ) (l : List A) → take (length l - n) (drop n l) ≡ drop n l
-to-end n l = take-all (length l - n) (drop n l) (rw length-drop (omega arith))
-
-pub length-start : {A : Type 0} (n : ℕ) (l : List A) → n ≤ length l → length (take (n - 0) l) ≡ n
-length-start n l h = rw (from-start n) (length-take-le n l h)
-
-pub length-end : {A : Type 0} (n : ℕ) (l : List A) → length (take (length l - n) (drop n l)) ≡ length l - n
-length-end n l = ap length (to-end n l) ∙ length-drop n l
-
-module _ {A : Type 0} (l p : List A) (n : ℕ) (h : n ≤ length l) (e : length p ≡ n) where
-  -- a buffer keeps its length when its first n elements are written
-  pub length-written : length (p ++ drop (n - 0) l) ≡ length l
-  length-written = rw (length-append, from-start n, length-drop, e) (omega arith)
-
-  -- so that the second part is as long as it was
-  pub length-second : length (take (length (p ++ drop (n - 0) l) - n) (drop n (p ++ drop (n - 0) l))) ≡ length l - n
-  length-second = length-end n (p ++ drop (n - 0) l) ∙ ap (λ m. m - n) length-written
-
-  -- with the second part written too, it is both parts
-  pub both-written : (q : List A)
-      → take n (p ++ drop (n - 0) l) ++ (q ++ drop (length (p ++ drop (n - 0) l) - n) (drop n (p ++ drop (n - 0) l))) ≡ p ++ q
-  both-written q =
-      let l′ : List A = p ++ drop (n - 0) l in
-      let none : drop (length l′ - n) (drop n l′) ≡ [] = rw (← length-drop n l′) (drop-length (drop n l′)) in
-      ap₂ (λ (x y : List A). x ++ (q ++ y)) (take-at p (drop (n - 0) l) n e) none ∙ ap (λ (y : List A). p ++ y) (append-nil q)
 
 -- a table's first values, and those after them
 module _ {A : Type 0} (f : ℕ → A) (m n : ℕ) (h : m ≤ n) where

@@ -5,7 +5,7 @@ use mathlib.Core.Bool.{Bool, cond}
 use mathlib.Core.List.{List}
 use lib.ListN.{length}
 use lib.IntN.{ℤ}
-use Rattle.block.specs.Packing.{bytesOf}
+use Rattle.lists.specs.Bytes.{bytesFor}
 use Rattle.block.specs.Mapping.{mapped, woven}
 use Rattle.block.specs.Block.{Block, bitCount, streamsOf}
 use Rattle.block.specs.Fits.{BlockFits}
@@ -24,5 +24,5 @@ pub record CodesBlock (plan : List ℕ) (v : ℕ) (one : Bool) (c n1 : ℕ) (byt
   pub whole : length out % 2 ≡ 0
   pub part : 2 * n1 ≤ length out
   pub high : length out ≤ 12236
-  pub long : length bytes ≡ bytesOf (bitCount (blockOf plan v one c (length out / 2)))
+  pub long : length bytes ≡ bytesFor (bitCount (blockOf plan v one c (length out / 2)))
   pub short : bitCount (blockOf plan v one c (length out / 2)) ≤ 36708

@@ -11,7 +11,8 @@ use Rattle.settings.specs.Cells.{facCells}
 use Rattle.settings.specs.Formulas.{roundUp}
 use Rattle.settings.specs.Refusal.{refusal}
 use Rattle.settings.specs.Accepted.{Accepted}
-use Rattle.settings.specs.Sizes.{bytesFor, frameBytes, sdcBytes, noSizes, allSizes, sizesOf}
+use Rattle.lists.specs.Bytes.{bytesFor}
+use Rattle.settings.specs.Sizes.{frameBytes, sdcBytes, noSizes, allSizes, sizesOf}
 use Rattle.settings.proofs.Bounds.{accepted-of}
 use Rattle.settings.proofs.Buffers.{frame-low, memory-low, sizes-accepts, sizes-refuses}
 use Rattle.desk.specs.Room.{Enough}

@@ -21,7 +21,8 @@ use Rattle.settings.specs.Refusal.{topLevel}
 use Rattle.settings.specs.Lengths.{nMux, n1, n2, l1, l2, lVspp}
 use Rattle.settings.specs.Sizes.{frameBits}
 use Rattle.settings.specs.Accepted.{Level as Protection, Accepted}
-use Rattle.settings.proofs.LookUps.{and-left, and-right, all, all-at}
+use Rattle.settings.proofs.LookUps.{all, all-at}
+use Rattle.component.proofs.Tests.{both-left, both-right}
 use Rattle.settings.proofs.Parts.{levels, level-at}
 use Rattle.settings.proofs.PartA.{divide, common-divides, times-denominator}
 use Rattle.block.specs.Levels.{Level, totalA, totalB}
@@ -193,9 +194,9 @@ module _ (b : Bool) (v : Level) (ls : List Level) where
 divided : (d : ℕ) (rs : List ℕ) → T (divide d rs) → (c i : ℕ) → i < length rs → (c * d) % RY (getD rs i 0) ≡ 0
 divided d [] t c i h = absurd (omega arith)
 divided d (r ∷ rs) t c zero h =
-    let e : c * d ≡ (c * (d / RY r)) * RY r = times-denominator c d r (eqb→eq _ 0 (and-left (eqb (d % RY r) 0) (divide d rs) t)) in
+    let e : c * d ≡ (c * (d / RY r)) * RY r = times-denominator c d r (eqb→eq _ 0 (both-left (eqb (d % RY r) 0) (divide d rs) t)) in
     rw e (mul-mod-left (c * (d / RY r)) (RY r))
-divided d (r ∷ rs) t c (suc i) h = divided d rs (and-right (eqb (d % RY r) 0) (divide d rs) t) c i (omega arith)
+divided d (r ∷ rs) t c (suc i) h = divided d rs (both-right (eqb (d % RY r) 0) (divide d rs) t) c i (omega arith)
 
 none-or-enough : (w n : ℕ) → (n ≡ 0) ⊎ (8 ≤ w * n) → (w * n ≡ 0) ⊎ (5 ≤ w * n)
 none-or-enough w n (inl e) = inl (rw (e, mul-zero))

@@ -18,7 +18,8 @@ use Rattle.settings.specs.Formulas.{hierarchical, width, bitsA, bitsB, remainde
 use Rattle.settings.specs.Lengths.{nMux, nSdc, n1, n2}
 use Rattle.settings.specs.Shares.{share}
 use Rattle.settings.specs.Accepted.{Accepted, Whole}
-use Rattle.settings.proofs.LookUps.{and-left, and-right, all, all-at}
+use Rattle.settings.proofs.LookUps.{all, all-at}
+use Rattle.component.proofs.Tests.{both-left, both-right}
 use Rattle.settings.proofs.PartA.{bitsA-exact, share-exact, divide, times-denominator, common-divides}
 use Rattle.block.specs.Levels.{Level}
 use Rattle.block.specs.Plan.{levelAt, levelsOf}
@@ -110,14 +111,14 @@ pub rows-levels : (w cells1 cells2 : ℕ) (ratesA ratesB ts : List ℕ) → T (d
 unfolding rows protectedLevels levelsOf table
 rows-levels w cells1 cells2 [] ratesB ts d a b = refl
 rows-levels w cells1 cells2 (rateA ∷ ratesA) ratesB ts d a b =
-    let divides : cells1 % RY rateA ≡ 0 = eqb→eq _ 0 (and-left (eqb (cells1 % RY rateA) 0) (divide cells1 ratesA) d) in
-    let known : rateA < 13 = ltb→lt rateA 13 (and-left (ltb rateA 13) (all (λ r. ltb r 13) ratesA) a) in
+    let divides : cells1 % RY rateA ≡ 0 = eqb→eq _ 0 (both-left (eqb (cells1 % RY rateA) 0) (divide cells1 ratesA) d) in
+    let known : rateA < 13 = ltb→lt rateA 13 (both-left (ltb rateA 13) (all (λ r. ltb r 13) ratesA) a) in
     let later : (k : ℕ) → getD (drop 1 ratesB) k 0 < 13 = λ k. rw (getD-drop 1 ratesB k 0) (b (1 + k)) in
     row-level (w * cells1) (w * cells2 - 12) (w * cells2 - 12) rateA (getD ratesB 0 0) (getD ts 0 0) known (b 0)
     (rows (w * cells1) (w * cells2 - 12) ratesA (drop 1 ratesB) (drop 1 ts))
     ∙ ap₂ _∷_ (protected-level w cells1 cells2 rateA (getD ratesB 0 0) (getD ts 0 0) divides)
     (rows-levels w cells1 cells2 ratesA (drop 1 ratesB) (drop 1 ts)
-    (and-right (eqb (cells1 % RY rateA) 0) (divide cells1 ratesA) d) (and-right (ltb rateA 13) (all (λ r. ltb r 13) ratesA) a) later)
+    (both-right (eqb (cells1 % RY rateA) 0) (divide cells1 ratesA) d) (both-right (ltb rateA 13) (all (λ r. ltb r 13) ratesA) a) later)
 
 -- a multiple of a number that all denominators divide is divided by them
 pub divide-multiple : (n d : ℕ) (rs : List ℕ) → n % d ≡ 0 → T (divide d rs) → T (divide n rs)
@@ -125,9 +126,9 @@ divide-multiple n d [] e t = tt
 divide-multiple n d (r ∷ rs) e t =
     let whole : n / d * d + n % d ≡ n = div-add-mod' n d in
     let exact : n / d * d ≡ n = omega arith in
-    let divides : d % RY r ≡ 0 = eqb→eq _ 0 (and-left (eqb (d % RY r) 0) (divide d rs) t) in
+    let divides : d % RY r ≡ 0 = eqb→eq _ 0 (both-left (eqb (d % RY r) 0) (divide d rs) t) in
     let zero-left : n % RY r ≡ 0 = rw (← exact, times-denominator (n / d) d r divides) (mul-mod-left (n / d * (d / RY r)) (RY r)) in
-    rw zero-left (divide-multiple n d rs e (and-right (eqb (d % RY r) 0) (divide d rs) t))
+    rw zero-left (divide-multiple n d rs e (both-right (eqb (d % RY r) 0) (divide d rs) t))
 
 -- the row of the very strongly protected part is its level
 vspp-level : (w n rate : ℕ) → _≡_ {A = Level}

@@ -13,7 +13,8 @@ use Rattle.settings.specs.declared.Settings.{Settings}
 use Rattle.settings.specs.Rates.{rates, vsppRate, sdcRates, facRate}
 use Rattle.settings.specs.Formulas.{hierarchical, width, facBits}
 use Rattle.settings.specs.Lengths.{nMux, nSdc, n1}
-use Rattle.settings.proofs.LookUps.{and-left, and-right, all, all-at}
+use Rattle.settings.proofs.LookUps.{all, all-at}
+use Rattle.component.proofs.Tests.{both-left, both-right}
 use Rattle.block.specs.Plan.{Known}
 use Rattle.frame.specs.Sdc.{sdcSteps}
 use Rattle.frame.specs.Msc.{mscSteps}
@@ -52,8 +53,8 @@ unfolding rows
 rows-known codedA codedB [] ratesB ts a b h = known-none
 rows-known codedA codedB (rateA ∷ ratesA) ratesB ts a b h =
     row-known codedA codedB codedB rateA (getD ratesB 0 0) (getD ts 0 0)
-    (ltb→lt rateA 13 (and-left (ltb rateA 13) (all (λ r. ltb r 13) ratesA) a)) (b 0) (h 0)
-    (rows-known codedA codedB ratesA (drop 1 ratesB) (drop 1 ts) (and-right (ltb rateA 13) (all (λ r. ltb r 13) ratesA) a)
+    (ltb→lt rateA 13 (both-left (ltb rateA 13) (all (λ r. ltb r 13) ratesA) a)) (b 0) (h 0)
+    (rows-known codedA codedB ratesA (drop 1 ratesB) (drop 1 ts) (both-right (ltb rateA 13) (all (λ r. ltb r 13) ratesA) a)
     (λ k. rw (getD-drop 1 ratesB k 0) (b (1 + k))) (λ k. rw (getD-drop 1 ts k 0) (h (1 + k))))
 
 -- every t is below 64

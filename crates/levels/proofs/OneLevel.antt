@@ -1,12 +1,13 @@
 -- Coding and reading of one level, part by part. Assumes nothing.
 use Prim.Native.Nat.{ℕ, _+_, _-_, _*_, _/_, _%_, _^_, _≤_, _<_}
 use mathlib.Core.Bool.{true, false}
-use mathlib.Core.Path.{_≡_, refl, sym, ap, _∙_}
-use mathlib.Core.List.{List, [], _∷_, _++_, append-nil}
+use mathlib.Core.Path.{_≡_, refl, sym, _∙_}
+use mathlib.Core.List.{List, [], _++_, append-nil}
 use native.Mathlib.Omega.{arith}
 use lib.Dec.{lit<}
 use lib.ListN.{length, getD, take, drop, length-append, length-drop}
 use lib.Seq.{sets, length-sets, length-take-le, take-all, drop-length}
+use Rattle.lists.proofs.Parts.{from-start}
 use Rattle.lists.specs.Lists.{table}
 use Rattle.component.specs.Register.{after}
 use Rattle.component.specs.Codeword.{encode, tailBits}
@@ -16,7 +17,6 @@ use Rattle.interleaver.specs.Weights.{added, taken}
 use Rattle.component.proofs.Register.{after-low}
 use Rattle.component.proofs.Codeword.{encode-bits, codeword-bits, codeword-one, codeword-two, length-tail}
 use Rattle.component.proofs.Decoding.{decode-bits}
-use Rattle.lists.proofs.Tables.{length-table, getD-table, table-ext}
 use Rattle.interleaver.proofs.Weights.{take-taken, drop-taken, added-length, added-front, added-rest, added-behind}
 use Rattle.block.specs.Levels.{codedA, codedB, mixed, stream}
 use Rattle.block.specs.Reading.{unmixed, sizeA, sizeB, inputA, inputB, streamIn}
@@ -24,10 +24,6 @@ use Rattle.block.specs.Plan.{levelAt}
 use Rattle.levels.specs.LevelCalls.{levelWith, codedWithTail, AddsPart, CodesA, CodedA, CodesB, CodesLevel, ReadsPart, PartRead, ReadsLevel, LevelRead}
 use Rattle.block.proofs.Levels.{length-mixed}
 use Rattle.levels.proofs.Parts.{room-take, room-drop, front, length-with}
-
--- a part from the start of a list
-from-start : (n : ℕ) → n - 0 ≡ n
-from-start n = omega arith
 
 module _ {pa t w : ℕ} {bits coded numbers : List ℕ} (R : CodesA pa t w bits coded numbers)
     {r n : ℕ} {coded′ : List ℕ} (E : Encoded (patternAt pa) 0 bits coded 0 r n coded′) where

@@ -1,6 +1,6 @@
 -- Digits of a line.
-use mathlib.Core.Path.{_≡_, refl, _∙_, sym, ap}
-use mathlib.Core.Bool.{Bool, true, false, cond, _&&_}
+use mathlib.Core.Path.{_≡_, _∙_, sym, ap}
+use mathlib.Core.Bool.{true, false, _&&_}
 use mathlib.Core.List.{List}
 use Prim.Native.Nat.{ℕ, zero, suc, _+_, _-_, _*_, _<_, _≤_}
 use native.Mathlib.Nat.{add-zero, add-suc, suc-add, zero-add, not-suc-le-zero, le-of-suc-le-suc}
@@ -9,6 +9,7 @@ use native.Mathlib.Omega.{arith}
 use lib.Dec.{ltb, eqb}
 use lib.ListN.{length, getD}
 use borrow.Author.Tests.{lt-ltb, le-ltb, ltb-true, eq-eqb, ne-eqb}
+use Rattle.lists.proofs.Bools.{and-left, and-right}
 use Rattle.line.specs.declared.Parsed.the-variants.{Line, Bad}
 use Rattle.line.specs.Read.{digitOf, digits, isLine, byteAt, settingsIn, parseOf}
 
@@ -32,17 +33,6 @@ letter-digit b h k = rw (le-ltb b 48 (omega arith), le-ltb b 58 (omega arith), l
 pub high-byte : (b : ℕ) → 71 ≤ b → digitOf b ≡ 16
 unfolding digitOf
 high-byte b h = rw (le-ltb b 48 (omega arith), le-ltb b 58 (omega arith), le-ltb b 65 (omega arith), le-ltb b 71 h)
-
-and-left : (a b : Bool) → a && b ≡ true → a ≡ true
-and-left true b e = refl
-and-left false b e = e
-
-and-right : (a b : Bool) → a && b ≡ true → b ≡ true
-and-right true b e = e
-and-right false b e = absurd (no e)
-  where
-    no : false ≡ true → ⊥
-    no e = let z : _≡_ {A = ℕ} 0 1 = ap (λ b. cond b 1 0) e in omega arith
 
 -- Of bytes that are digits each is.
 pub digits-at : (l : List ℕ) (i n k : ℕ) → digits l i n ≡ true → k < n → digitOf (getD l (i + k) 0) < 16

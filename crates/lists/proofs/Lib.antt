@@ -2,3 +2,5 @@ pub mod Same
 pub mod Copies
 pub mod Tables
 pub mod Counting
+pub mod Parts
+pub mod Bools

@@ -1,11 +1,12 @@
 -- Signed numbers, and lists of them compared one by one. Assumes nothing.
-use Prim.Native.Nat.{ℕ, _+_, _^_, _≤_, _<_}
+use Prim.Native.Nat.{ℕ, _+_, _%_, _^_, _≤_, _<_}
 use mathlib.Core.Bool.{Bool, true, false, _&&_}
 use mathlib.Core.Path.{_≡_, refl, sym, ap, ap₂, _∙_}
 use mathlib.Core.List.{List, [], _∷_}
 use native.Mathlib.Numerals.{add-one}
 use native.Mathlib.Omega.{arith}
-use borrow.Author.Tests.{eq-eqb, ne-eqb, eqb-true}
+use borrow.Author.Tests.{eq-eqb, ne-eqb, eqb-true, lt-ltb}
+use lib.Bits.{bitAnd, and-mask}
 use borrow.Author.Needs.{sfits-of}
 use lib.Dec.{eqb}
 use lib.ListN.{length, getD, drop, drop-of-length-le}
@@ -15,6 +16,7 @@ use lib.Signed.{mag}
 use mir.Syntax.{w16}
 use mir.Val.{SFits, toZ, ofZ}
 use mir.Facts.{toZ-ofZ}
+use Rattle.lists.proofs.Bools.{never-both, and-left, and-right}
 use Rattle.lists.specs.Same.{sameNumber, sameNumbers}
 
 -- a number is the number that it is
@@ -31,10 +33,6 @@ sameNumber-true (pos a) (negsuc b) e = cc
 sameNumber-true (negsuc a) (pos b) e = cc
 sameNumber-true (negsuc a) (negsuc b) e = ap negsuc (eqb-true a b e)
 
-both : (a b : Bool) → a && b ≡ true → (a ≡ true) × (b ≡ true)
-both true b e = (refl, e)
-both false b e = (e, cc)
-
 -- the test of lists is equality
 pub sameNumbers-refl : (l : List ℤ) → sameNumbers l l ≡ true
 unfolding sameNumbers
@@ -47,22 +45,18 @@ sameNumbers-true [] [] e = refl
 sameNumbers-true [] (w ∷ m) e = cc
 sameNumbers-true (v ∷ l) [] e = cc
 sameNumbers-true (v ∷ l) (w ∷ m) e =
-    let b = both (sameNumber v w) (sameNumbers l m) e in
-    ap₂ _∷_ (sameNumber-true v w (b .0)) (sameNumbers-true l m (b .1))
+    ap₂ _∷_ (sameNumber-true v w (and-left (sameNumber v w) (sameNumbers l m) e)) (sameNumbers-true l m (and-right (sameNumber v w) (sameNumbers l m) e))
 
 -- two numbers are equal exactly if their bits are
 pub bits-same : (v w : ℤ) → SFits w16 v → SFits w16 w → eqb (ofZ w16 v) (ofZ w16 w) ≡ sameNumber v w
 bits-same v w f g = go (sameNumber v w) refl
   where
-    apart : (b : Bool) → b ≡ true → b ≡ false → ⊥
-    apart b p q = let z : _≡_ {A = ℕ} 0 1 = cc in omega arith
-
     go : (b : Bool) → sameNumber v w ≡ b → eqb (ofZ w16 v) (ofZ w16 w) ≡ b
     go true e = eq-eqb (ofZ w16 v) (ofZ w16 w) (ap (ofZ w16) (sameNumber-true v w e))
     go false e =
         ne-eqb (ofZ w16 v) (ofZ w16 w) (λ h.
         let same : v ≡ w = sym (toZ-ofZ {w = w16} f) ∙ ap (toZ w16) h ∙ toZ-ofZ {w = w16} g in
-        apart (sameNumber v w) (rw same (sameNumber-refl w)) e)
+        never-both (sameNumber v w) (rw same (sameNumber-refl w)) e)
 
 -- numbers that were read from slices of signed 16-bit numbers
 pub same-read : (v w : ℤ) (r : Bool) → mag v < 2 ^ 15 → mag w < 2 ^ 15 → r ≡ sameNumber (toZ w16 (ofZ w16 v)) (toZ w16 (ofZ w16 w)) → r ≡ sameNumber v w
@@ -86,3 +80,9 @@ module _ (x y : List ℤ) (i : ℕ) (h : i < length x) (k : length x ≡ length 
 pub same-end : (x y : List ℤ) (i : ℕ) → length x ≤ i → length x ≡ length y → true ≡ sameNumbers (drop i x) (drop i y)
 unfolding sameNumbers
 same-end x y i h k = rw (drop-of-length-le x {i = i} h, drop-of-length-le y {i = i} (omega arith))
+
+-- the four lowest binary digits of a number are a number themselves
+pub low-digits : (n : ℕ) → toZ w16 (bitAnd n 15) ≡ pos (n % 16)
+low-digits n =
+    let e : bitAnd n 15 ≡ n % 16 = and-mask n 4 in
+    rw (e, lt-ltb (n % 16) (2 ^ 15) (omega arith))

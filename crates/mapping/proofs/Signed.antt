@@ -1,12 +1,12 @@
 -- Signed 16-bit numbers by their bits, as a match on one sees them. Assumes nothing.
-use Prim.Native.Nat.{ℕ, zero, suc, _<_}
+use Prim.Native.Nat.{ℕ, zero, suc, _%_, _<_}
 use mathlib.Core.Bool.{Bool, true, false}
 use mathlib.Core.Path.{_≡_, refl, sym, ap, _∙_}
 use mathlib.Core.List.{List, [], _∷_}
 use native.Mathlib.Omega.{arith}
 use lib.Dec.{T}
 use lib.ListN.{getD}
-use lib.Bits.{bitAnd, and-le-r}
+use lib.Bits.{bitAnd, and-le-r, and-mask}
 use lib.IntN.{ℤ, pos, negsuc, natAbs}
 use lib.Signed.{nonNeg}
 use mir.Syntax.{w16}
@@ -16,7 +16,7 @@ use Rattle.lists.specs.Lists.{table}
 use Rattle.block.specs.Mapping.{coordinate, standard64}
 use Rattle.lists.specs.Same.{sameNumber}
 use Rattle.block.specs.Reading.{placeOf}
-use Rattle.lists.proofs.Same.{sameNumber-true}
+use Rattle.lists.proofs.Same.{sameNumber-true, low-digits}
 
 -- bits that are known give the number
 pub number-is : (v : ℤ) (n : ℕ) → SFits w16 v → ofZ w16 v ≡ n → v ≡ toZ w16 n
@@ -84,24 +84,8 @@ place-none v k e h =
 digits-low : (n : ℕ) → bitAnd n 15 < 16
 digits-low n = omega (arith, and-le-r n 15)
 
-low-value : (n : ℕ) → n < 16 → T (nonNeg (toZ w16 n)) × (natAbs (toZ w16 n) ≡ n)
-low-value zero h = (tt, refl)
-low-value (suc zero) h = (tt, refl)
-low-value (suc (suc zero)) h = (tt, refl)
-low-value (suc (suc (suc zero))) h = (tt, refl)
-low-value (suc (suc (suc (suc zero)))) h = (tt, refl)
-low-value (suc (suc (suc (suc (suc zero))))) h = (tt, refl)
-low-value (suc (suc (suc (suc (suc (suc zero)))))) h = (tt, refl)
-low-value (suc (suc (suc (suc (suc (suc (suc zero))))))) h = (tt, refl)
-low-value (suc (suc (suc (suc (suc (suc (suc (suc zero)))))))) h = (tt, refl)
-low-value (suc (suc (suc (suc (suc (suc (suc (suc (suc zero))))))))) h = (tt, refl)
-low-value (suc (suc (suc (suc (suc (suc (suc (suc (suc (suc zero)))))))))) h = (tt, refl)
-low-value (suc (suc (suc (suc (suc (suc (suc (suc (suc (suc (suc zero))))))))))) h = (tt, refl)
-low-value (suc (suc (suc (suc (suc (suc (suc (suc (suc (suc (suc (suc zero)))))))))))) h = (tt, refl)
-low-value (suc (suc (suc (suc (suc (suc (suc (suc (suc (suc (suc (suc (suc zero))))))))))))) h = (tt, refl)
-low-value (suc (suc (suc (suc (suc (suc (suc (suc (suc (suc (suc (suc (suc (suc zero)))))))))))))) h = (tt, refl)
-low-value (suc (suc (suc (suc (suc (suc (suc (suc (suc (suc (suc (suc (suc (suc (suc zero))))))))))))))) h = (tt, refl)
-low-value (suc (suc (suc (suc (suc (suc (suc (suc (suc (suc (suc (suc (suc (suc (suc (suc k)))))))))))))))) h = absurd (omega arith)
-
+-- they are their own value as a signed number, and below 16
 pub digits-value : (n : ℕ) → T (nonNeg (toZ w16 (bitAnd n 15))) × (natAbs (toZ w16 (bitAnd n 15)) ≡ bitAnd n 15) × (bitAnd n 15 < 16)
-digits-value n = let r = low-value (bitAnd n 15) (digits-low n) in (r .0, r .1, digits-low n)
+digits-value n =
+    let m : bitAnd n 15 ≡ n % 16 = and-mask n 4 in
+    (rw (low-digits n) tt, rw (low-digits n) (sym m), digits-low n)

@@ -4,7 +4,7 @@ use mathlib.Core.Path.{_≡_}
 use mathlib.Core.List.{List}
 use lib.ListN.{length}
 use Rattle.component.specs.Bits.{Bits}
-use Rattle.block.specs.Packing.{bytesOf}
+use Rattle.lists.specs.Bytes.{bytesFor}
 
 -- The bits from place `from` on that fill out stand in the bytes, of which there are few enough to count their bits.
 pub record Unpacks (bytes : List ℕ) (from : ℕ) (out : List ℕ) : Type 0 where
@@ -15,4 +15,4 @@ pub record Unpacks (bytes : List ℕ) (from : ℕ) (out : List ℕ) : Type 0 whe
 pub record Packs (bits out : List ℕ) : Type 0 where
   pub input : Bits bits
   pub few : length bits ≤ 524288
-  pub same : length out ≡ bytesOf (length bits)
+  pub same : length out ≡ bytesFor (length bits)

@@ -33,7 +33,7 @@ use Rattle.readblocks.specs.Finishing.{FacRead, FinishFits, FrameFinishe
 use Rattle.superframe.specs.declared.State.{State}
 use Rattle.superframe.specs.Code.{progressOf}
 use Rattle.lists.proofs.Tables.{map-table}
-use Rattle.superframe.proofs.Lists.{and-left, and-right}
+use Rattle.lists.proofs.Bools.{and-left, and-right}
 use Rattle.superframe.proofs.Memory.{slot-before}
 use Rattle.cellrows.proofs.Ring.{slot-near, slot-far, later-last, later-more}
 use Rattle.cellrows.proofs.Laid.{Laid, laid-part, laid-parts, part-is, part-within, part-below, length-mid, put-sets, take-sets, drop-sets}

@@ -16,7 +16,8 @@ use Rattle.settings.specs.Refusal.{first}
 use Rattle.settings.specs.Cells.{facCells}
 use Rattle.settings.specs.Formulas.{roundUp}
 use Rattle.settings.specs.Lengths.{nMux}
-use Rattle.settings.specs.Sizes.{depth, bytesFor, frameBytes, sdcBytes}
+use Rattle.settings.specs.Sizes.{depth, frameBytes, sdcBytes}
+use Rattle.lists.specs.Bytes.{bytesFor}
 use Rattle.settings.proofs.Bounds.{accepted-of}
 use Rattle.block.specs.Points.{every}
 use Rattle.superframe.specs.declared.State.{State}

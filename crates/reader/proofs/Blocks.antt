@@ -7,7 +7,8 @@ use native.Mathlib.Omega.{arith}
 use lib.ListN.{length, take}
 use lib.Seq.{length-take-le}
 use lib.IntN.{ℤ}
-use Rattle.block.specs.Packing.{bytesOf, packed}
+use Rattle.lists.specs.Bytes.{bytesFor}
+use Rattle.block.specs.Packing.{packed}
 use Rattle.block.specs.Block.{bitCount, cellsOf, cellsFrom}
 use Rattle.lists.specs.Same.{sameNumbers}
 use Rattle.block.specs.Reading.{candidate, given, bytesRead}
@@ -18,7 +19,7 @@ use Rattle.levels.specs.Requirements.{Sums}
 use Rattle.candidate.specs.Candidate.{digitAt}
 use Rattle.block.proofs.Block.{candidate-block, unpacked-block}
 use Rattle.coder.specs.Coder.{CodesBlock}
-use Rattle.coder.proofs.Lists.{length-start}
+use Rattle.lists.proofs.Parts.{length-start}
 use Rattle.coder.proofs.Plans.{totalA-plan, totalB-plan, length-levelsOf, level-ready}
 use Rattle.coder.proofs.Blocks.{labels-low}
 use Rattle.reader.specs.Reader.{BlockRead, ReadsBlockIn, ReadsBlockWith, HandsOut}
@@ -99,7 +100,7 @@ module _ {plan : List ℕ} {v : ℕ} {one : Bool} {c n1 : ℕ} {cells : List ℤ
 
   -- its bytes and its coordinates have room
   pub bytes-low : length bytes ≤ length packed₀
-  unfolding bytesOf
+  unfolding bytesFor
   bytes-low = omega (arith, R .room, R .block .long, R .block .short)
 
   pub cells-low : length cells ≤ length again

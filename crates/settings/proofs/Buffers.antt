@@ -12,7 +12,8 @@ use Rattle.settings.specs.Cells.{facCells}
 use Rattle.settings.specs.Formulas.{roundUp}
 use Rattle.settings.specs.Refusal.{refusal}
 use Rattle.settings.specs.Lengths.{nMux, nSfa, nSdc, l1, l2, lSdc, accepted}
-use Rattle.settings.specs.Sizes.{depth, frameBits, bytesFor, frameBytes, sdcBytes, noSizes, allSizes, sizesOf}
+use Rattle.settings.specs.Sizes.{depth, frameBits, frameBytes, sdcBytes, noSizes, allSizes, sizesOf}
+use Rattle.lists.specs.Bytes.{bytesFor}
 use Rattle.settings.specs.Accepted.{Accepted}
 
 -- Numbers of bytes, and of all buffers.

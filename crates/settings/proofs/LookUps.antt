@@ -3,22 +3,16 @@ use mathlib.Core.Path.{_≡_, refl, _∙_, sym, ap, ap₂}
 use mathlib.Core.Bool.{Bool, true, false, cond, _&&_}
 use mathlib.Core.List.{List, [], _∷_}
 use Prim.Native.Nat.{ℕ, zero, suc, _+_, _*_, _/_, _%_, _<_, _≤_, zero-le}
-use native.Mathlib.Nat.{le-refl, le-trans, le-of-eq, le-of-lt, add-zero, zero-add, add-suc, suc-add, le-of-suc-le-suc, not-suc-le-zero, mul-div-cancel, mul-mod-left}
+use native.Mathlib.Nat.{le-refl, le-trans, le-of-eq, le-of-lt, le-of-suc-le-suc, not-suc-le-zero, mul-div-cancel, mul-mod-left}
 use native.Mathlib.Omega.{arith}
 use lib.Dec.{T, leb, ltb, leb→le, le→leb}
 use Rattle.lists.specs.Lists.{table}
+use Rattle.lists.proofs.Tables.{getD-table}
+use Rattle.component.proofs.Tests.{both-left, both-right}
 use lib.Arith.{digits-lt, digits-div, digits-mod}
 use lib.ListN.{length, getD, List·getD-eq-default}
 use borrow.Author.Tests.{lt-ltb, le-ltb, ltb-true, ltb-false}
 use Rattle.settings.specs.Places.{placeIn}
-
-pub and-left : (a b : Bool) → T (a && b) → T a
-and-left true b t = tt
-and-left false b t = t
-
-pub and-right : (a b : Bool) → T (a && b) → T b
-and-right true b t = t
-and-right false b t = absurd t
 
 -- the test passes at every entry
 abbrev pub all : {A : Type 0} → (A → Bool) → List A → Bool
@@ -28,27 +22,20 @@ all f (x ∷ xs) = f x && all f xs
 -- A test that every entry passes, and the default too, holds of whatever is looked up.
 pub all-at : {A : Type 0} (f : A → Bool) (xs : List A) (d : A) → T (all f xs) → T (f d) → (k : ℕ) → T (f (getD xs k d))
 all-at f [] d t e k = e
-all-at f (x ∷ xs) d t e zero = and-left (f x) (all f xs) t
-all-at f (x ∷ xs) d t e (suc k) = all-at f xs d (and-right (f x) (all f xs) t) e k
+all-at f (x ∷ xs) d t e zero = both-left (f x) (all f xs) t
+all-at f (x ∷ xs) d t e (suc k) = all-at f xs d (both-right (f x) (all f xs) t) e k
 
 pub all-in : {A : Type 0} (f : A → Bool) (xs : List A) (d : A) → T (all f xs) → (k : ℕ) → k < length xs → T (f (getD xs k d))
 all-in f [] d t k h = absurd (not-suc-le-zero h)
-all-in f (x ∷ xs) d t zero h = and-left (f x) (all f xs) t
-all-in f (x ∷ xs) d t (suc k) h = all-in f xs d (and-right (f x) (all f xs) t) k (le-of-suc-le-suc h)
-
--- What stands at a place of a table of f.
-pub table-at : {A : Type 0} (f : ℕ → A) (i n : ℕ) (d : A) (k : ℕ) → k < n → getD (table f i n) k d ≡ f (i + k)
-unfolding table
-table-at f i zero d k h = absurd (not-suc-le-zero h)
-table-at f i (suc n) d zero h = ap f (sym (add-zero i))
-table-at f i (suc n) d (suc k) h = table-at f (suc i) n d k (le-of-suc-le-suc h) ∙ ap f (suc-add i k ∙ sym (add-suc i k))
+all-in f (x ∷ xs) d t zero h = both-left (f x) (all f xs) t
+all-in f (x ∷ xs) d t (suc k) h = all-in f xs d (both-right (f x) (all f xs) t) k (le-of-suc-le-suc h)
 
 -- The values of f at the numbers below n: a table of the code is such a list by computation.
 abbrev pub values : (ℕ → ℕ) → ℕ → List ℕ
 values f n = table f 0 n
 
 pub value-at : (f : ℕ → ℕ) (n k : ℕ) → k < n → getD (values f n) k 0 ≡ f k
-value-at f n k h = table-at f 0 n 0 k h ∙ ap f (zero-add k)
+value-at f n k h = getD-table 0 f n k h
 
 -- The values of g row by row, and what it has outside.
 abbrev pub flat : (ℕ → ℕ → ℕ) → ℕ → ℕ → List ℕ

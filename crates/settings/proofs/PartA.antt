@@ -14,7 +14,8 @@ use Rattle.settings.specs.Formulas.{hierarchical, width, bitsA, partA, r
 use Rattle.settings.specs.Refusal.{topLevel}
 use Rattle.settings.specs.Shares.{share, shares}
 use Rattle.settings.specs.Accepted.{Level, Whole}
-use Rattle.settings.proofs.LookUps.{and-left, and-right, all, all-in}
+use Rattle.settings.proofs.LookUps.{all, all-in}
+use Rattle.component.proofs.Tests.{both-left, both-right}
 use Rattle.settings.proofs.Parts.{level-at, RY-positive, shares-five}
 
 -- a over b rounded up, times b, is at least a; and no smaller number of b is.
@@ -59,21 +60,21 @@ module _ (w d c : ℕ) where
   unfolding total shares
   exact-shares [] t = refl
   exact-shares (r ∷ rs) t =
-      let e : c * d ≡ (c * (d / RY r)) * RY r = times-denominator c d r (eqb→eq _ 0 (and-left (eqb (d % RY r) 0) (divide d rs) t)) in
+      let e : c * d ≡ (c * (d / RY r)) * RY r = times-denominator c d r (eqb→eq _ 0 (both-left (eqb (d % RY r) 0) (divide d rs) t)) in
       ap₂ (λ a b. a + b) (bitsA-exact w (c * d) r _ e ∙ sym (share-exact w (c * d) r _ e))
-      (exact-shares rs (and-right (eqb (d % RY r) 0) (divide d rs) t))
+      (exact-shares rs (both-right (eqb (d % RY r) 0) (divide d rs) t))
 
   pub exact-times : (rs : List ℕ) → T (divide d rs) → total (map (bitsA w (c * d)) rs) ≡ c * total (map (bitsA w d) rs)
   unfolding total
   exact-times [] t = sym (mul-zero c)
   exact-times (r ∷ rs) t =
-      let h : d % RY r ≡ 0 = eqb→eq _ 0 (and-left (eqb (d % RY r) 0) (divide d rs) t) in
+      let h : d % RY r ≡ 0 = eqb→eq _ 0 (both-left (eqb (d % RY r) 0) (divide d rs) t) in
       let q : ℕ = d / RY r in
       let one : d ≡ q * RY r = sym (one-mul d) ∙ times-denominator 1 d r h ∙ ap (λ t. t * RY r) (one-mul q) in
       let out : RX r * (w * (c * q)) ≡ c * (RX r * (w * q)) = simp mul-left-comm in
       ap₂ (λ a b. a + b)
       (bitsA-exact w (c * d) r (c * q) (times-denominator c d r h) ∙ out ∙ ap (λ t. c * t) (sym (bitsA-exact w d r q one)))
-      (exact-times rs (and-right (eqb (d % RY r) 0) (divide d rs) t))
+      (exact-times rs (both-right (eqb (d % RY r) 0) (divide d rs) t))
       ∙ sym (mul-add c _ _)
 
 -- Facts of every protection level, each one computed test: the common denominator is 1 to 165, every rate's denominator divides

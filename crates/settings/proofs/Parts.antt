@@ -17,7 +17,8 @@ use Rattle.settings.specs.Formulas.{hierarchical, width, bitsB, partVspp
 use Rattle.settings.specs.Refusal.{topLevel}
 use Rattle.settings.specs.Shares.{share, shares}
 use Rattle.settings.specs.Accepted.{Level}
-use Rattle.settings.proofs.LookUps.{and-left, and-right, all-at}
+use Rattle.settings.proofs.LookUps.{all-at}
+use Rattle.component.proofs.Tests.{both-left, both-right}
 use Rattle.settings.proofs.Levels.{few-rates, no-sdc}
 
 -- the test passes at i, i + 1, .. : n numbers
@@ -27,10 +28,10 @@ below f i (suc n) = f i && below f (suc i) n
 
 pub below-at : (f : ℕ → Bool) (i n : ℕ) → T (below f i n) → (k : ℕ) → k < n → T (f (i + k))
 below-at f i zero t k h = absurd (not-suc-le-zero h)
-below-at f i (suc n) t zero h = subst (λ (m : ℕ). T (f m)) (sym (add-zero i)) (and-left (f i) (below f (suc i) n) t)
+below-at f i (suc n) t zero h = subst (λ (m : ℕ). T (f m)) (sym (add-zero i)) (both-left (f i) (below f (suc i) n) t)
 below-at f i (suc n) t (suc k) h =
     subst (λ (m : ℕ). T (f m)) (suc-add i k ∙ sym (add-suc i k))
-    (below-at f (suc i) n (and-right (f i) (below f (suc i) n) t) k (le-of-suc-le-suc h))
+    (below-at f (suc i) n (both-right (f i) (below f (suc i) n) t) k (le-of-suc-le-suc h))
 
 -- the test passes at every protection level of every MSC mode
 abbrev pub levels : (ℕ → ℕ → Bool) → Bool

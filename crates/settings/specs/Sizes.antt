@@ -2,10 +2,10 @@
 use Prim.Native.Nat.{ℕ, _+_, _*_}
 use mathlib.Core.Bool.{cond}
 use lib.Dec.{eqb}
+use Rattle.lists.specs.Bytes.{bytesFor}
 use Rattle.settings.specs.declared.Settings.{Settings}
 use Rattle.settings.specs.declared.Sizes.{Sizes}
 use Rattle.settings.specs.Cells.{facCells}
-use Rattle.settings.specs.Formulas.{roundUp}
 use Rattle.settings.specs.Refusal.{refusal}
 use Rattle.settings.specs.Lengths.{nMux, nSfa, nSdc, l1, l2, lVspp, lSdc}
 
@@ -18,9 +18,6 @@ unfoldable pub frameBits : Settings → ℕ
 frameBits s = lVspp s + (l1 s + l2 s)
 
 -- Bits are packed, and each block and frame begins a byte.
-unfoldable pub bytesFor : ℕ → ℕ
-bytesFor bits = roundUp bits 8
-
 unfoldable pub frameBytes : Settings → ℕ
 frameBytes s = bytesFor (frameBits s)
 

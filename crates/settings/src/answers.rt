@@ -9,7 +9,8 @@ ghost use mathlib.Core.Path.{_≡_};
 ghost use Prim.Native.Nat.{_*_, _≤_};
 ghost use Rattle.settings.specs.Accepted.{Accepted};
 ghost use Rattle.settings.specs.Lengths.{lengthsOf, accepted, refused, nMux};
-ghost use Rattle.settings.specs.Sizes.{sizesOf, allSizes, noSizes, depth, bytesFor, frameBytes};
+ghost use Rattle.settings.specs.Sizes.{sizesOf, allSizes, noSizes, depth, frameBytes};
+ghost use Rattle.lists.specs.Bytes.{bytesFor};
 
 // The five lengths, 0 where the settings are refused.
 pub fn lengths(s: Settings) -> Lengths

@@ -1,14 +1,15 @@
 -- The coding of settings that are not refused: its blocks are recovered and its sizes fit. And demands 2 and 3.
 use Prim.Native.Nat.{ℕ}
-use mathlib.Core.Path.{_≡_, refl, _∙_}
+use mathlib.Core.Path.{_≡_, _∙_}
 use native.Mathlib.Omega.{arith}
 use Rattle.settings.specs.declared.Settings.{Settings}
 use Rattle.settings.specs.Refusal.{refusal}
-use Rattle.settings.specs.Formulas.{facBits, roundUp}
-use Rattle.settings.specs.Sizes.{bytesFor, frameBytes, sdcBytes}
+use Rattle.settings.specs.Formulas.{facBits}
+use Rattle.lists.specs.Bytes.{bytesFor}
+use Rattle.settings.specs.Sizes.{frameBytes, sdcBytes}
 use Rattle.settings.specs.Accepted.{Accepted}
 use Rattle.settings.proofs.Bounds.{accepted-of}
-use Rattle.block.specs.Packing.{bytesOf, packed}
+use Rattle.block.specs.Packing.{packed}
 use Rattle.block.specs.Block.{Block, bitCount, cellsFrom}
 use Rattle.block.specs.Reading.{bytesRead}
 use Rattle.block.specs.Fits.{BlockFits}
@@ -28,7 +29,7 @@ use Rattle.superframe.proofs.Demand2.{demand2-of}
 use Rattle.superframe.proofs.Demand3.{demand3-of}
 
 -- A block whose levels and constellation fit is recovered.
-pub recovers : {k : Block} → BlockFits k → (bytes : ℕ) → bytesOf (bitCount k) ≡ bytes → Recovers k bytes
+pub recovers : {k : Block} → BlockFits k → (bytes : ℕ) → bytesFor (bitCount k) ≡ bytes → Recovers k bytes
 unfolding bitsOf bytesRead cellsFrom
 recovers {k} F bytes e =
     record {
@@ -39,22 +40,18 @@ recovers {k} F bytes e =
       long = λ cells. reads-bytes F .fits cells .long ∙ e;
     }
 
-bytes-for : (n : ℕ) → bytesOf n ≡ bytesFor n
-unfolding bytesOf bytesFor roundUp
-bytes-for n = refl
-
 -- The bytes of each kind of block.
-fac-bytes : bytesOf (bitCount facBlock) ≡ 9
-unfolding bytesOf facBits
+fac-bytes : bytesFor (bitCount facBlock) ≡ 9
+unfolding bytesFor facBits
 fac-bytes = rw fac-bits
 
-sdc-bytes : (s : Settings) → bytesOf (bitCount (sdcBlock s)) ≡ sdcBytes s
+sdc-bytes : (s : Settings) → bytesFor (bitCount (sdcBlock s)) ≡ sdcBytes s
 unfolding sdcBytes
-sdc-bytes s = rw (sdc-bits s) (bytes-for _)
+sdc-bytes s = rw (sdc-bits s)
 
-msc-bytes : (s : Settings) → Accepted s → bytesOf (bitCount (mscBlock s)) ≡ frameBytes s
+msc-bytes : (s : Settings) → Accepted s → bytesFor (bitCount (mscBlock s)) ≡ frameBytes s
 unfolding frameBytes
-msc-bytes s a = rw (msc-bits a) (bytes-for _)
+msc-bytes s a = rw (msc-bits a)
 
 -- Settings that are not refused have a coding.
 pub coding : (s : Settings) → refusal s ≡ 0 → Coding s

@@ -23,7 +23,8 @@ use Rattle.superframe.specs.Reset.{resetRefusal, resetOf, startState, st
 use Rattle.superframe.specs.Code.{CodeCall, byteLengths, cellLengths, sparesZero, codeRefusal, codeAccepted, codeRefused, codeOf, progressOf}
 use Rattle.superframe.specs.Read.{ReadCall, answerNumber, rowsOf, pointTests, givenTests, firstFault, orderRefusal, answerOf, readAccepted, readRefused, readOf}
 use Rattle.superframe.specs.Facts.{Fits, Ordered, BytesFit, CellsFit, CodeFits, ReadFits}
-use Rattle.superframe.proofs.Lists.{both, and-left, and-right}
+use Rattle.superframe.proofs.Lists.{both}
+use Rattle.lists.proofs.Bools.{and-left, and-right}
 
 -- A test that fails is passed over; the first that holds gives its number.
 pub first-pass : (t : Bool) (n m : ℕ) → t ≡ false → first t n m ≡ m

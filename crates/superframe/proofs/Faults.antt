@@ -41,9 +41,10 @@ use Rattle.superframe.specs.Read.{ReadCall, rowsOf, fillersOf, rowCell, 
 use Rattle.superframe.specs.Facts.{CellsFit, ReadFits}
 use Rattle.superframe.specs.Demand2.{cellIsPoint, NoPoint, inFac, inSdc, inRow, inFillers, NotGiven, ofFac, ofSdc, ofFrame, Lowest, Nowhere, finishedOf, Thirteen, Fourteen}
 use Rattle.superframe.proofs.Coding.{Recovers, Coding, point-at}
-use Rattle.superframe.proofs.Lists.{and-left, and-right, every-at}
+use Rattle.lists.proofs.Bools.{never-both, and-left, and-right}
+use Rattle.superframe.proofs.Lists.{every-at}
 use Rattle.superframe.proofs.Calls.{fits-read, answer-points, answer-blocks, answer-finished}
-use Rattle.superframe.proofs.Tests.{holds-or, never-both, fails-at, first-lowest, all-nowhere}
+use Rattle.superframe.proofs.Tests.{holds-or, fails-at, first-lowest, all-nowhere}
 
 -- All cells are points unless one is none.
 cell-holds : (k : Constellation) (cells : List ℤ) (i : ℕ) → cellIsPoint k cells (i / 2) ≡ true → onAxis (axis k i) (getD cells i (pos 0)) ≡ true

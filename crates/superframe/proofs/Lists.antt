@@ -7,6 +7,7 @@ use native.Mathlib.Nat.{add-zero, zero-add, add-suc, suc-add, mul-zero, mul-suc,
 use native.Mathlib.Omega.{arith}
 use lib.ListN.{length, getD, take, drop, length-append, length-take}
 use lib.Seq.{getD-take, take-at, drop-append-add}
+use Rattle.lists.proofs.Bools.{and-left, and-right}
 use Rattle.lists.specs.Lists.{table}
 use Rattle.block.specs.Points.{every}
 use Rattle.lists.proofs.Tables.{table-is, table-ext, table-from}
@@ -52,17 +53,9 @@ module _ {A : Type 0} (n : ℕ) (f : ℕ → List A) where
   length-joined k (suc m) long =
       rw (length-append, length-joined (suc k) m (λ i a b. long i (omega arith) (omega arith)), long k (omega arith) (omega arith)) (omega arith)
 
--- Two tests that hold, one of two that hold.
+-- Two tests that hold.
 pub both : {a b : Bool} → a ≡ true → b ≡ true → (a && b) ≡ true
 both p q = rw (p, q)
-
-pub and-left : (a b : Bool) → (a && b) ≡ true → a ≡ true
-and-left true b h = refl
-and-left false b h = h
-
-pub and-right : (a b : Bool) → (a && b) ≡ true → b ≡ true
-and-right true b h = h
-and-right false b h = absurd (let z : _≡_ {A = ℕ} 0 1 = cc in omega arith)
 
 -- Every test of a table holds if each does; and then each does.
 pub every-table : (f : ℕ → Bool) (k n : ℕ) → ((i : ℕ) → k ≤ i → i < k + n → f i ≡ true) → every (table f k n) ≡ true

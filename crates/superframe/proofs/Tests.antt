@@ -6,6 +6,7 @@ use mathlib.Core.Bool.{Bool, true, false}
 use mathlib.Core.List.{List, [], _∷_}
 use native.Mathlib.Omega.{arith}
 use lib.ListN.{getD}
+use Rattle.lists.proofs.Bools.{never-both}
 use Rattle.lists.specs.Lists.{table}
 use Rattle.block.specs.Points.{every}
 use Rattle.superframe.specs.Read.{firstFault}
@@ -16,9 +17,6 @@ use Rattle.superframe.proofs.Lists.{both, every-at}
 pub holds-or : (b : Bool) → (b ≡ true) ⊎ (b ≡ false)
 holds-or true = inl refl
 holds-or false = inr refl
-
-pub never-both : (b : Bool) → b ≡ true → b ≡ false → ⊥
-never-both b p q = let z : _≡_ {A = ℕ} 0 1 = cc in omega arith
 
 pub unless-false : (b : Bool) → (b ≡ false → ⊥) → b ≡ true
 unless-false true h = refl

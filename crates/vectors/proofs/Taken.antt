@@ -6,8 +6,6 @@ use native.Mathlib.Nat.{add-mul-mod-self-left}
 use native.Mathlib.Numerals.{add-one}
 use native.Mathlib.Omega.{arith}
 use borrow.Author.Needs.{sfits-of}
-use borrow.Author.Tests.{lt-ltb}
-use lib.Bits.{bitAnd, and-mask}
 use lib.ListN.{length, getD, drop, drop-of-length-le}
 use lib.Seq.{drop-cons}
 use lib.IntN.{ℤ, pos, negsuc}
@@ -25,13 +23,7 @@ taken-is d v = sym (rw e (add-mul-mod-self-left (d % 4294967291 * 31 + v % 42949
     e : d * 31 + v ≡ (d % 4294967291 * 31 + v % 4294967291) + 4294967291 * (d / 4294967291 * 31 + v / 4294967291)
     e = omega arith
 
--- the four lowest binary digits of a number are a number themselves
-pub digits-value : (n : ℕ) → toZ w16 (bitAnd n 15) ≡ pos (n % 16)
-digits-value n =
-    let e : bitAnd n 15 ≡ n % 16 = and-mask n 4 in
-    rw (e, lt-ltb (n % 16) (2 ^ 15) (omega arith))
-
--- and 8 more of them, modulo 16, is what the number enters as
+-- 8 more than its four lowest binary digits, modulo 16, is what a number enters as
 pub shifted-is : (v : ℤ) → SFits w16 v → (ofZ w16 v % 16 + 8) % 16 ≡ shifted v
 unfolding shifted
 shifted-is (pos n) f = omega arith

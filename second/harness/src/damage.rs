@@ -16,33 +16,26 @@ const fn change(name: &'static str, make: fn(&mut Lent, &Settings, &mut Draw)) -
     Change { name, make }
 }
 
-static OF_LENGTHS: [Change; 5] = [
+/// For calls that are lent settings.
+static OF_SETTINGS: [Change; 4] = [
     change("length of settings", |l, _, d| length(&mut l.settings, d)),
-    change("length of lengths", |l, _, d| length(&mut l.lengths, d)),
     change("a setting", |l, _, d| setting(&mut l.settings, d)),
     change("X", |l, _, d| put_x(&mut l.settings, d)),
     change("last settings", |l, _, d| last_settings(&mut l.settings, d)),
 ];
 
-static OF_SIZES: [Change; 5] = [
-    change("length of settings", |l, _, d| length(&mut l.settings, d)),
-    change("length of sizes", |l, _, d| length(&mut l.sizes, d)),
-    change("a setting", |l, _, d| setting(&mut l.settings, d)),
-    change("X", |l, _, d| put_x(&mut l.settings, d)),
-    change("last settings", |l, _, d| last_settings(&mut l.settings, d)),
-];
+static OF_LENGTHS: [Change; 1] = [change("length of lengths", |l, _, d| length(&mut l.lengths, d))];
 
-static OF_RESET: [Change; 7] = [
-    change("length of settings", |l, _, d| length(&mut l.settings, d)),
+static OF_SIZES: [Change; 1] = [change("length of sizes", |l, _, d| length(&mut l.sizes, d))];
+
+static OF_RESET: [Change; 3] = [
     change("length of state", |l, _, d| length(&mut l.state, d)),
     change("length of memory", memory_length),
-    change("a setting", |l, _, d| setting(&mut l.settings, d)),
-    change("X", |l, _, d| put_x(&mut l.settings, d)),
-    change("last settings", |l, _, d| last_settings(&mut l.settings, d)),
     change("old state", |l, _, d| l.state.iter_mut().for_each(|b| *b = d.byte())),
 ];
 
-static OF_CODE: [Change; 21] = [
+/// For calls on a super frame.
+static OF_SUPER_FRAME: [Change; 18] = [
     change("length of state", |l, _, d| length(&mut l.state, d)),
     change("a setting", |l, _, d| setting(&mut l.state, d)),
     change("X", |l, _, d| put_x(&mut l.state, d)),
@@ -54,8 +47,6 @@ static OF_CODE: [Change; 21] = [
     change("length of FAC cells", |l, _, d| length(&mut l.fac_cells, d)),
     change("length of SDC cells", |l, _, d| length(&mut l.sdc_cells, d)),
     change("length of MSC cells", |l, _, d| length(&mut l.msc_cells, d)),
-    change("SDC spare bit", |l, s, d| spare_bit(&mut l.sdc, s.sdc_bits(), 1, d)),
-    change("MSC spare bit", |l, s, d| spare_bit(&mut l.msc, s.lengths().frame_bits(), 3, d)),
     change("position", |l, _, d| put(&mut l.state, 10, d)),
     change("count", |l, _, d| put(&mut l.state, 11, d)),
     change("position in range", |l, _, d| in_range(&mut l.state, 10, d)),
@@ -63,28 +54,15 @@ static OF_CODE: [Change; 21] = [
     change("slots of memory", slots),
     change("number in memory", |l, _, d| number(&mut l.memory, d)),
     change("cell in memory", |l, s, d| cell(&mut l.memory, s.msc_top(), d)),
+];
+
+static OF_CODE: [Change; 3] = [
+    change("SDC spare bit", |l, s, d| spare_bit(&mut l.sdc, s.sdc_bits(), 1, d)),
+    change("MSC spare bit", |l, s, d| spare_bit(&mut l.msc, s.lengths().frame_bits(), 3, d)),
     change("other bits", |l, s, d| [l.fac, l.sdc, l.msc] = d.super_frame(s)),
 ];
 
-static OF_READ: [Change; 29] = [
-    change("length of state", |l, _, d| length(&mut l.state, d)),
-    change("a setting", |l, _, d| setting(&mut l.state, d)),
-    change("X", |l, _, d| put_x(&mut l.state, d)),
-    change("last settings", |l, _, d| last_settings(&mut l.state, d)),
-    change("length of memory", memory_length),
-    change("length of FAC cells", |l, _, d| length(&mut l.fac_cells, d)),
-    change("length of SDC cells", |l, _, d| length(&mut l.sdc_cells, d)),
-    change("length of MSC cells", |l, _, d| length(&mut l.msc_cells, d)),
-    change("length of FAC bytes", |l, _, d| length(&mut l.fac, d)),
-    change("length of SDC bytes", |l, _, d| length(&mut l.sdc, d)),
-    change("length of MSC bytes", |l, _, d| length(&mut l.msc, d)),
-    change("position", |l, _, d| put(&mut l.state, 10, d)),
-    change("count", |l, _, d| put(&mut l.state, 11, d)),
-    change("position in range", |l, _, d| in_range(&mut l.state, 10, d)),
-    change("count in range", |l, _, d| in_range(&mut l.state, 11, d)),
-    change("slots of memory", slots),
-    change("number in memory", |l, _, d| number(&mut l.memory, d)),
-    change("cell in memory", |l, s, d| cell(&mut l.memory, s.msc_top(), d)),
+static OF_READ: [Change; 11] = [
     change("FAC number", |l, _, d| number(&mut l.fac_cells, d)),
     change("SDC number", |l, _, d| number(&mut l.sdc_cells, d)),
     change("MSC number", |l, _, d| number(&mut l.msc_cells, d)),
@@ -99,14 +77,15 @@ static OF_READ: [Change; 29] = [
 ];
 
 /// The changes for a kind of call.
-pub fn changes(kind: Kind) -> &'static [Change] {
-    match kind {
-        Kind::Lengths => &OF_LENGTHS,
-        Kind::Sizes => &OF_SIZES,
-        Kind::Reset => &OF_RESET,
-        Kind::Code => &OF_CODE,
-        Kind::Read => &OF_READ,
-    }
+fn changes(kind: Kind) -> Vec<&'static Change> {
+    let (shared, own): (&'static [Change], &'static [Change]) = match kind {
+        Kind::Lengths => (&OF_SETTINGS, &OF_LENGTHS),
+        Kind::Sizes => (&OF_SETTINGS, &OF_SIZES),
+        Kind::Reset => (&OF_SETTINGS, &OF_RESET),
+        Kind::Code => (&OF_SUPER_FRAME, &OF_CODE),
+        Kind::Read => (&OF_SUPER_FRAME, &OF_READ),
+    };
+    shared.iter().chain(own).collect()
 }
 
 /// A wrong length: shorter or longer by one, nothing, a part, or a few more.

@@ -3,7 +3,8 @@ use Prim.Native.Nat.{_+_, _-_, _*_}
 use native.Mathlib.Omega.{arith}
 use borrow.Author.Needs.{needs}
 use lib.ListN.{getD}
-use Rattle.candidate.proofs.LevelsRead.{sums-a, sums-b, counts, end-a, end-b, reads-level, read-at, length-inside}
+use Rattle.candidate.proofs.LevelsRead.{sums-a, sums-b, counts, end-a, end-b, reads-level, read-at}
+use Rattle.lists.proofs.Parts.{length-inside}
 use Rattle.candidate.proofs.bits.read_at.Statement.{statement}
 use Rattle.candidate.proofs.bits.read_at.Tie as tie
 

@@ -6,7 +6,8 @@ use borrow.Author.Needs.{needs}
 use lib.ListN.{length}
 use Rattle.lists.specs.Lists.{table}
 use Rattle.lists.proofs.Tables.{Filled, filled-start, filled-turn, filled-end}
-use Rattle.block.specs.Packing.{digits, bytesOf, packed}
+use Rattle.block.specs.Packing.{digits, packed}
+use Rattle.lists.specs.Bytes.{bytesFor}
 use Rattle.packing.proofs.bits.pack.Statement.{statement}
 use Rattle.packing.proofs.bits.pack.Tie as tie
 
@@ -18,11 +19,11 @@ abbrev μ-loop : tie.MeasureT-loop
 
 -- a byte's first bit is one that can be counted
 byte-from-requires : tie.Need-byte-from-requires Inv-loop μ-loop
-unfolding bytesOf
+unfolding bytesFor
 byte-from-requires c κs = let P = c .before .before .before .before .pre in (P .input, omega (arith, P .same, P .few))
 
 mul-byte-from : tie.Need-mul-byte-from Inv-loop μ-loop
-unfolding bytesOf
+unfolding bytesFor
 mul-byte-from c = let P = c .before .before .before .before .pre in omega (arith, P .same, P .few)
 
 loop-again : tie.Need-loop-again Inv-loop μ-loop
@@ -35,7 +36,7 @@ unfolding packed
 returns c =
     let l = c .before .loop in
     let P = c .before .before .before .before .pre in
-    let e : l .k ≡ bytesOf (length (c .before .before .before .before .args .bits .now)) = omega (arith, P .same, l .inv .1) in
+    let e : l .k ≡ bytesFor (length (c .before .before .before .before .args .bits .now)) = omega (arith, P .same, l .inv .1) in
     filled-end 0 _ _ (l .out) _ (P .same) (rw e at (l .inv .0))
 
 pub pack-spec : {M : Type 1} → statement M

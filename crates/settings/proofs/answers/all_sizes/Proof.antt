@@ -3,7 +3,8 @@ use mathlib.Core.Path.{_∙_, ap}
 use native.Mathlib.Omega.{arith}
 use Rattle.settings.specs.Formulas.{sdcBits}
 use Rattle.settings.specs.Lengths.{nSdc, nSfa, lSdc}
-use Rattle.settings.specs.Sizes.{bytesFor, sdcBytes}
+use Rattle.lists.specs.Bytes.{bytesFor}
+use Rattle.settings.specs.Sizes.{sdcBytes}
 use Rattle.settings.proofs.Buffers.{Sized, is-allSizes, Few, few}
 use Rattle.settings.proofs.answers.all_sizes.Statement.{statement}
 use Rattle.settings.proofs.answers.all_sizes.Tie as tie

@@ -1,10 +1,11 @@
 use borrow.Author.Needs.{needs}
-use Rattle.settings.specs.Sizes.{bytesFor}
+use Rattle.lists.specs.Bytes.{bytesFor}
+use Rattle.settings.specs.Formulas.{roundUp}
 use Rattle.settings.proofs.answers.bytes_for.Statement.{statement}
 use Rattle.settings.proofs.answers.bytes_for.Tie as tie
 
 returns : tie.Need-returns
-unfolding bytesFor
+unfolding bytesFor roundUp
 returns c = c .round-up .ensures
 
 pub bytes-for-spec : {M : Type 1} → statement M

@@ -1,7 +1,8 @@
 use borrow.Author.Needs.{needs}
 use mathlib.Core.Path.{_∙_, ap}
 use native.Mathlib.Omega.{arith}
-use Rattle.settings.specs.Sizes.{bytesFor, frameBytes}
+use Rattle.lists.specs.Bytes.{bytesFor}
+use Rattle.settings.specs.Sizes.{frameBytes}
 use Rattle.settings.proofs.Buffers.{frame-of, frame-low}
 use Rattle.settings.proofs.answers.frame_bytes.Statement.{statement}
 use Rattle.settings.proofs.answers.frame_bytes.Tie as tie

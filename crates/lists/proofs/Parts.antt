@@ -1,0 +1,42 @@
+-- Parts of a buffer: from its start, to its end, and a buffer written in two parts. Assumes nothing.
+use Prim.Native.Nat.{ℕ, _-_, _≤_}
+use mathlib.Core.Path.{_≡_, ap, ap₂, _∙_}
+use mathlib.Core.List.{List, [], _++_, append-nil}
+use native.Mathlib.Omega.{arith}
+use lib.ListN.{length, take, drop, length-append, length-drop, take-append-drop}
+use lib.Seq.{length-take-le, take-all, take-at, drop-length}
+
+-- a part from the start of a list, and one to its end
+pub from-start : (n : ℕ) → n - 0 ≡ n
+from-start n = omega arith
+
+pub to-end : {A : Type 0} (n : ℕ) (l : List A) → take (length l - n) (drop n l) ≡ drop n l
+to-end n l = take-all (length l - n) (drop n l) (rw length-drop (omega arith))
+
+pub length-start : {A : Type 0} (n : ℕ) (l : List A) → n ≤ length l → length (take (n - 0) l) ≡ n
+length-start n l h = rw (from-start n) (length-take-le n l h)
+
+pub length-end : {A : Type 0} (n : ℕ) (l : List A) → length (take (length l - n) (drop n l)) ≡ length l - n
+length-end n l = ap length (to-end n l) ∙ length-drop n l
+
+module _ {A : Type 0} (l p : List A) (n : ℕ) (h : n ≤ length l) (e : length p ≡ n) where
+  -- a buffer keeps its length when its first n elements are written
+  pub length-written : length (p ++ drop (n - 0) l) ≡ length l
+  length-written = rw (length-append, from-start n, length-drop, e) (omega arith)
+
+  -- so that the second part is as long as it was
+  pub length-second : length (take (length (p ++ drop (n - 0) l) - n) (drop n (p ++ drop (n - 0) l))) ≡ length l - n
+  length-second = length-end n (p ++ drop (n - 0) l) ∙ ap (λ m. m - n) length-written
+
+  -- with the second part written too, it is both parts
+  pub both-written : (q : List A)
+      → take n (p ++ drop (n - 0) l) ++ (q ++ drop (length (p ++ drop (n - 0) l) - n) (drop n (p ++ drop (n - 0) l))) ≡ p ++ q
+  both-written q =
+      let l′ : List A = p ++ drop (n - 0) l in
+      let none : drop (length l′ - n) (drop n l′) ≡ [] = rw (← length-drop n l′) (drop-length (drop n l′)) in
+      ap₂ (λ (x y : List A). x ++ (q ++ y)) (take-at p (drop (n - 0) l) n e) none ∙ ap (λ (y : List A). p ++ y) (append-nil q)
+
+-- a list with n elements from place i on replaced by as many others keeps its length
+pub length-inside : {A : Type 0} (d e : List A) (i n : ℕ) → length e ≡ length (take n (drop i d)) → length (take i d ++ (e ++ drop n (drop i d))) ≡ length d
+length-inside d e i n h =
+    rw (length-append, length-append, h, ← length-append (take n (drop i d)) (drop n (drop i d)), take-append-drop n (drop i d), ← length-append (take i d) (drop i d), take-append-drop i d)
