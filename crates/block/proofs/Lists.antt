@@ -1,12 +1,10 @@
 -- Laws of lists of bits. Assumes nothing.
-use Prim.Native.Nat.{ℕ, zero, suc, _+_, _≤_, _<_}
-use mathlib.Core.Path.{_≡_, refl, sym, ap, ap₂, _∙_}
+use Prim.Native.Nat.{ℕ, _+_, _≤_, _<_}
 use mathlib.Core.Logic.{_⊎_, inl, inr}
-use mathlib.Core.List.{List, [], _∷_, _++_, map}
-use native.Mathlib.Nat.{add-zero, zero-add, add-suc, suc-add}
+use mathlib.Core.List.{List}
 use native.Mathlib.Omega.{arith}
-use lib.ListN.{length, getD, take, length-take, List·getD-eq-default}
-use lib.Seq.{ext-getD, getD-take}
+use lib.ListN.{getD, take, length-take, List·getD-eq-default}
+use lib.Seq.{getD-take}
 use Rattle.lists.specs.Lists.{table}
 use Rattle.component.specs.Bits.{Bits}
 use Rattle.lists.proofs.Counting.{below-or}

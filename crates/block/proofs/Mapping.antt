@@ -1,16 +1,14 @@
 -- The level streams come back from the cells, and cells are points. Assumes nothing.
-use Prim.Native.Nat.{ℕ, zero, suc, _+_, _-_, _*_, _/_, _%_, _^_, _≤_, _<_, min}
-use mathlib.Core.Path.{_≡_, refl, sym, ap, ap₂, _∙_}
+use Prim.Native.Nat.{ℕ, zero, suc, _+_, _*_, _/_, _%_, _^_, _≤_, _<_}
+use mathlib.Core.Path.{_≡_, refl, sym, ap, _∙_}
 use mathlib.Core.Logic.{_⊎_, inl, inr}
-use mathlib.Core.Bool.{Bool, true, false, cond, _&&_, _||_}
+use mathlib.Core.Bool.{Bool, true, false, cond, _||_}
 use mathlib.Core.List.{List, [], _∷_}
 use native.Mathlib.Nat.{add-zero, zero-add, zero-div, pow-suc}
 use native.Mathlib.Omega.{arith}
-use lib.ListN.{length, getD, take, drop, length-take, length-drop, List·getD-eq-default}
-use lib.Seq.{getD-take, getD-drop}
-use lib.IntN.{ℤ, pos, negsuc}
+use lib.ListN.{length, getD, List·getD-eq-default}
+use lib.IntN.{ℤ, pos}
 use lib.Dec.{eqb}
-use borrow.Author.Tests.{eq-eqb, eqb-true}
 use Rattle.lists.specs.Lists.{table}
 use Rattle.interleaver.specs.Weights.{taken}
 use Rattle.component.specs.Bits.{Bits}
@@ -18,7 +16,7 @@ use Rattle.component.proofs.Bits.{bits-nil}
 use Rattle.lists.proofs.Counting.{below-or}
 use Rattle.lists.proofs.Tables.{length-table, table-at, table-is}
 use Rattle.block.specs.Mapping.{coordinate, qam4, qam16, standard64, symmetric64, Constellation, constellation, axis, numberAt, mapped, weave, woven}
-use Rattle.lists.specs.Same.{sameNumber, sameNumbers}
+use Rattle.lists.specs.Same.{sameNumber}
 use Rattle.block.specs.Points.{onAxis, every, arePoints}
 use Rattle.block.specs.Reading.{placeOf, numbersOf, streamIn, unmapped}
 use Rattle.block.specs.Fits.{Streams, Labelling, Labels}

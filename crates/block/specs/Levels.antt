@@ -5,7 +5,7 @@ use mathlib.Core.List.{List, [], _∷_, _++_}
 use lib.ListN.{take, drop}
 use lib.Dec.{eqb}
 use Rattle.component.specs.Register.{after}
-use Rattle.component.specs.Codeword.{Segment, codeword, tailBits}
+use Rattle.component.specs.Codeword.{codeword, tailBits}
 use Rattle.interleaver.specs.Interleaving.{interleaved}
 
 -- A level: its input bits in parts A and B, the puncturing patterns of both and of its tail, and the interleaver's t, 0 where it isn't interleaved.

@@ -1,10 +1,8 @@
 -- Points of a constellation. 01 "Operations", refusals 12 and 13.
-use Prim.Native.Nat.{ℕ}
 use mathlib.Core.Bool.{Bool, true, false, _&&_, _||_}
 use mathlib.Core.List.{List, [], _∷_}
 use lib.ListN.{length, getD}
-use lib.IntN.{ℤ, pos, negsuc}
-use lib.Dec.{eqb}
+use lib.IntN.{ℤ, pos}
 use Rattle.lists.specs.Lists.{table}
 use Rattle.lists.specs.Same.{sameNumber}
 use Rattle.block.specs.Mapping.{Constellation, axis}

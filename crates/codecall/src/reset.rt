@@ -6,8 +6,6 @@ use settings::answers;
 use superframe::Done;
 use superframe::State;
 ghost use mathlib.Core.Path.{_≡_};
-ghost use lib.ListN.{length, replicate};
-ghost use lib.IntN.{pos};
 ghost use Rattle.superframe.specs.Reset.{resetOf};
 ghost use Rattle.codecall.specs.Yields.{resetYield};
 

@@ -9,7 +9,6 @@ use Rattle.superframe.specs.declared.State.{State}
 use Rattle.superframe.specs.declared.Done.{Done}
 use Rattle.superframe.specs.declared.Answer.{Answer}
 use Rattle.superframe.specs.declared.Answer.the-variants.{Finished, Refused}
-use Rattle.superframe.specs.declared.Reading.{Reading}
 use Rattle.superframe.specs.Reset.{ResetYield, resetOf}
 use Rattle.superframe.specs.Code.{CodeCall, CodeYield, codeOf}
 use Rattle.superframe.specs.Read.{ReadCall, ReadYield, readOf}

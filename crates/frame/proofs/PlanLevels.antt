@@ -1,15 +1,15 @@
 -- The plans are the levels of their blocks. Assumes nothing.
-use Prim.Native.Nat.{ℕ, zero, suc, _+_, _-_, _*_, _/_, _%_, _≤_, _<_}
+use Prim.Native.Nat.{ℕ, zero, suc, _+_, _-_, _*_, _/_, _%_, _<_}
 use mathlib.Core.Path.{_≡_, refl, sym, ap, ap₂, _∙_}
 use mathlib.Core.Bool.{Bool, true, false, cond}
 use mathlib.Core.List.{List, [], _∷_, _++_}
-use native.Mathlib.Nat.{mul-zero, zero-mul, zero-div, mul-div-cancel, div-add-mod', mul-mod-left}
+use native.Mathlib.Nat.{mul-zero, zero-mul, zero-div, div-add-mod', mul-mod-left}
 use native.Mathlib.Omega.{arith}
 use lib.Dec.{T, lit<, ltb, eqb, ltb→lt, eqb→eq}
 use lib.ListN.{length, getD, drop}
 use lib.Seq.{getD-drop}
 use Rattle.lists.specs.Lists.{table}
-use Rattle.component.specs.Patterns.{RX, RY, numerators, denominators, pattern, tailPattern}
+use Rattle.component.specs.Patterns.{RY, denominators, pattern, tailPattern}
 use Rattle.component.specs.Decoding.{patternAt}
 use Rattle.component.proofs.Patterns.{pattern-at, tail-at}
 use Rattle.settings.specs.declared.Settings.{Settings}
@@ -17,7 +17,7 @@ use Rattle.settings.specs.Rates.{rates, vsppRate, sdcRates, facRate, commonDeno
 use Rattle.settings.specs.Formulas.{hierarchical, width, bitsA, bitsB, remainder, facBits}
 use Rattle.settings.specs.Lengths.{nMux, nSdc, n1, n2}
 use Rattle.settings.specs.Shares.{share}
-use Rattle.settings.specs.Accepted.{Accepted, Whole}
+use Rattle.settings.specs.Accepted.{Accepted}
 use Rattle.settings.proofs.LookUps.{all, all-at}
 use Rattle.component.proofs.Tests.{both-left, both-right}
 use Rattle.settings.proofs.PartA.{bitsA-exact, share-exact, divide, times-denominator, common-divides}

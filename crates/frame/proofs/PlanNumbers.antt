@@ -1,18 +1,18 @@
 -- The numbers of the plans: each is the number of a pattern, and each t is small. Assumes nothing.
-use Prim.Native.Nat.{ℕ, zero, suc, _+_, _-_, _*_, _/_, _%_, _≤_, _<_}
-use mathlib.Core.Path.{_≡_, refl, sym, ap, _∙_}
+use Prim.Native.Nat.{ℕ, zero, suc, _+_, _-_, _*_, _<_}
+use mathlib.Core.Path.{_≡_, refl}
 use mathlib.Core.Bool.{Bool, true, false, cond}
 use mathlib.Core.List.{List, [], _∷_, _++_}
 use native.Mathlib.Nat.{zero-add}
 use native.Mathlib.Omega.{arith}
 use lib.Dec.{T, lit<, ltb, ltb→lt}
-use lib.ListN.{length, getD, drop}
+use lib.ListN.{getD, drop}
 use lib.Seq.{getD-drop}
 use Rattle.component.specs.Patterns.{RY}
 use Rattle.settings.specs.declared.Settings.{Settings}
-use Rattle.settings.specs.Rates.{rates, vsppRate, sdcRates, facRate}
+use Rattle.settings.specs.Rates.{rates, vsppRate, facRate}
 use Rattle.settings.specs.Formulas.{hierarchical, width, facBits}
-use Rattle.settings.specs.Lengths.{nMux, nSdc, n1}
+use Rattle.settings.specs.Lengths.{nMux, n1}
 use Rattle.settings.proofs.LookUps.{all, all-at}
 use Rattle.component.proofs.Tests.{both-left, both-right}
 use Rattle.block.specs.Plan.{Known}

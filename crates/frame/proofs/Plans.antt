@@ -1,7 +1,7 @@
 -- Laws of the plans: how they are written row by row, and that they are the levels. Assumes nothing.
-use Prim.Native.Nat.{ℕ, zero, suc, _+_, _-_, _*_, _/_, _%_, _≤_, _<_}
+use Prim.Native.Nat.{ℕ, suc, _+_, _-_, _*_, _/_, _%_, _≤_, _<_}
 use mathlib.Core.Path.{_≡_, refl, sym, ap, ap₂, _∙_}
-use mathlib.Core.Bool.{Bool, true, false, cond}
+use mathlib.Core.Bool.{true, false}
 use mathlib.Core.List.{List, [], _∷_, _++_}
 use native.Mathlib.Nat.{add-zero, zero-add, mul-zero, mod-lt}
 use native.Mathlib.Numerals.{add-one}
@@ -10,7 +10,6 @@ use lib.Arith.{digits-div, digits-mod}
 use lib.Dec.{T, lit≤, ltb, ltb→lt}
 use lib.ListN.{length, getD, set, drop, drop-of-length-le, length-append, take}
 use lib.Seq.{sets, sets-eq, take-at, length-sets, drop-cons, drop-drop, getD-drop}
-use Rattle.lists.specs.Lists.{table}
 use Rattle.component.specs.Patterns.{RY}
 use Rattle.component.proofs.Lengths.{RY-low}
 use Rattle.component.proofs.Sets.{sets-append}

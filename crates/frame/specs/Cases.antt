@@ -1,5 +1,5 @@
 -- The cases of 01 that are marked to be proved, as one table.
-use Prim.Native.Nat.{ℕ, _+_}
+use Prim.Native.Nat.{ℕ}
 use mathlib.Core.Path.{_≡_}
 use mathlib.Core.List.{List, [], _∷_}
 use lib.ListN.{replicate, getD}

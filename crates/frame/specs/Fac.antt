@@ -1,6 +1,6 @@
 -- The FAC block. 01 "From bits to cells"; 001 clauses 7.2.1.2 and 7.5.3, table 74.
 use mathlib.Core.Bool.{false}
-use mathlib.Core.List.{List, [], _∷_}
+use mathlib.Core.List.{[], _∷_}
 use Rattle.component.specs.Patterns.{pattern}
 use Rattle.settings.specs.Cells.{facCells}
 use Rattle.settings.specs.Formulas.{facBits}

@@ -1,6 +1,5 @@
 -- The levels of FAC block, SDC block and multiplex frame as the flat tables that the code makes and lends: six numbers a level. Nothing of 01 is stated here.
 use Prim.Native.Nat.{ℕ, _+_, _-_, _*_, _%_, _≤_, _<_}
-use mathlib.Core.Path.{_≡_}
 use mathlib.Core.Bool.{cond}
 use mathlib.Core.List.{List, [], _∷_, _++_}
 use lib.ListN.{length, getD, drop}

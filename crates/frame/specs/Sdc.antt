@@ -1,5 +1,5 @@
 -- The SDC block. 01 "Lengths" and "From bits to cells"; 001 clauses 7.2.1.3 and 7.5.2, tables 72 and 73.
-use Prim.Native.Nat.{ℕ, _+_, _-_}
+use Prim.Native.Nat.{ℕ, _-_}
 use mathlib.Core.Bool.{false}
 use mathlib.Core.List.{List, [], _∷_}
 use lib.ListN.{getD}

@@ -1,29 +1,25 @@
 -- The parts of a level in the working buffers: their coded bits, added to numbers and taken out of them. Assumes nothing.
-use Prim.Native.Nat.{ℕ, zero, suc, _+_, _-_, _*_, _/_, _%_, _≤_, _<_, min}
-use mathlib.Core.Path.{_≡_, refl, sym, ap, ap₂, _∙_}
+use Prim.Native.Nat.{ℕ, _+_, _*_, _≤_, _<_}
+use mathlib.Core.Path.{_≡_, sym, _∙_}
 use mathlib.Core.Logic.{_⊎_, inl, inr}
-use mathlib.Core.List.{List, [], _∷_, _++_, append-nil}
-use native.Mathlib.Nat.{add-zero, zero-add}
+use mathlib.Core.List.{List}
 use native.Mathlib.Omega.{arith}
-use lib.Dec.{eqb, lit<}
-use lib.ListN.{length, getD, take, drop, replicate, length-append, length-take, length-drop, List·getD-append, List·getD-eq-default}
-use lib.Seq.{sets, sets-eq, length-sets, ext-getD, getD-take, getD-drop, getD-append-add, length-take-le, take-at, drop-at}
+use lib.ListN.{length, getD, take, drop, length-take, length-drop, List·getD-eq-default}
+use lib.Seq.{sets, sets-eq, length-sets, getD-take, getD-drop, take-at}
 use borrow.Author.Tests.{ne-eqb}
-use Rattle.component.specs.Bits.{Bits}
-use Rattle.component.specs.Register.{after}
 use Rattle.component.specs.Codeword.{encode, tailBits}
-use Rattle.component.specs.Decoding.{patternAt, codedLength, decode, segment}
+use Rattle.component.specs.Decoding.{patternAt, codedLength, segment}
 use Rattle.component.specs.Coding.{EncodesWith, Encoded}
 use Rattle.interleaver.specs.Interleaving.{interleaved}
 use Rattle.interleaver.specs.Deinterleaving.{Cycles, deinterleaved}
-use Rattle.interleaver.specs.Weights.{Adds, Takes, added, taken}
+use Rattle.interleaver.specs.Weights.{Adds, Takes}
 use Rattle.lists.proofs.Counting.{below-or}
 use Rattle.component.proofs.Sets.{sets-append}
 use Rattle.component.proofs.Register.{after-low}
 use Rattle.component.proofs.Patterns.{sound-at}
 use Rattle.component.proofs.Codeword.{length-encode, codeword-two, length-tail, bits-tail}
-use Rattle.lists.proofs.Tables.{Filled, filled-end}
-use Rattle.interleaver.proofs.Weights.{weighed-le, added-length, taken-length, taken-at}
+use Rattle.lists.proofs.Tables.{Filled}
+use Rattle.interleaver.proofs.Weights.{weighed-le}
 use Rattle.block.specs.Levels.{mixed}
 use Rattle.block.specs.Reading.{unmixed}
 use Rattle.block.specs.Fits.{Mixes, plain, empty, cycle}

@@ -1,8 +1,8 @@
 -- A table of levels, read level by level. Assumes nothing.
-use Prim.Native.Nat.{ℕ, zero, suc, _+_, _*_, _-_, _/_, _≤_, _<_}
-use mathlib.Core.Path.{_≡_, refl, sym, ap, _∙_}
+use Prim.Native.Nat.{ℕ, zero, suc, _+_, _*_, _-_, _≤_, _<_}
+use mathlib.Core.Path.{_≡_, refl, ap, _∙_}
 use mathlib.Core.Logic.{_⊎_, inl, inr}
-use mathlib.Core.List.{List, [], _∷_}
+use mathlib.Core.List.{List}
 use native.Mathlib.Nat.{eq-or-lt-of-le, add-zero}
 use native.Mathlib.Numerals.{add-one}
 use native.Mathlib.Omega.{arith}
@@ -10,10 +10,9 @@ use lib.ListN.{length, getD, take, drop, length-take, length-drop}
 use Rattle.component.specs.Bits.{Bits}
 use Rattle.interleaver.specs.Weights.{added}
 use Rattle.component.proofs.Bits.{bits-drop}
-use Rattle.block.specs.Fits.{LevelFits}
-use Rattle.block.specs.Levels.{Level, codedA, codedB, stream}
+use Rattle.block.specs.Levels.{codedA, codedB, stream}
 use Rattle.levels.specs.LevelCalls.{levelWith, CodesLevel}
-use Rattle.block.specs.Plan.{levelAt, bitsBefore, streamAt, LevelReady, CodesAt}
+use Rattle.block.specs.Plan.{levelAt, bitsBefore, streamAt, CodesAt}
 use Rattle.levels.specs.Requirements.{Sums}
 use Rattle.block.proofs.Lists.{bits-take}
 

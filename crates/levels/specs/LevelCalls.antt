@@ -10,7 +10,7 @@ use Rattle.component.specs.Decoding.{patternAt, codedLength, decode, segment}
 use Rattle.component.specs.Coding.{EncodesWith}
 use Rattle.interleaver.specs.Weights.{Weight, added, taken}
 use Rattle.block.specs.Levels.{Level, mixed}
-use Rattle.block.specs.Reading.{unmixed, sizeA, inputA, inputB}
+use Rattle.block.specs.Reading.{unmixed, inputA, inputB}
 use Rattle.block.specs.Fits.{Mixes, LevelFits}
 
 -- The level with these numbers of input bits in parts A and B, the patterns of these numbers, and t.

@@ -1,7 +1,6 @@
 // The levels of a table coded and added up as numbers. 01 "Partition".
 use crate::level::code_level;
 ghost use mathlib.Core.Path.{_≡_};
-ghost use Prim.Native.Nat.{_+_, _*_, _≤_, _<_};
 ghost use lib.ListN.{length};
 ghost use Rattle.lists.specs.Lists.{table};
 ghost use Rattle.interleaver.specs.Weights.{added};

@@ -1,5 +1,5 @@
 -- A loop that disperses bits from left to right, with the register of the sequence stepped along. Assumes nothing.
-use Prim.Native.Nat.{ℕ, suc, _+_, _*_, _/_, _%_, _≤_, _<_}
+use Prim.Native.Nat.{ℕ, _+_, _*_, _/_, _%_, _≤_, _<_}
 use mathlib.Core.Path.{_≡_, refl, sym, _∙_}
 use mathlib.Core.List.{List}
 use native.Mathlib.Nat.{zero-add}
@@ -8,7 +8,7 @@ use native.Mathlib.Omega.{arith}
 use lib.ListN.{length, getD, set}
 use Rattle.lists.proofs.Tables.{Filled, filled-start, filled-turn, filled-end, table-is}
 use Rattle.block.specs.Dispersal.{p, dispersed}
-use Rattle.block.proofs.Dispersal.{bitOf, shifted, registerAt, register-bit, register-low, length-dispersed, getD-dispersed}
+use Rattle.block.proofs.Dispersal.{bitOf, shifted, registerAt, register-bit, length-dispersed, getD-dispersed}
 
 -- before the turn at bit i of the bits v, with the register r
 pub record Dispersing (v d out : List ℕ) (r i : ℕ) : Type 0 where

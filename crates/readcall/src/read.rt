@@ -17,7 +17,7 @@ use superframe::answers::blocks_answer;
 ghost use mathlib.Core.Path.{_≡_};
 ghost use mathlib.Core.List.{List, [], _∷_};
 ghost use Prim.Native.Nat.{_<_};
-ghost use lib.ListN.{length, replicate};
+ghost use lib.ListN.{replicate};
 ghost use lib.IntN.{ℤ};
 ghost use Rattle.settings.specs.Sizes.{depth};
 ghost use Rattle.superframe.specs.Interleaving.{afterRows};

@@ -1,7 +1,7 @@
 -- The formulas of lengths. 01 "Lengths"; 001 clauses 7.2.1.1 to 7.2.1.3.
 use Prim.Native.Nat.{ℕ, _+_, _-_, _*_, _/_, _%_}
 use mathlib.Core.Bool.{Bool, cond, _||_}
-use mathlib.Core.List.{List, map}
+use mathlib.Core.List.{map}
 use lib.Dec.{eqb}
 use Rattle.lists.specs.Lists.{total}
 use Rattle.component.specs.Patterns.{RX, RY}

@@ -1,10 +1,10 @@
 // The formulas of lengths, 001 clause 7.2.1.1.
 use crate::tables;
 ghost use mathlib.Core.Path.{_≡_};
-ghost use Prim.Native.Nat.{_+_, _*_, _-_, _%_, _≤_};
+ghost use Prim.Native.Nat.{_*_, _-_, _≤_};
 ghost use Rattle.settings.specs.Accepted.{Level, Whole, Rounds};
-ghost use Rattle.settings.specs.Formulas.{hierarchical, width, bitsA, bitsB, partA, partB, partVspp, roundUp, cellsA, sdcBits};
-ghost use Rattle.settings.specs.Rates.{rates, commonDenominator};
+ghost use Rattle.settings.specs.Formulas.{hierarchical, width, partA, partB, partVspp, roundUp, cellsA, sdcBits};
+ghost use Rattle.settings.specs.Rates.{rates};
 ghost use Rattle.settings.specs.Shares.{share, shares};
 
 // Coded bits that a level has in n cells: two for each cell, but one in HMmix.

@@ -1,15 +1,14 @@
 -- What the calls share: parts of a buffer, and the tests of state and memory. 01 "Buffers and state" and "Operations".
-use Prim.Native.Nat.{ℕ, zero, suc, _+_, _-_, _*_}
-use mathlib.Core.Bool.{Bool, true, false, cond, not, _&&_, _||_}
-use mathlib.Core.List.{List, [], _∷_, _++_, map}
-use lib.ListN.{length, getD, take, drop}
+use Prim.Native.Nat.{ℕ, _+_, _*_}
+use mathlib.Core.Bool.{Bool, _&&_, _||_}
+use mathlib.Core.List.{List, [], _∷_, _++_}
+use lib.ListN.{getD, take, drop}
 use lib.IntN.{ℤ, pos}
-use lib.Dec.{eqb, ltb}
+use lib.Dec.{ltb}
 use Rattle.lists.specs.Lists.{table}
 use Rattle.settings.specs.declared.Settings.{Settings}
 use Rattle.settings.specs.Lengths.{nMux}
 use Rattle.settings.specs.Sizes.{depth}
-use Rattle.block.specs.Block.{Block}
 use Rattle.lists.specs.Same.{sameNumber}
 use Rattle.block.specs.Points.{isPoint, every}
 use Rattle.frame.specs.Msc.{mscBlock}

@@ -1,11 +1,10 @@
 -- The call Code. 01 "Buffers and state" and "Operations".
 use Prim.Native.Nat.{ℕ, _*_}
-use mathlib.Core.Bool.{Bool, cond, not, _&&_, _||_}
-use mathlib.Core.List.{List, [], _∷_, _++_, map}
+use mathlib.Core.Bool.{Bool, cond, not, _&&_}
+use mathlib.Core.List.{List, _++_, map}
 use lib.ListN.{length}
 use lib.IntN.{ℤ}
 use lib.Dec.{eqb, ltb}
-use Rattle.lists.specs.Lists.{table}
 use Rattle.settings.specs.declared.Settings.{Settings}
 use Rattle.settings.specs.Refusal.{first, refusal}
 use Rattle.settings.specs.Cells.{facCells}
@@ -20,7 +19,7 @@ use Rattle.frame.specs.Msc.{mscBlock}
 use Rattle.superframe.specs.declared.State.{State}
 use Rattle.superframe.specs.declared.Done.{Done}
 use Rattle.superframe.specs.Interleaving.{Progress, afterFrames, sentRows, fillers}
-use Rattle.superframe.specs.Call.{part, parts, joined, memoryLength, inOrder}
+use Rattle.superframe.specs.Call.{parts, joined, memoryLength, inOrder}
 
 -- What a Code call is lent beside the memory: three FAC blocks, one SDC block and three multiplex frames as packed bytes, and three buffers for cells.
 pub record CodeCall : Type 0 where

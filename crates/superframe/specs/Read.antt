@@ -1,8 +1,8 @@
 -- The call Read. 01 "Buffers and state" and "Operations".
-use Prim.Native.Nat.{ℕ, zero, suc, _+_, _-_, _*_}
-use mathlib.Core.Bool.{Bool, true, false, cond, not, _&&_, _||_}
+use Prim.Native.Nat.{ℕ, suc, _+_, _-_, _*_}
+use mathlib.Core.Bool.{Bool, cond, not, _||_}
 use mathlib.Core.List.{List, [], _∷_, _++_, map}
-use lib.ListN.{length, getD, take, drop, replicate}
+use lib.ListN.{length, getD, drop, replicate}
 use lib.IntN.{ℤ, pos}
 use lib.Dec.{eqb, ltb, leb}
 use Rattle.lists.specs.Lists.{table}
@@ -11,7 +11,6 @@ use Rattle.settings.specs.Refusal.{first, refusal}
 use Rattle.settings.specs.Cells.{facCells}
 use Rattle.settings.specs.Lengths.{nMux}
 use Rattle.settings.specs.Sizes.{depth, frameBytes}
-use Rattle.block.specs.Block.{Block}
 use Rattle.block.specs.Points.{isPoint, arePoints, every}
 use Rattle.lists.specs.Same.{sameNumbers}
 use Rattle.block.specs.Reading.{given, bytesRead}
@@ -23,7 +22,7 @@ use Rattle.superframe.specs.declared.Answer.{Answer}
 use Rattle.superframe.specs.declared.Answer.the-variants.{Finished, Refused}
 use Rattle.superframe.specs.declared.Reading.{Reading}
 use Rattle.superframe.specs.Memory.{slotSize}
-use Rattle.superframe.specs.Interleaving.{Progress, advanced, delay, afterRows, finishedFrames, fillers}
+use Rattle.superframe.specs.Interleaving.{Progress, delay, afterRows, finishedFrames, fillers}
 use Rattle.superframe.specs.Call.{part, parts, joined, memoryLength, inOrder}
 use Rattle.superframe.specs.Code.{byteLengths, cellLengths, progressOf, stateOf}
 

@@ -1,9 +1,8 @@
 -- `fillers::write_fillers` meets its contract. The loop's invariant: the fillers before k are there. Assumes nothing.
 use Prim.Native.Nat.{ℕ, _-_, _≤_}
-use mathlib.Core.Path.{sym, _∙_}
 use borrow.Author.Needs.{needs}
 use lib.ListN.{length, getD}
-use lib.IntN.{ℤ, pos}
+use lib.IntN.{pos}
 use Rattle.lists.proofs.Tables.{Filled, filled-start, filled-turn}
 use Rattle.cellrows.specs.Fillers.{fillerNumbers}
 use Rattle.cellrows.proofs.FillerTurns.{filler-fits, fillers-end}

@@ -1,5 +1,4 @@
 -- `refusal::sdc_bits` meets its contract. Assumes nothing.
-use mathlib.Core.Path.{_∙_}
 use native.Mathlib.Omega.{arith}
 use borrow.Author.Needs.{needs}
 use Rattle.settings.specs.Lengths.{nSdc, lSdc}

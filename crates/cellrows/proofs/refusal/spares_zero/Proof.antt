@@ -1,8 +1,5 @@
 -- `refusal::spares_zero` meets its contract. Assumes nothing.
-use mathlib.Core.Path.{_∙_, sym, ap}
-use mathlib.Core.Bool.{_&&_}
 use native.Mathlib.Omega.{arith}
-use borrow.Author.Needs.{needs}
 use borrow.Author.Tests.{not-true, not-false}
 use Rattle.settings.proofs.Bounds.{accepted-of}
 use Rattle.settings.proofs.Buffers.{few}

@@ -3,7 +3,6 @@ use borrow.Author.Needs.{needs}
 use Rattle.cellrows.proofs.Ring.{previous-zero, previous-more}
 use Rattle.cellrows.proofs.rows.previous_slot.Statement.{statement}
 use Rattle.cellrows.proofs.rows.previous_slot.Tie as tie
-use native.Mathlib.Omega.{arith}
 use mathlib.Core.Path.{sym}
 
 pub previous-slot-spec : {M : Type 1} → statement M

@@ -3,7 +3,6 @@
 use Prim.Native.Nat.{_-_}
 use native.Mathlib.Omega.{arith}
 use borrow.Author.Needs.{needs}
-use mathlib.Core.Path.{_∙_}
 use Rattle.interleaver.proofs.Places.{size-four}
 use Rattle.cellrows.proofs.Turns.{Stepping, stepping-start, stepping-turn, row-interleaves, Leading, leading-start, leading-turn, leading-end}
 use Rattle.cellrows.proofs.rows.take_row.Statement.{statement}

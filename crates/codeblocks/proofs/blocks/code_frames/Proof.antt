@@ -1,6 +1,5 @@
 -- `blocks::code_frames` meets its contract. The loop's invariant: what is left of the frames leads to what the whole leads to. Assumes nothing.
 use Prim.Native.Nat.{_+_, _-_, _*_, _≤_}
-use native.Mathlib.Omega.{arith}
 use borrow.Author.Needs.{needs}
 use lib.ListN.{length}
 use Rattle.settings.specs.Lengths.{nMux}

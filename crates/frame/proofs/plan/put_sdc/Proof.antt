@@ -1,4 +1,3 @@
-use native.Mathlib.Omega.{arith}
 use borrow.Author.Needs.{needs}
 use Rattle.frame.proofs.Plans.{sdc-two, sdc-one}
 use Rattle.frame.proofs.plan.put_sdc.Statement.{statement}

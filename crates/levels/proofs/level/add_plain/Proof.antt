@@ -1,6 +1,5 @@
 -- `level::add_plain` meets its contract. The loop's invariant: the first i numbers have their bits added. Assumes nothing.
 use Prim.Native.Nat.{ℕ, _+_, _-_, _*_, _≤_}
-use mathlib.Core.Path.{refl}
 use native.Mathlib.Omega.{arith}
 use borrow.Author.Needs.{needs}
 use lib.ListN.{length, getD}

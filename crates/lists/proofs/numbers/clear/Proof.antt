@@ -3,7 +3,7 @@ use Prim.Native.Nat.{ℕ, _-_, _≤_}
 use mathlib.Core.Path.{refl}
 use borrow.Author.Needs.{needs}
 use lib.ListN.{length}
-use lib.IntN.{ℤ, pos}
+use lib.IntN.{pos}
 use Rattle.lists.proofs.Tables.{Filled, filled-start, filled-turn}
 use Rattle.lists.proofs.Copies.{zeros-end}
 use Rattle.lists.proofs.numbers.clear.Statement.{statement}

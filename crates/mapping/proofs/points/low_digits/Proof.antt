@@ -1,6 +1,5 @@
 -- `low_digits` meets its contract. Assumes nothing.
 use native.Mathlib.Omega.{arith}
-use lib.Bits.{bitAnd}
 use mir.Syntax.{w16}
 use mir.Val.{ofZ}
 use Rattle.mapping.proofs.Signed.{digits-value}

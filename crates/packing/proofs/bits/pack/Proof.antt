@@ -1,10 +1,9 @@
 -- `pack` meets its contract. Assumes nothing.
 use Prim.Native.Nat.{_*_, _-_, _≤_}
-use mathlib.Core.Path.{_≡_, refl, sym, ap, _∙_}
+use mathlib.Core.Path.{_≡_}
 use native.Mathlib.Omega.{arith}
 use borrow.Author.Needs.{needs}
 use lib.ListN.{length}
-use Rattle.lists.specs.Lists.{table}
 use Rattle.lists.proofs.Tables.{Filled, filled-start, filled-turn, filled-end}
 use Rattle.block.specs.Packing.{digits, packed}
 use Rattle.lists.specs.Bytes.{bytesFor}

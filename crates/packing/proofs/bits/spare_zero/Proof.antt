@@ -1,7 +1,6 @@
 -- `spare_zero` meets its contract. Assumes nothing.
-use Prim.Native.Nat.{suc, _+_, _*_, _-_}
-use mathlib.Core.Path.{_≡_, refl, sym, ap, _∙_}
-use native.Mathlib.Omega.{arith}
+use Prim.Native.Nat.{_*_, _-_}
+use mathlib.Core.Path.{_≡_, refl, _∙_}
 use borrow.Author.Needs.{needs}
 use lib.ListN.{length}
 use Rattle.block.specs.Packing.{bitAt, spareZero}

@@ -1,9 +1,8 @@
 -- `blocks::read_fac_blocks` meets its contract. The loop's invariant: bits give the blocks before i, and their bytes are there. Assumes nothing.
-use Prim.Native.Nat.{_+_, _-_, _*_}
+use Prim.Native.Nat.{_-_, _*_}
 use mathlib.Core.Path.{_∙_}
 use native.Mathlib.Omega.{arith}
 use borrow.Author.Needs.{needs}
-use lib.ListN.{length}
 use Rattle.cellrows.proofs.Laid.{length-mid, laid-start}
 use Rattle.channels.proofs.Lengths.{fac-lent}
 use Rattle.readblocks.proofs.FaultTurns.{faultless-start}
