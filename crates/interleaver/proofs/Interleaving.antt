@@ -13,7 +13,7 @@ use Rattle.interleaver.specs.Deinterleaving.{Cycles, Interleaves, Steps,
 use Rattle.lists.specs.Lists.{table}
 use Rattle.lists.proofs.Counting.{below-or}
 use Rattle.interleaver.proofs.Places.{place-low, place-cover, place-once}
-use Rattle.lists.proofs.Tables.{Filled, filled-end, length-table, getD-table}
+use Rattle.lists.proofs.Tables.{length-table, getD-table}
 
 -- A loop that steps the place along: in turn i, p is P(i), and s and q are those of n.
 pub record Along (t n s q p i : ℕ) : Type 0 where
@@ -42,18 +42,6 @@ along-turn t n s q p i r h e =
       };
       place-is = g;
     }
-
--- The element at p is the one at P(i).
-pub along-at : {A : Type 0} (z : A) (t n s q p i : ℕ) (v : List A) → Along t n s q p i → getD v p z ≡ getD v (place t n i) z
-along-at z t n s q p i v h = rw (h .place-is)
-
--- What is filled up to the end with the elements at the places is the interleaved list.
-pub interleaved-end : {A : Type 0} (z : A) (t i : ℕ) (v d out : List A) → length d ≡ length v → i ≤ length v → length v ≤ i
-    → Filled z (λ k. getD v (place t (length v) k) z) d out i → out ≡ interleaved z t v
-unfolding interleaved
-interleaved-end z t i v d out e l h w =
-    let g : i ≡ length v = le-antisymm l h in
-    filled-end z (λ k. getD v (place t (length v) k) z) d out (length v) e (rw g at w)
 
 -- Inputs 0 .. i - 1 of v stand at their places P(0) .. P(i - 1) of out.
 pub record Returned {A : Type 0} (z : A) (t n : ℕ) (v out : List A) (i : ℕ) : Type 0 where
@@ -132,18 +120,6 @@ module _ {A : Type 0} (z : A) (t : ℕ) (v : List A) where
     -- Output P(i) is input i.
     pub deinterleaved-at : (i : ℕ) → i < length v → getD (deinterleaved z t v) (place t (length v) i) z ≡ getD v i z
     deinterleaved-at = returned .back
-
-    -- What holds of every element holds of every deinterleaved one.
-    pub deinterleaved-all : (Q : A → Type 0) → ((k : ℕ) → Q (getD v k z)) → (k : ℕ) → Q (getD (deinterleaved z t v) k z)
-    deinterleaved-all Q h k = go (below-or k (length v))
-      where
-        go : (k < length v) ⊎ (length v ≤ k) → Q (getD (deinterleaved z t v) k z)
-        go (inl d) =
-            let w = place-cover t (length v) c k d in
-            rw (← w .value, deinterleaved-at (w .index) (w .low)) (h (w .index))
-        go (inr d) =
-            rw (List·getD-eq-default (deinterleaved z t v) z {n = k} (omega (arith, deinterleaved-length)))
-            (rw (List·getD-eq-default v z {n = k} d) at (h k))
 
     -- A list to whose places all inputs went back is the deinterleaved one.
     pub deinterleaved-end : (out : List A) (i : ℕ) → i ≤ length v → length v ≤ i → Returned z t (length v) v out i → out ≡ deinterleaved z t v

@@ -4,7 +4,7 @@ ghost use Prim.Native.Nat.{_≤_};
 ghost use lib.ListN.{length, getD};
 ghost use Rattle.component.specs.Patterns.{RX, RY};
 ghost use Rattle.settings.specs.Cells.{entry, muxTable, superTable, sdcTable};
-ghost use Rattle.settings.specs.Rates.{rates, commonDenominator, vsppRate, sdcRates};
+ghost use Rattle.settings.specs.Rates.{rates, commonDenominator, vsppRate};
 ghost use Rattle.settings.specs.Places.{placeIn};
 
 // Rows for modes A to D, columns for occupancy 0 to 5, then the 0 of every other pairing. 01 "Settings".
@@ -228,9 +228,6 @@ const COMMON_DENOMINATORS: [usize; 17] = [
 // 001 table 70.
 const VSPP_RATES: [usize; 4] = [4, 5, 6, 7];
 
-// 001 tables 72 and 73: two places for each SDC mode.
-const SDC_RATES: [usize; 4] = [R1_3, R2_3, R1_2, 0];
-
 // The place of a mode's occupancy.
 fn pairing_place(mode: u8, occupancy: u8) -> usize
     ensures { λ r. ⌜ r ≡ placeIn 4 6 mode occupancy ⌝ }
@@ -332,30 +329,4 @@ pub fn vspp_rate(level: u8) -> usize
         return 0;
     }
     VSPP_RATES[level as usize]
-}
-
-// The rate of the kth level of the SDC.
-pub fn sdc_rate(sdc: u8, k: usize) -> usize
-    ensures { λ r. ⌜ r ≡ getD (sdcRates sdc) k 0 ⌝ }
-{
-    if 2 <= sdc {
-        return 0;
-    }
-    if 2 <= k {
-        return 0;
-    }
-    SDC_RATES[sdc as usize * 2 + k]
-}
-
-// How many levels the SDC has.
-pub fn sdc_rate_count(sdc: u8) -> usize
-    ensures { λ r. ⌜ r ≡ length (sdcRates sdc) ⌝ }
-{
-    if sdc == 0 {
-        return 2;
-    }
-    if sdc == 1 {
-        return 1;
-    }
-    0
 }
