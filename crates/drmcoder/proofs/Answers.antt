@@ -2,6 +2,7 @@
 use Prim.Native.Nat.{ℕ, _+_, _*_}
 use mathlib.Core.Path.{_≡_, refl}
 use mathlib.Core.List.{List}
+use native.Mathlib.Omega.{arith}
 use lib.ListN.{length}
 use lib.IntN.{ℤ}
 use borrow.Author.Tests.{eq-eqb, ne-eqb}
@@ -12,7 +13,7 @@ use Rattle.superframe.specs.declared.Answer.{Answer}
 use Rattle.superframe.specs.declared.Answer.the-variants.{Finished, Refused}
 use Rattle.superframe.specs.Reset.{ResetYield, resetOf}
 use Rattle.superframe.specs.Code.{CodeCall, CodeYield, codeOf}
-use Rattle.superframe.specs.Read.{ReadCall, ReadYield, readOf}
+use Rattle.superframe.specs.Read.{ReadCall, ReadYield, answerNumber, answerFrames, answerBlock, readOf}
 use Rattle.drmcoder.specs.Bytes.{settingsOf, stateOf, stateBytes}
 use Rattle.drmcoder.specs.Calls.{stateAfter, stateRead, answerWord, resetYields, codeYields, readYields, resetAnswered, resetBytes, codeAnswered, codeBytes, readAnswered, readBytes}
 use Rattle.drmcoder.proofs.Tests.{both-right}
@@ -27,13 +28,13 @@ after-accepted done bytes bytes′ h e = rw (eq-eqb (done .refusal) 0 h) e
 
 pub read-finished : (a : Answer) (state : State) (bytes bytes′ : List ℕ) (n : ℕ) → a ≡ Finished n → bytes′ ≡ stateBytes state
     → (n ≡ answerWord a) × (bytes′ ≡ stateRead a state bytes)
-unfolding answerWord stateRead
-read-finished a state bytes bytes′ n e e′ = (rw e refl, rw e e′)
+unfolding answerWord answerNumber answerBlock answerFrames stateRead
+read-finished a state bytes bytes′ n e e′ = (rw e (omega arith), rw e e′)
 
 pub read-refused : (a : Answer) (state : State) (bytes : List ℕ) (r number block : ℕ) → a ≡ Refused number block → r ≡ 256 * number + block
     → (r ≡ answerWord a) × (bytes ≡ stateRead a state bytes)
-unfolding answerWord stateRead
-read-refused a state bytes r number block e er = (rw e er, rw e refl)
+unfolding answerWord answerNumber answerBlock answerFrames stateRead
+read-refused a state bytes r number block e er = (rw e (omega arith), rw e refl)
 
 pub reset-right : (state settings : List ℕ) (memory : List ℤ) (old : State) (s : Settings) (y : ResetYield) (r : ℕ) (state′ : List ℕ)
     → length state ≡ 12 → length settings ≡ 10 → old ≡ stateOf state → s ≡ settingsOf settings → y ≡ resetOf old s memory

@@ -11,7 +11,7 @@ use Rattle.superframe.specs.declared.Answer.{Answer}
 use Rattle.superframe.specs.declared.Answer.the-variants.{Finished, Refused}
 use Rattle.superframe.specs.Reset.{ResetYield, resetOf}
 use Rattle.superframe.specs.Code.{CodeCall, CodeYield, codeOf}
-use Rattle.superframe.specs.Read.{ReadCall, ReadYield, readOf}
+use Rattle.superframe.specs.Read.{ReadCall, ReadYield, answerNumber, answerFrames, answerBlock, readOf}
 use Rattle.drmcoder.specs.Bytes.{settingsOf, stateOf, stateBytes}
 
 -- Answers and buffers as each call leaves them.
@@ -72,10 +72,9 @@ codeBytes state memory c =
     cond (eqb (length state) 12) (codeAnswered (codeOf (stateOf state) memory c) state)
     (codeYields 255 state memory (c .faccells) (c .sdccells) (c .msccells))
 
--- The number of finished frames, or 256 times the refusal's number plus its block.
+-- An answer in one number: 256 times its number (0 for acceptance), plus its block, plus its finished frames.
 unfoldable pub answerWord : Answer → ℕ
-answerWord (Finished n) = n
-answerWord (Refused r b) = 256 * r + b
+answerWord a = 256 * answerNumber a + answerBlock a + answerFrames a
 
 -- The bytes of a state after Read.
 unfoldable pub stateRead : Answer → State → List ℕ → List ℕ

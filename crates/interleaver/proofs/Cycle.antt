@@ -6,16 +6,12 @@ use Prim.Native.Nat.{ℕ, zero, suc, _+_, _-_, _*_, _/_, _%_, _^_, _≤_, _<_}
 use native.Mathlib.Nat.{add-zero, add-suc, pow-zero, pow-succ', two-pow-succ, mod-eq-of-lt, div-add-mod, mul-add-mod-self-left, mul-mod-right, zero-mod}
 use native.Mathlib.Omega.{arith}
 use lib.Pow.{pow-pos}
+use Rattle.interleaver.specs.Cycle.{walk}
 
 -- The walk from 0 without the modulus: X(0) = 0, X(j + 1) = t × X(j) + q.
 orbit : ℕ → ℕ → ℕ → ℕ
 orbit t q zero = 0
 orbit t q (suc j) = t * orbit t q j + q
-
--- The walk from 0.
-unfoldable pub walk : ℕ → ℕ → ℕ → ℕ → ℕ
-walk t q s zero = 0
-walk t q s (suc j) = (t * walk t q s j + q) % s
 
 -- x and r leave the same remainder at p.
 record Same (p x r : ℕ) : Type 0 where

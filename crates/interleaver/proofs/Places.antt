@@ -11,7 +11,8 @@ use borrow.Author.Tests.{lt-ltb, le-ltb}
 use Rattle.interleaver.specs.Interleaving.{size, offset, step, again, nextPlace, place}
 use Rattle.interleaver.specs.Deinterleaving.{Cycles, Steps}
 use Rattle.lists.proofs.Counting.{Among, below-or, count, count-in, count-out, count-more, count-cover, cover-once}
-use Rattle.interleaver.proofs.Cycle.{walk, cycle, cycle-closed}
+use Rattle.interleaver.specs.Cycle.{walk}
+use Rattle.interleaver.proofs.Cycle.{cycle, cycle-closed}
 use Rattle.interleaver.proofs.Size.{Sized, size-sized}
 
 -- The walk of the steps from 0.

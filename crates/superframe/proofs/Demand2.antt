@@ -1,8 +1,8 @@
 -- Demand 2 on the definitions: what is handed out, what is sent, and the statement. Assumes the coding's record.
 use Prim.Native.Nat.{ℕ, zero, _+_, _-_, _*_, _≤_, _<_}
-use mathlib.Core.Path.{_≡_, refl, sym, ap, ap₂, _∙_, subst}
+use mathlib.Core.Path.{_≡_, refl, sym, ap, ap₂, _∙_, subst, subst₂}
 use mathlib.Core.Logic.{_↔_}
-use mathlib.Core.Bool.{true}
+use mathlib.Core.Bool.{Bool, true, false, cond, not}
 use mathlib.Core.List.{List, [], _∷_, _++_, map, append-nil}
 use native.Mathlib.Nat.{zero-add, zero-mul, add-mul}
 use native.Mathlib.Decide.{ℕ-discrete}
@@ -10,6 +10,8 @@ use native.Mathlib.Omega.{arith}
 use lib.ListN.{length, getD, drop, replicate, length-append, length-replicate}
 use lib.Seq.{take-length, drop-at}
 use lib.IntN.{ℤ}
+use lib.Dec.{eqb, ltb}
+use borrow.Author.Tests.{eqb-true, ltb-true}
 use Rattle.lists.specs.Lists.{table}
 use Rattle.lists.proofs.Tables.{length-table, map-table}
 use Rattle.settings.specs.declared.Settings.{Settings}
@@ -31,13 +33,15 @@ use Rattle.superframe.specs.Memory.{slotSize, stored}
 use Rattle.superframe.specs.Interleaving.{Progress, advanced, sentRow, sentRows, finishedFrames, fillers}
 use Rattle.superframe.specs.Call.{part, parts, joined}
 use Rattle.superframe.specs.Code.{CodeCall, codeAccepted, progressOf, frameCells}
-use Rattle.superframe.specs.Read.{ReadCall, rowsOf, fillersOf, givenTests, answerNumber, answerFrames, answerBlock, orderRefusal, answerOf, handedOut, readAccepted, readOf}
+use Rattle.superframe.specs.Read.{ReadCall, rowsOf, fillersOf, pointTests, givenTests, firstFault, answerNumber, answerFrames, answerBlock, orderRefusal, answerOf, handedOut, readAccepted, readRefused, readOf}
 use Rattle.superframe.specs.Facts.{ReadFits}
-use Rattle.superframe.specs.Demand2.{finishedOf, HandsOut, Sends, RefusedBy, FinishedWith, Demand2}
+use Rattle.superframe.specs.Demand2.{NoPoint, Lowest, Thirteen, finishedOf, HandsOut, Sends, RefusedBy, FinishedWith, countBefore, Demand2}
 use Rattle.superframe.proofs.Coding.{Recovers, Coding, fac-long, sdc-long}
 use Rattle.superframe.proofs.Lists.{every-at, take-table, part-joined, after-joined, length-joined, three-part, three-length}
 use Rattle.superframe.proofs.ReadCalls.{fillers-long}
 use Rattle.superframe.proofs.Calls.{code-accepts, code-fits, read-fits, answer-order, read-accepts}
+use Rattle.lists.proofs.Bools.{never-both}
+use Rattle.superframe.proofs.Sendable.{sent-nowhere}
 use Rattle.superframe.proofs.Faults.{Case, given-fac, given-sdc, given-frame, points, blocks, bad, wrong, good, answer-case, count-is, answers13, answers14, answers0}
 
 -- What is read from cells that bits give are bytes that give them, with spare bits zero.
@@ -238,18 +242,49 @@ never-zero coding state memory c b e = go (ℕ-discrete (orderRefusal state memo
 then-iff : {A B C : Type 0} → A ↔ B → B ↔ C → A ↔ C
 then-iff p q = (λ a. q .0 (p .0 a), λ c. p .1 (q .1 c))
 
+-- The answer that a Read call yields is the answer defined, accepted or not.
+answer-finishes : (a b c : Bool) (r x y n : ℕ) → (a ≡ true → 0 < r) → eqb (answerNumber (cond a (Refused r 0) (cond b (Refused 13 x) (cond c (Refused 14 y) (Finished n))))) 0 ≡ true
+    → Finished n ≡ cond a (Refused r 0) (cond b (Refused 13 x) (cond c (Refused 14 y) (Finished n)))
+unfolding answerNumber
+answer-finishes true b c r x y n h e = absurd (let z = h refl in let y = eqb-true r 0 e in omega arith)
+answer-finishes false true c r x y n h e = absurd (never-both false e refl)
+answer-finishes false false true r x y n h e = absurd (never-both false e refl)
+answer-finishes false false false r x y n h e = refl
+
+finishes-by : (state : State) (memory : List ℤ) (c : ReadCall) → eqb (answerNumber (answerOf state memory c)) 0 ≡ true → readAccepted state memory c .reading .answer ≡ answerOf state memory c
+unfolding answerOf readAccepted
+finishes-by state memory c e =
+    let p = pointTests (state .settings) (state .count) c in
+    let g = givenTests (state .settings) (progressOf state memory) c in
+    answer-finishes (ltb 0 (orderRefusal state memory c)) (not (every p)) (not (every g)) (orderRefusal state memory c) (firstFault p) (firstFault g) _ (λ t. ltb-true 0 _ t) e
+
+pub yielded : (state : State) (memory : List ℤ) (c : ReadCall) → readOf state memory c .reading .answer ≡ answerOf state memory c
+unfolding readOf readAccepted readRefused
+yielded state memory c = go (eqb (answerNumber (answerOf state memory c)) 0) refl
+  where
+    go : (t : Bool) → eqb (answerNumber (answerOf state memory c)) 0 ≡ t → (cond t (readAccepted state memory c) (readRefused state memory c)) .reading .answer ≡ answerOf state memory c
+    go false e = refl
+    go true e = finishes-by state memory c e
+
 -- Demand 2, of all settings whose coding is recovered.
 pub demand2-of : ((s : Settings) → refusal s ≡ 0 → Coding s) → Demand2
 demand2-of coding =
     record {
-      refuses13 = λ state memory c z b. then-iff (refused-by (answerOf state memory c) 13 b (omega arith)) (answers13 coding state memory c (read-fits state memory c z) b);
-      refuses14 = λ state memory c z b. then-iff (refused-by (answerOf state memory c) 14 b (omega arith)) (answers14 coding state memory c (read-fits state memory c z) b);
+      refuses13 = λ state memory c z b. rw yielded (thirteen state memory c z b);
+      refuses14 = λ state memory c z b. rw yielded (then-iff (refused-by (answerOf state memory c) 14 b (omega arith)) (answers14 coding state memory c (read-fits state memory c z) b));
       finishes = λ state memory c z n.
-          then-iff (finished-with (answerOf state memory c) n (never-zero coding state memory c)) (answers0 coding state memory c (read-fits state memory c z) n);
+          rw yielded (then-iff (finished-with (answerOf state memory c) n (never-zero coding state memory c)) (answers0 coding state memory c (read-fits state memory c z) n));
       handsOut = λ state memory c e.
-          hands-out coding state memory c _ (finished-with (answerOf state memory c) (answerFrames (answerOf state memory c)) (never-zero coding state memory c) .0 (e, refl));
+          hands-out coding state memory c _ (finished-with (answerOf state memory c) (answerFrames (answerOf state memory c)) (never-zero coding state memory c) .0 (rw yielded at e, refl));
       sends = λ state memory c h.
           subst (Sends (state .settings) c) (sym (code-accepts state memory c h))
           (code-sends state memory c (coding (state .settings) (code-fits state memory c h .fits .settings)));
       recovers = λ s h. let C = coding s h in (C .fac .reads, C .sdc .reads, C .msc .reads);
+      sendable = sent-nowhere coding;
+      unsent = λ state memory c z b r run m e n L.
+          let f = thirteen state memory c z b .0 (rw yielded at r) .here in
+          sent-nowhere coding run m c L .none b (subst₂ (λ s k. NoPoint s k c b) (sym e) (n ∙ ap (λ s. countBefore s m) (sym e)) f);
     }
+  where
+    thirteen : (state : State) (memory : List ℤ) (c : ReadCall) → orderRefusal state memory c ≡ 0 → (b : ℕ) → RefusedBy (answerOf state memory c) 13 b ↔ Lowest (Thirteen state c) b
+    thirteen state memory c z b = then-iff (refused-by (answerOf state memory c) 13 b (omega arith)) (answers13 coding state memory c (read-fits state memory c z) b)

@@ -20,9 +20,9 @@ use Rattle.superframe.specs.Interleaving.{Progress}
 use Rattle.superframe.specs.Reset.{resetRefusal, startState, startMemory}
 use Rattle.superframe.specs.Code.{stateOf}
 use Rattle.superframe.specs.Read.{ReadCall}
-use Rattle.superframe.specs.Runs.{Begun, stateAt, memoryAt, Bits, brought, sent, refusals, Closed, readCount, handed, Fed, Accepts}
+use Rattle.superframe.specs.Runs.{Begun, stateAt, memoryAt, Bits, brought, sent, refusals, Closed, readCount, handed, Fed, Accepts, Run, bits, cells}
 use Rattle.superframe.specs.Standard.{superFrame, standard}
-use Rattle.superframe.specs.Demand3.{Run, bits, cells, standardCells, firstBits, runNumber, Demand3}
+use Rattle.superframe.specs.Demand3.{standardCells, firstBits, allBits, runNumber, Demand3}
 use Rattle.superframe.proofs.Lists.{take-table}
 use Rattle.superframe.proofs.Coding.{Coding, depth-low, depth-high}
 use Rattle.superframe.proofs.History.{Keeps, keeps-start}
@@ -203,9 +203,19 @@ closed-frames s b w c =
     let e : 3 * length (b .sdc) - (depth s - 1) ≡ (length (b .frames) - 6) + (7 - depth s) = omega (arith, w .frames, closed-six s b c) in
     rw (e, take-add (length (b .frames) - 6) (7 - depth s) (b .frames), c .zeros, take-equal (replicate {A = ℕ} (bitCount (mscBlock s)) 0) 6 (7 - depth s) (omega arith))
 
+-- And all blocks.
+pub closed-all : (s : Settings) (b : Bits) → Whole s b → Closed s b → firstBits (depth s) (length (b .sdc)) b ≡ allBits s b
+unfolding firstBits allBits
+closed-all s b w c =
+    λ i. record {
+      fac = take-all (3 * length (b .sdc)) (b .fac) (omega (arith, w .fac)) i;
+      sdc = take-all (length (b .sdc)) (b .sdc) (omega arith) i;
+      frames = closed-frames s b w c i;
+    }
+
 -- Demand 3, of all settings whose coding is recovered.
 pub demand3-of : ((s : Settings) → refusal s ≡ 0 → Coding s) → Demand3
-unfolding standardCells firstBits
+unfolding standardCells
 demand3-of coding =
     record {
       sends = run-sends coding;
@@ -260,9 +270,8 @@ demand3-of coding =
         → Closed (run .begun .settings) (bits run)
         → Fed (standardCells run) (stateAt reader) (memoryAt reader) calls
         → readCount (stateAt reader) (memoryAt reader) calls ≡ length (bits run .sdc)
-        → handed (stateAt reader) (memoryAt reader) calls .frames
-        ≡ take (length (bits run .frames) - 6) (bits run .frames)
-        ++ replicate (7 - depth (reader .settings)) (replicate (bitCount (mscBlock (reader .settings))) 0)
+        → handed (stateAt reader) (memoryAt reader) calls ≡ allBits (reader .settings) (bits run)
     all run reader calls e c F h =
-        ap (λ b. b .frames) (back run reader calls e F .1 ∙ ap (λ j. firstBits (depth (reader .settings)) j (bits run)) h)
-        ∙ closed-frames (reader .settings) (bits run) (other run (reader .settings) (sym e)) (subst (λ x. Closed x (bits run)) (sym e) c)
+        back run reader calls e F .1
+        ∙ ap (λ j. firstBits (depth (reader .settings)) j (bits run)) h
+        ∙ closed-all (reader .settings) (bits run) (other run (reader .settings) (sym e)) (subst (λ x. Closed x (bits run)) (sym e) c)

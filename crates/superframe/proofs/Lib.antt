@@ -13,5 +13,6 @@ pub mod ReadRuns
 pub mod Demand3
 pub mod Tests
 pub mod Faults
+pub mod Sendable
 pub mod Demand2
 pub mod Accepted

@@ -160,7 +160,7 @@ module _ (s : Settings) (c : Coding s) (B : Bits) (w : Whole s B) (m : ℕ) (low
   fillers-are = three-rest (slotSize s) (λ i. standardRow s (B .frames) (3 * m + i)) (λ i h. row-long s (B .frames) (3 * m + i)) (fillers s)
 
   -- Their lengths.
-  cells-long : CellsFit s (superFrame s B m .fac) (superFrame s B m .sdc) (superFrame s B m .msc)
+  pub cells-long : CellsFit s (superFrame s B m .fac) (superFrame s B m .sdc) (superFrame s B m .msc)
   unfolding superFrame slotSize
   cells-long =
       record {
@@ -174,6 +174,29 @@ module _ (s : Settings) (c : Coding s) (B : Bits) (w : Whole s B) (m : ℕ) (low
     where
       sum : (n a : ℕ) → 3 * n ≤ a → 3 * (2 * n) + 2 * (a - 3 * n) ≡ 2 * a
       sum n a h = omega arith
+
+  -- None of its cells that a reader at a count does not ignore, and none of its fillers, falls under 13.
+  fac-points : every (map (arePoints (facBlock .points)) (parts (2 * facCells) (superFrame s B m .fac))) ≡ true
+  fac-points =
+      rw (fac-parts, map-table (arePoints (facBlock .points)) (λ i. cellsOf facBlock (getD (B .fac) (3 * m + i) [])) 0 3)
+      (every-table _ 0 3 (λ i x y. c .fac .points _ (fac-at i (omega arith))))
+
+  sdc-points : arePoints (sdcBlock s .points) (superFrame s B m .sdc) ≡ true
+  sdc-points = rw sdc-part (c .sdc .points _ sdc-at)
+
+  rows-points : (count : ℕ) → count ≤ 3 * m → every (table (λ i. rowPoints s (countAt s count i) (part (slotSize s) (superFrame s B m .msc) i)) 0 3) ≡ true
+  unfolding countAt
+  rows-points count low = every-table _ 0 3 (λ i x y. row i (omega arith))
+    where
+      row : (i : ℕ) → i < 3 → rowPoints s (countAt s count i) (part (slotSize s) (superFrame s B m .msc) i) ≡ true
+      row i h = rw (row-part i h) (row-points s c (B .frames) (3 * m + i) (λ j x. frame-at j (omega arith)) (countAt s count i) (omega arith))
+
+  fillers-points : sameNumbers (fillersOf s (superFrame s B m .msc)) (fillers s) ≡ true
+  fillers-points = rw fillers-are (sameNumbers-refl (fillers s))
+
+  pub sent-points : (count : ℕ) → count ≤ 3 * m → (fac sdc msc : List ℕ) → every (pointTests s count (feeding (superFrame s B m) fac sdc msc)) ≡ true
+  unfolding pointTests feeding every
+  sent-points count low fac sdc msc = rw (every-append, every-append, fac-points, sdc-points, rows-points count low, fillers-points)
 
   module _ (allowed : refusal s ≡ 0) (q : Progress) (K : Keeps s (B .frames) (sentAge (depth s)) (3 * m) q) (fac sdc msc : List ℕ) (bytes : BytesFit s fac sdc msc) where
     -- No number up to 12 refuses the call.
@@ -189,30 +212,8 @@ module _ (s : Settings) (c : Coding s) (B : Bits) (w : Whole s B) (m : ℕ) (low
         })
 
     -- Nor does 13.
-    fac-points : every (map (arePoints (facBlock .points)) (parts (2 * facCells) (superFrame s B m .fac))) ≡ true
-    fac-points =
-        rw (fac-parts, map-table (arePoints (facBlock .points)) (λ i. cellsOf facBlock (getD (B .fac) (3 * m + i) [])) 0 3)
-        (every-table _ 0 3 (λ i x y. c .fac .points _ (fac-at i (omega arith))))
-
-    sdc-points : arePoints (sdcBlock s .points) (superFrame s B m .sdc) ≡ true
-    sdc-points = rw sdc-part (c .sdc .points _ sdc-at)
-
-    count-low : (i : ℕ) → countAt s (q .count) i ≤ 3 * m + i
-    unfolding countAt
-    count-low i = omega (arith, K .counted)
-
-    rows-points : every (table (λ i. rowPoints s (countAt s (q .count) i) (part (slotSize s) (superFrame s B m .msc) i)) 0 3) ≡ true
-    rows-points = every-table _ 0 3 (λ i x y. row i (omega arith))
-      where
-        row : (i : ℕ) → i < 3 → rowPoints s (countAt s (q .count) i) (part (slotSize s) (superFrame s B m .msc) i) ≡ true
-        row i h = rw (row-part i h) (row-points s c (B .frames) (3 * m + i) (λ j x. frame-at j (omega arith)) (countAt s (q .count) i) (count-low i))
-
-    fillers-points : sameNumbers (fillersOf s (superFrame s B m .msc)) (fillers s) ≡ true
-    fillers-points = rw fillers-are (sameNumbers-refl (fillers s))
-
     fed-points : every (pointTests s (q .count) (feeding (superFrame s B m) fac sdc msc)) ≡ true
-    unfolding pointTests feeding every
-    fed-points = rw (every-append, every-append, fac-points, sdc-points, rows-points, fillers-points)
+    fed-points = sent-points (q .count) (omega (arith, K .counted)) fac sdc msc
 
     -- Nor does 14.
     fed-finished : finishedFrames s q (rowsOf s (superFrame s B m .msc)) ≡ table (frameAt s (B .frames)) (3 * m - (depth s - 1)) (3 * m + 3 - (depth s - 1) - (3 * m - (depth s - 1)))

@@ -1,5 +1,5 @@
--- Demand 2 on single calls: which calls Read refuses by 13 and 14, what it hands out, and which FAC cells, SDC cells and fillers Code leaves, in 01's words. That the rows of Code are the standard's is said of whole runs (Demand3). 01 "Buffers and state" and "Operations".
-use Prim.Native.Nat.{ℕ, _+_, _-_, _*_, _≤_, _<_}
+-- Demand 2: which calls Read refuses by 13 and 14, what it hands out, and which FAC cells, SDC cells and fillers Code leaves, in 01's words; and that 13 refuses nothing that a coder's run sends. That the rows of Code are the standard's is said of whole runs (Demand3). 01 "Buffers and state" and "Operations".
+use Prim.Native.Nat.{ℕ, _+_, _-_, _*_, _≤_, _<_, min}
 use mathlib.Core.Path.{_≡_}
 use mathlib.Core.Logic.{_↔_}
 use mathlib.Core.Bool.{Bool, true, false}
@@ -25,8 +25,9 @@ use Rattle.superframe.specs.Memory.{slotSize}
 use Rattle.superframe.specs.Interleaving.{delay, finishedFrames, fillers}
 use Rattle.superframe.specs.Call.{part}
 use Rattle.superframe.specs.Code.{CodeCall, CodeYield, codeRefusal, codeOf, progressOf}
-use Rattle.superframe.specs.Read.{ReadCall, ReadYield, rowsOf, fillersOf, countAt, answerNumber, answerFrames, answerBlock, orderRefusal, answerOf, readOf}
+use Rattle.superframe.specs.Read.{ReadCall, ReadYield, rowsOf, fillersOf, countAt, answerNumber, answerFrames, answerBlock, orderRefusal, readOf}
 use Rattle.superframe.specs.Facts.{BytesFit, CellsFit}
+use Rattle.superframe.specs.Runs.{SuperFrame, Run, cells}
 
 -- Cell j of a flat list is a point.
 unfoldable pub cellIsPoint : Constellation → List ℤ → ℕ → Bool
@@ -88,22 +89,51 @@ RefusedBy a number block = (answerNumber a ≡ number) × (answerBlock a ≡ blo
 abbrev pub FinishedWith : Answer → ℕ → Type 0
 FinishedWith a frames = (answerNumber a ≡ 0) × (answerFrames a ≡ frames)
 
+-- The answer that a Read call yields.
+abbrev pub answered : State → List ℤ → ReadCall → Answer
+answered state memory c = readOf state memory c .reading .answer
+
+-- Super frame m of the cells that a run sends, from 0; empty past the last.
+unfoldable pub sentAt : Run → ℕ → SuperFrame
+sentAt run m = getD (cells run) m (record { fac = []; sdc = []; msc = [] })
+
+-- A Read call lends it, with whatever outputs.
+pub record LendsSent (run : Run) (m : ℕ) (c : ReadCall) : Type 0 where
+  pub sent : m < length (cells run)
+  pub fac : c .faccells ≡ sentAt run m .fac
+  pub sdc : c .sdccells ≡ sentAt run m .sdc
+  pub msc : c .msccells ≡ sentAt run m .msc
+
+-- The count of a reader before super frame m: it has seen 3m frames, and the count stops at D - 1.
+unfoldable pub countBefore : Settings → ℕ → ℕ
+countBefore s m = min (3 * m) (depth s - 1)
+
 -- Demand 2, one statement about single calls.
 pub record Demand2 : Type 0 where
   -- Where no number up to 12 refuses a Read call: 13 with the lowest block that has a cell not ignored which is no point, or a wrong filler,
   pub refuses13 : (state : State) (memory : List ℤ) (c : ReadCall) → orderRefusal state memory c ≡ 0 → (b : ℕ)
-      → RefusedBy (answerOf state memory c) 13 b ↔ Lowest (Thirteen state c) b
+      → RefusedBy (answered state memory c) 13 b ↔ Lowest (Thirteen state c) b
   -- else 14 with the lowest block that no bits give,
   pub refuses14 : (state : State) (memory : List ℤ) (c : ReadCall) → orderRefusal state memory c ≡ 0 → (b : ℕ)
-      → RefusedBy (answerOf state memory c) 14 b ↔ (Nowhere (Thirteen state c) × Lowest (Fourteen state memory c) b)
+      → RefusedBy (answered state memory c) 14 b ↔ (Nowhere (Thirteen state c) × Lowest (Fourteen state memory c) b)
   -- else acceptance: a call begun at a count finishes count + 3 - (D - 1) frames, none where that is negative.
   pub finishes : (state : State) (memory : List ℤ) (c : ReadCall) → orderRefusal state memory c ≡ 0 → (n : ℕ)
-      → FinishedWith (answerOf state memory c) n
+      → FinishedWith (answered state memory c) n
       ↔ (Nowhere (Thirteen state c) × Nowhere (Fourteen state memory c) × (n ≡ state .count + 3 - (depth (state .settings) - 1)))
   -- What it then hands out.
-  pub handsOut : (state : State) (memory : List ℤ) (c : ReadCall) → answerNumber (answerOf state memory c) ≡ 0
+  pub handsOut : (state : State) (memory : List ℤ) (c : ReadCall) → answerNumber (answered state memory c) ≡ 0
       → HandsOut (state .settings) (finishedOf state memory c) c (readOf state memory c)
   -- What an accepted Code call leaves.
   pub sends : (state : State) (memory : List ℤ) (c : CodeCall) → codeRefusal state memory c ≡ 0 → Sends (state .settings) c (codeOf state memory c)
   -- For settings that are not refused: reading a block's cells gives its bits, and different bits give different cells.
   pub recovers : (s : Settings) → refusal s ≡ 0 → ReadsBytes facBlock × ReadsBytes (sdcBlock s) × ReadsBytes (mscBlock s)
+  -- The last clause: no cell or filler that a coder's run from a reset sends falls under 13 for a reader at that count,
+  pub sendable : (run : Run) (m : ℕ) (c : ReadCall) → LendsSent run m c → Nowhere (NoPoint (run .begun .settings) (countBefore (run .begun .settings) m) c)
+  -- so that 13 refuses only what such a run can't send there.
+  pub unsent : (state : State) (memory : List ℤ) (c : ReadCall) → orderRefusal state memory c ≡ 0 → (b : ℕ)
+      → RefusedBy (answered state memory c) 13 b
+      → (run : Run) (m : ℕ)
+      → run .begun .settings ≡ state .settings
+      → state .count ≡ countBefore (state .settings) m
+      → LendsSent run m c
+      → ⊥

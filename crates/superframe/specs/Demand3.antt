@@ -6,27 +6,16 @@ use mathlib.Core.Logic.{_↔_}
 use mathlib.Core.List.{List, _++_, map}
 use lib.ListN.{length, take, replicate}
 use lib.Dec.{eqb, leb}
+use Rattle.settings.specs.declared.Settings.{Settings}
 use Rattle.settings.specs.Sizes.{depth}
 use Rattle.block.specs.Block.{bitCount}
 use Rattle.block.specs.Points.{every}
 use Rattle.frame.specs.Msc.{mscBlock}
-use Rattle.superframe.specs.Code.{CodeCall}
 use Rattle.superframe.specs.Read.{ReadCall}
-use Rattle.superframe.specs.Runs.{Begun, stateAt, memoryAt, Bits, brought, sent, refusals, Closed, readCount, handed, Fed, Accepts, SuperFrame}
+use Rattle.superframe.specs.Runs.{Begun, stateAt, memoryAt, Bits, refusals, Closed, readCount, handed, Fed, Accepts, SuperFrame, Run, bits, cells}
 use Rattle.superframe.specs.Standard.{standard}
 
--- A run: an accepted Reset, and a list of Code calls, refused ones included.
-pub record Run : Type 0 where
-  pub begun : Begun
-  pub calls : List CodeCall
-
--- The bits that a run brings, the cells that it sends, and the standard's cells.
-unfoldable pub bits : Run → Bits
-bits run = brought (stateAt (run .begun)) (memoryAt (run .begun)) (run .calls)
-
-unfoldable pub cells : Run → List SuperFrame
-cells run = sent (stateAt (run .begun)) (memoryAt (run .begun)) (run .calls)
-
+-- The standard's cells of a run.
 unfoldable pub standardCells : Run → List SuperFrame
 standardCells run = standard (run .begun .settings) (bits run)
 
@@ -34,6 +23,15 @@ standardCells run = standard (run .begun .settings) (bits run)
 unfoldable pub firstBits : ℕ → ℕ → Bits → Bits
 firstBits D j b =
     record { fac = take (3 * j) (b .fac); sdc = take j (b .sdc); frames = take (3 * j - (D - 1)) (b .frames) }
+
+-- What a reader has handed out at the end of a closed run: all FAC and SDC blocks, every multiplex frame before the closing, and of the closing's exactly the first two, in short interleaving all six.
+unfoldable pub allBits : Settings → Bits → Bits
+allBits s b =
+    record {
+      fac = b .fac;
+      sdc = b .sdc;
+      frames = take (length (b .frames) - 6) (b .frames) ++ replicate (7 - depth s) (replicate (bitCount (mscBlock s)) 0);
+    }
 
 -- The number of a Code call of a run: 0, or 9, 10 or 11.
 unfoldable pub runNumber : ℕ → Bool
@@ -59,16 +57,14 @@ pub record Demand3 : Type 0 where
       → Accepts (standardCells run) (stateAt reader) (memoryAt reader) calls
       × (handed (stateAt reader) (memoryAt reader) calls
       ≡ firstBits (depth (reader .settings)) (readCount (stateAt reader) (memoryAt reader) calls) (bits run))
-  -- At the end it has handed out every multiplex frame before the closing, and of the closing's exactly the first two, in short interleaving all six.
+  -- At the end of a closed run it has handed out all blocks, and all frames but the last of the closing, as brought.
   pub readsAll :
       (run : Run) (reader : Begun) (calls : List ReadCall)
       → reader .settings ≡ run .begun .settings
       → Closed (run .begun .settings) (bits run)
       → Fed (standardCells run) (stateAt reader) (memoryAt reader) calls
       → readCount (stateAt reader) (memoryAt reader) calls ≡ length (bits run .sdc)
-      → handed (stateAt reader) (memoryAt reader) calls .frames
-      ≡ take (length (bits run .frames) - 6) (bits run .frames)
-      ++ replicate (7 - depth (reader .settings)) (replicate (bitCount (mscBlock (reader .settings))) 0)
+      → handed (stateAt reader) (memoryAt reader) calls ≡ allBits (reader .settings) (bits run)
   -- Every run's cells can be fed whole: there are such Read calls.
   pub readable :
       (run : Run) (reader : Begun)

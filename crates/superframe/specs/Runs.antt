@@ -87,6 +87,18 @@ refusals state memory (c ∷ cs) =
     let y = codeOf state memory c in
     y .done .refusal ∷ refusals (y .done .state) (y .memory) cs
 
+-- A run: an accepted Reset, and a list of Code calls, refused ones included.
+pub record Run : Type 0 where
+  pub begun : Begun
+  pub calls : List CodeCall
+
+-- The bits that a run brings, and the cells that it sends.
+unfoldable pub bits : Run → Bits
+bits run = brought (stateAt (run .begun)) (memoryAt (run .begun)) (run .calls)
+
+unfoldable pub cells : Run → List SuperFrame
+cells run = sent (stateAt (run .begun)) (memoryAt (run .begun)) (run .calls)
+
 -- A run is closed if its last two accepted calls, that is its last six multiplex frames, have all MSC bits zero.
 pub record Closed (s : Settings) (b : Bits) : Type 0 where
   pub zeros : drop (length (b .frames) - 6) (b .frames) ≡ replicate 6 (replicate (bitCount (mscBlock s)) 0)

@@ -1,0 +1,62 @@
+-- No cell or filler of a run's super frames falls under 13 for a reader at that count. Assumes the coding's record.
+use Prim.Native.Nat.{ℕ, _*_, _≤_, _<_}
+use mathlib.Core.Path.{_≡_, sym, ap, _∙_, subst}
+use mathlib.Core.List.{[]}
+use native.Mathlib.Nat.{zero-add}
+use native.Mathlib.Omega.{arith}
+use lib.ListN.{length, getD}
+use Rattle.lists.proofs.Tables.{length-table, table-at}
+use Rattle.settings.specs.declared.Settings.{Settings}
+use Rattle.settings.specs.Refusal.{refusal}
+use Rattle.superframe.specs.Read.{ReadCall, pointTests}
+use Rattle.superframe.specs.Runs.{Run, bits, cells}
+use Rattle.superframe.specs.Standard.{superFrame, standard}
+use Rattle.superframe.specs.Demand2.{NoPoint, Nowhere, sentAt, LendsSent, countBefore}
+use Rattle.superframe.specs.Demand3.{standardCells}
+use Rattle.superframe.proofs.Coding.{Coding}
+use Rattle.superframe.proofs.Tests.{all-nowhere}
+use Rattle.superframe.proofs.Faults.{points-mean}
+use Rattle.superframe.proofs.ReadCalls.{feeding, cells-long, sent-points}
+use Rattle.superframe.proofs.Demand3.{begun-allowed, bits-whole, run-sends}
+
+module _ (coding : (s : Settings) → refusal s ≡ 0 → Coding s) (run : Run) (m : ℕ) (c : ReadCall) (L : LendsSent run m c) where
+  -- As many super frames are sent as SDC blocks are brought.
+  brought-low : m < length (bits run .sdc)
+  unfolding standardCells standard
+  brought-low = let e : length (cells run) ≡ length (bits run .sdc) = ap length (run-sends coding run) ∙ length-table _ 0 (length (bits run .sdc)) in omega (arith, L .sent)
+
+  -- Super frame m is the standard's.
+  sent-is : sentAt run m ≡ superFrame (run .begun .settings) (bits run) m
+  unfolding sentAt standardCells standard
+  sent-is =
+      ap (λ l. getD l m (record { fac = []; sdc = []; msc = [] })) (run-sends coding run)
+      ∙ table-at (superFrame (run .begun .settings) (bits run)) 0 (length (bits run .sdc)) m _ brought-low
+      ∙ rw zero-add
+
+  lent-is : c ≡ feeding (superFrame (run .begun .settings) (bits run) m) (c .fac) (c .sdc) (c .msc)
+  unfolding feeding
+  lent-is =
+      λ i. record {
+        faccells = (L .fac ∙ ap (λ f. f .fac) sent-is) i;
+        sdccells = (L .sdc ∙ ap (λ f. f .sdc) sent-is) i;
+        msccells = (L .msc ∙ ap (λ f. f .msc) sent-is) i;
+        fac = c .fac;
+        sdc = c .sdc;
+        msc = c .msc;
+      }
+
+  count-low : countBefore (run .begun .settings) m ≤ 3 * m
+  unfolding countBefore
+  count-low = omega arith
+
+  pub sent-nowhere : Nowhere (NoPoint (run .begun .settings) (countBefore (run .begun .settings) m) c)
+  unfolding feeding
+  sent-nowhere =
+      let s = run .begun .settings in
+      let count = countBefore s m in
+      let call = feeding (superFrame s (bits run) m) (c .fac) (c .sdc) (c .msc) in
+      let C = coding s (begun-allowed (run .begun)) in
+      let w = bits-whole coding run in
+      subst (λ x. Nowhere (NoPoint s count x)) (sym lent-is)
+      (all-nowhere (NoPoint s count call) (pointTests s count call) (points-mean s count call (cells-long s C (bits run) w m brought-low)) .0
+      (sent-points s C (bits run) w m brought-low count count-low (c .fac) (c .sdc) (c .msc)))
