@@ -1,23 +1,29 @@
 #!/usr/bin/env python3
-"""desk.py DIRECTORY: codes super frames with desk_code of that directory and reads them back with desk_read, over pipes of odd chunks.
+"""desk.py DIRECTORY: tries the desk's program and its command bin/desk over pipes, with the program built in DIRECTORY.
 
-The last two super frames have MSC bits zero, so that every earlier frame comes out of the cell interleaver. Then come inputs that must be
-refused: each must be said in one line on standard error, which a line with the number of super frames may follow, and
-leave whole super frames only on standard output.
+Super frames are coded and read back; the last two have MSC bits zero, so that every earlier frame comes out of the cell interleaver. Then come
+inputs and outputs that fail, and arguments that are no job: what is said must be the line expected, whole super frames only must have been
+written, and bin/desk must end with a status that is not 0.
 """
-import re
+import os
+import resource
+import signal
 import subprocess
 import sys
+import tempfile
 import threading
 
+COMMAND = os.path.join(os.path.dirname(os.path.abspath(__file__)), "..", "bin", "desk")
 FAC = 27
-COUNT = re.compile(r"super frames: \d+")
 SUPER_FRAMES = 5
 # settings, bits of an SDC block, bits of a multiplex frame, bytes of a super frame's cells, frames that each super frame finishes
 EXAMPLES = [
     ("000300000100011D0000", 798, 10174, 2 * (390 + 810 + 17754), [0, 2, 3, 3, 3]),
     ("03050100010100640101", 326, 8797, 2 * (390 + 664 + 15638), [3, 3, 3, 3, 3]),
 ]
+UNREAD = "super frame 0: not read: the input failed\nsuper frames: 0\n"
+UNWRITTEN = "super frame 0: not written: the output failed\nsuper frames: 0\n"
+INSIDE = "super frame 0: the input ends inside it\nsuper frames: 0\n"
 
 
 class Draw:
@@ -38,10 +44,15 @@ class Draw:
         return bytes(out)
 
 
-def run(program, argument, data, chunk=1009):
+def must(condition, what):
+    if not condition:
+        sys.exit("desk.py: " + what)
+
+
+def run(words, data, chunk=1009, **kinds):
     """Feeds the data in chunks that fit no block; gives status, output and what was said."""
-    words = [program] + ([argument] if argument is not None else [])
-    child = subprocess.Popen(words, stdin=subprocess.PIPE, stdout=subprocess.PIPE, stderr=subprocess.PIPE)
+    options = {"stdin": subprocess.PIPE, "stdout": subprocess.PIPE, "stderr": subprocess.PIPE, **kinds}
+    child = subprocess.Popen(words, **options)
 
     def feed():
         try:
@@ -52,20 +63,25 @@ def run(program, argument, data, chunk=1009):
         except BrokenPipeError:
             pass
 
-    feeder = threading.Thread(target=feed)
+    feeder = threading.Thread(target=feed if child.stdin else lambda: None)
     feeder.start()
     said = []
     listener = threading.Thread(target=lambda: said.append(child.stderr.read()))
     listener.start()
-    out = child.stdout.read()
+    out = child.stdout.read() if child.stdout else b""
     feeder.join()
     listener.join()
     return child.wait(), out, said[0].decode()
 
 
-def must(condition, what):
-    if not condition:
-        sys.exit("desk.py: " + what)
+def both(program, words, data, what, out, said, good, **kinds):
+    """The program says and writes what is expected, and so does the command, which ends with 0 exactly if all went well."""
+    for start, wanted in ((program, 0), (COMMAND, 0 if good else 1)):
+        status, written, heard = run([start] + words, data, **kinds)
+        must(heard == said, f"{what}: said {heard!r}, not {said!r}")
+        must(written == out, f"{what}: the output is not what it must be")
+        must(status == wanted, f"{what}: {start} ended with {status}")
+    print(f"  {what}: " + "; then ".join(said.splitlines()))
 
 
 def make(sdc, frame, seed):
@@ -80,53 +96,129 @@ def make(sdc, frame, seed):
 
 
 def expected(frames, finished):
-    """What desk_read writes for them."""
+    """What `desk read` writes for them, super frame by super frame."""
     waiting = [msc for blocks in frames for msc in blocks[2:]]
-    out = b""
+    out = []
     for blocks, n in zip(frames, finished):
-        out += blocks[0] + blocks[1] + bytes([n]) + b"".join(waiting[:n])
+        out.append(blocks[0] + blocks[1] + bytes([n]) + b"".join(waiting[:n]))
         waiting = waiting[n:]
     return out
 
 
-def refused(done, what, whole):
-    _, out, said = done
-    lines = said.splitlines()
-    must(lines and not COUNT.fullmatch(lines[0]), what + ": not said: " + repr(said))
-    must(all(COUNT.fullmatch(line) for line in lines[1:]) and len(lines) <= 2, what + ": more than a line: " + repr(said))
-    must(out == whole, what + ": the output is not of the whole super frames before")
-    print("  " + what + ": " + "; then ".join(lines))
-
-
-def example(code, read, settings, sdc, frame, cell_bytes, finished):
+def example(program, settings, sdc, frame, cell_bytes, finished):
     frames = make(sdc, frame, 1)
     bits = b"".join(b"".join(blocks) for blocks in frames)
-    status, cells, said = run(code, settings, bits)
-    must(status == 0 and len(cells) == SUPER_FRAMES * cell_bytes, "desk_code: " + said)
+    blocks = expected(frames, finished)
+    status, cells, said = run([program, "code", settings], bits)
+    must(status == 0 and len(cells) == SUPER_FRAMES * cell_bytes and said == "super frames: 5\n", "desk code: " + said)
     print(settings + ": " + said.strip())
-    status, back, said = run(read, settings, cells)
-    must(status == 0 and back == expected(frames, finished), "desk_read hands out something else: " + said)
-    print("  read back: " + said.strip())
+    both(program, ["code", settings], bits, "coded again", cells, "super frames: 5\n", True)
+    both(program, ["read", settings], cells, "read back", b"".join(blocks), "super frames: 5\n", True)
     one = len(bits) // SUPER_FRAMES
-    refused(run(code, settings, bits[:2 * one + 5]), "input that ends inside a super frame", cells[:2 * cell_bytes])
+    inside = "super frame 2: the input ends inside it\nsuper frames: 2\n"
+    both(program, ["code", settings], bits[:2 * one + 5], "input that ends inside a super frame", cells[:2 * cell_bytes], inside, False)
+    both(program, ["code", settings], bits[:5 * one // 2], "half a super frame", cells[:2 * cell_bytes], inside, False)
+    both(program, ["code", settings], bits[:1], "one byte", b"", INSIDE, False)
+    both(program, ["code", settings], b"", "no input", b"", "super frames: 0\n", True)
     spare = bytearray(bits[:2 * one])
     spare[one + FAC + (sdc + 7) // 8 - 1] |= 1
-    refused(run(code, settings, bytes(spare)), "a spare bit set", cells[:cell_bytes])
-    refused(run(read, settings, cells[:cell_bytes + 1]), "cells that end inside a super frame", expected(frames[:1], finished[:1]))
+    refused = "super frame 1: refused: 11, a spare bit set\nsuper frames: 1\n"
+    both(program, ["code", settings], bytes(spare), "a spare bit set", cells[:cell_bytes], refused, False)
+    both(program, ["read", settings], cells[:cell_bytes + 1], "cells that end inside a super frame", blocks[0],
+         "super frame 1: the input ends inside it\nsuper frames: 1\n", False)
     damaged = bytearray(cells)
     damaged[cell_bytes:cell_bytes + 2] = b"\2\0"
-    refused(run(read, settings, bytes(damaged)), "a cell that is no point", expected(frames[:1], finished[:1]) if finished[0] == 0 else expected(frames, finished)[:len(expected(frames[:1], finished[:1]))])
+    refused = "super frame 1: refused: 13, a cell that is no point of its constellation, or a wrong filler, block 0, FAC\nsuper frames: 1\n"
+    both(program, ["read", settings], bytes(damaged), "a cell that is no point", blocks[0], refused, False)
+    failures(program, ["code", settings], bits)
+    failures(program, ["read", settings], cells)
+    part(program, ["code", settings], bits, cells, cell_bytes)
+
+
+def failures(program, words, data):
+    """Inputs and outputs that fail, and a reader that goes away."""
+    with open("/dev/full", "wb") as full:
+        both(program, words, data, "output to a full device", b"", UNWRITTEN, False, stdout=full)
+    closed = ["sh", "-c", 'exec "$0" "$@" >&-']
+    for start, wanted in ((program, 0), (COMMAND, 1)):
+        status, _, said = run(closed + [start] + words, data)
+        must(status == wanted and said == UNWRITTEN, f"output to a closed descriptor: {status}, {said!r}")
+    closed = ["sh", "-c", 'exec "$0" "$@" <&-']
+    for start, wanted in ((program, 0), (COMMAND, 1)):
+        status, out, said = run(closed + [start] + words, b"")
+        must(status == wanted and said == UNREAD and out == b"", f"input from a closed descriptor: {status}, {said!r}")
+    folder = os.open("/", os.O_RDONLY)
+    both(program, words, b"", "input from a directory", b"", UNREAD, False, stdin=folder)
+    os.close(folder)
+    for start, wanted in ((program, -signal.SIGPIPE), (COMMAND, 128 + signal.SIGPIPE)):
+        reader, writer = os.pipe()
+        os.close(reader)
+        status, _, said = run([start] + words, data, stdout=writer)
+        os.close(writer)
+        must(status == wanted and said == "", f"a reader that goes away: {status}, {said!r}")
+    print("  output to a closed descriptor, input from one, a reader that goes away: as they must be")
+
+
+def part(program, words, data, cells, cell_bytes):
+    """A write that fails after a part: the super frames counted stand whole in the file, and a part of one more."""
+    room = cell_bytes + 1000
+
+    def limited():
+        signal.signal(signal.SIGXFSZ, signal.SIG_IGN)
+        resource.setrlimit(resource.RLIMIT_FSIZE, (room, room))
+
+    with tempfile.NamedTemporaryFile() as file:
+        status, _, said = run([program] + words, data, stdout=file, preexec_fn=limited)
+        with open(file.name, "rb") as again:
+            written = again.read()
+    must(said == "super frame 1: not written: the output failed\nsuper frames: 1\n" and status == 0, f"a write that comes short: {said!r}")
+    must(written == cells[:room], "a write that comes short: the file is not the beginning of the output")
+    print("  a write that comes short after a part: " + "; then ".join(said.splitlines()))
+
+
+def arguments(program):
+    settings = EXAMPLES[0][0]
+    status, out, usage = run([program], b"")
+    must(status == 0 and out == b"" and usage.startswith("usage: desk JOB SETTINGS\n"), f"no argument: {usage!r}")
+    must("code" in usage and "read" in usage, "the usage names the jobs")
+    for what, words in [
+        ("no argument", []),
+        ("a job alone", ["code"]),
+        ("settings alone", [settings]),
+        ("an unknown job", ["cod", settings]),
+        ("a job and more", ["codes", settings]),
+        ("a job in capitals", ["CODE", settings]),
+        ("an empty job", ["", settings]),
+        ("a long job", ["c" * 4096, settings]),
+        ("an argument too many", ["code", settings, settings]),
+        ("settings before the job", [settings, "code"]),
+        ("short settings", ["code", "0003"]),
+        ("long settings", ["code", settings + "0"]),
+        ("settings of forty digits", ["code", settings + settings]),
+        ("settings in lower case", ["code", settings.lower()]),
+        ("settings with a line feed", ["code", settings[:-1] + "\n"]),
+        ("empty settings", ["read", ""]),
+    ]:
+        both(program, words, b"", what, b"", usage, False)
+    for number, words, bad in [
+        (1, "robustness mode not 0 to 3", "040300000100011D0000"),
+        (2, "spectrum occupancy not allowed for the robustness mode", "02000000010000000000"),
+        (3, "MSC mode not 0 to 3", "00030400010000000000"),
+        (4, "protection level A or B not allowed for the MSC mode", "00030302010000000000"),
+        (5, "VSPP level not allowed for the MSC mode", "00030000010100000000"),
+        (6, "SDC mode or interleaving not 0 or 1", "00030000010000000200"),
+        (7, "too many bytes in part A", "000300000100FFFF0000"),
+    ]:
+        for job in ("code", "read"):
+            both(program, [job, bad], b"", "settings refused", b"", f"settings: refused: {number}, {words}\n", False)
 
 
 def main():
     must(len(sys.argv) == 2, "usage: desk.py DIRECTORY")
-    code, read = sys.argv[1] + "/desk_code", sys.argv[1] + "/desk_read"
+    program = os.path.join(sys.argv[1], "desk")
     for one in EXAMPLES:
-        example(code, read, *one)
-    for program in (code, read):
-        refused(run(program, None, b""), "no argument", b"")
-        refused(run(program, "0003", b""), "a short argument", b"")
-        refused(run(program, "040300000100011D0000", b""), "settings refused", b"")
+        example(program, *one)
+    arguments(program)
     print("all as it must be")
 
 

@@ -1,4 +1,5 @@
 // Reads a line of settings from standard input and writes the line that answers it.
+use libc::STDERR_FILENO;
 use libc::STDIN_FILENO;
 use libc::STDOUT_FILENO;
 ghost use Prim.Native.Nat.{_≤_};
@@ -36,11 +37,13 @@ fn read_line(bytes: &mut [u8; 21]) -> usize {
     n
 }
 
-// Writes the first n bytes.
+// Writes the first n bytes, or says that they could not be written.
 fn write_text(text: &[u8; 32], n: usize) {
     let all = &text[..];
     if n <= all.len() {
-        io::write_all(STDOUT_FILENO, &all[0..n]);
+        if !io::write_all(STDOUT_FILENO, &all[0..n]) {
+            io::write_all(STDERR_FILENO, b"not written: the output failed\n");
+        }
     }
 }
 

@@ -1,14 +1,16 @@
 -- The text of an answer.
-use mathlib.Core.Path.{_≡_, refl, _∙_, sym, ap}
+use mathlib.Core.Path.{_≡_, refl, _∙_, sym, ap, ap₂}
 use mathlib.Core.List.{List, [], _∷_, _++_}
-use Prim.Native.Nat.{ℕ, _+_, _/_, _%_, _<_, _≤_}
+use Prim.Native.Nat.{ℕ, zero, suc, _+_, _*_, _/_, _%_, _^_, _<_, _≤_}
+use native.Mathlib.Nat.{mod-eq-of-lt, one-le-pow, pow-suc}
 use native.Mathlib.Numerals.{towards-suc}
 use native.Mathlib.Omega.{arith}
 use lib.ListN.{length, set}
 use lib.Seq.{sets}
 use borrow.Author.Tests.{lt-ltb, le-ltb, eq-eqb, ne-eqb}
 use Rattle.settings.specs.declared.Lengths.{Lengths}
-use Rattle.line.specs.Written.{glyph, group, groups, space, decimal, lineEnd, written, badLine, answerTo, answerOf}
+use Rattle.io.specs.Digits.{digits}
+use Rattle.line.specs.Written.{glyph, group, groups, space, decimalBy, decimal, lineEnd, written, badLine, answerTo, answerOf}
 use Rattle.line.specs.Read.{parseOf}
 use Rattle.line.specs.declared.Parsed.{Parsed}
 use Rattle.line.specs.declared.Parsed.the-variants.{Line, Bad}
@@ -29,17 +31,42 @@ unfolding groups group space lineEnd
 five l d d₁ d₂ d₃ d₄ d₅ e₁ e₂ e₃ e₄ e₅ = rw (e₅, e₄, e₃, e₂, e₁)
 
 -- A number in decimal by its size.
+last-digit : (f n : ℕ) → n < 10 → decimalBy (suc f) n ≡ (48 + n) ∷ []
+unfolding decimalBy
+last-digit f n h = rw (lt-ltb n 10 h)
+
+more-digits : (f n : ℕ) → 10 ≤ n → decimalBy (suc f) n ≡ decimalBy f (n / 10) ++ ((48 + n % 10) ∷ [])
+unfolding decimalBy
+more-digits f n h = rw (le-ltb n 10 h)
+
 pub one-digit : (n : ℕ) → n < 10 → decimal n ≡ (48 + n) ∷ []
 unfolding decimal
-one-digit n h = rw (lt-ltb n 10 h)
+one-digit n h = last-digit 19 n h
 
 pub two-digits : (n : ℕ) → 10 ≤ n → n < 100 → decimal n ≡ (48 + n / 10) ∷ (48 + n % 10) ∷ []
 unfolding decimal
-two-digits n h k = rw (le-ltb n 10 h, lt-ltb n 100 k)
+two-digits n h k = more-digits 19 n h ∙ ap (λ l. l ++ ((48 + n % 10) ∷ [])) (last-digit 18 (n / 10) (omega arith))
 
-pub three-digits : (n : ℕ) → 100 ≤ n → decimal n ≡ (48 + n / 100) ∷ (48 + n / 10 % 10) ∷ (48 + n % 10) ∷ []
+pub three-digits : (n : ℕ) → 100 ≤ n → n < 1000 → decimal n ≡ (48 + n / 100) ∷ (48 + n / 10 % 10) ∷ (48 + n % 10) ∷ []
 unfolding decimal
-three-digits n h = rw (le-ltb n 10 (omega arith), le-ltb n 100 h)
+three-digits n h k =
+    let e : n / 10 / 10 ≡ n / 100 = omega arith in
+    more-digits 19 n (omega arith)
+    ∙ ap (λ l. l ++ ((48 + n % 10) ∷ [])) (more-digits 18 (n / 10) (omega arith) ∙ ap (λ l. l ++ ((48 + n / 10 % 10) ∷ [])) (last-digit 17 (n / 10 / 10) (omega arith) ∙ ap (λ m. (48 + m) ∷ []) e))
+
+-- The digits that the kit's function writes are these.
+pub digits-decimal : (k f n : ℕ) → k ≤ f → n < 10 ^ (suc k) → (0 < k → 10 ^ k ≤ n) → digits 10 (suc k) n ≡ decimalBy (suc f) n
+digits-decimal zero f n h low high =
+    let l : n < 10 = low in
+    rw (mod-eq-of-lt l, lt-ltb n 10 l) (sym (last-digit f n l))
+digits-decimal (suc k) zero n h low high = absurd (omega arith)
+digits-decimal (suc k) (suc f) n h low high =
+    let p : 10 ^ suc (suc k) ≡ 10 ^ suc k * 10 = pow-suc 10 (suc k) in
+    let q : 10 ^ suc k ≡ 10 ^ k * 10 = pow-suc 10 k in
+    let g = high (omega arith) in
+    let one : 1 ≤ 10 ^ k = one-le-pow k 10 (omega arith) in
+    ap₂ (λ a b. a ++ (b ∷ [])) (digits-decimal k f (n / 10) (omega arith) (omega (arith, low, p)) (λ z. omega (arith, g, q))) (rw (lt-ltb (n % 10) 10 (omega arith)))
+    ∙ sym (more-digits (suc f) n (omega (arith, g, q, one)))
 
 pub written-refusal : (l : Lengths) → (l .refusal ≡ 0 → ⊥) → written l ≡ decimal (l .refusal) ++ lineEnd
 unfolding written

@@ -1,5 +1,5 @@
 -- What the lengths program prints. 01 "Cases", the lengths program.
-use Prim.Native.Nat.{ℕ, _+_, _/_, _%_}
+use Prim.Native.Nat.{ℕ, zero, suc, _+_, _/_, _%_}
 use mathlib.Core.Bool.{cond}
 use mathlib.Core.List.{List, [], _∷_, _++_}
 use lib.Dec.{ltb, eqb}
@@ -17,11 +17,14 @@ glyph n = cond (ltb n 10) (48 + n) (55 + n)
 unfoldable pub group : ℕ → List ℕ
 group n = glyph (n / 4096 % 16) ∷ glyph (n / 256 % 16) ∷ glyph (n / 16 % 16) ∷ glyph (n % 16) ∷ []
 
--- A number below 1000 in decimal.
+-- A number in decimal, of at most so many digits.
+unfoldable pub decimalBy : ℕ → ℕ → List ℕ
+decimalBy zero n = []
+decimalBy (suc f) n = cond (ltb n 10) ((48 + n) ∷ []) (decimalBy f (n / 10) ++ ((48 + n % 10) ∷ []))
+
+-- A number of at most 64 binary digits in decimal: it has at most twenty digits.
 unfoldable pub decimal : ℕ → List ℕ
-decimal n =
-    cond (ltb n 10) ((48 + n) ∷ [])
-    (cond (ltb n 100) ((48 + n / 10) ∷ (48 + n % 10) ∷ []) ((48 + n / 100) ∷ (48 + n / 10 % 10) ∷ (48 + n % 10) ∷ []))
+decimal n = decimalBy 20 n
 
 -- A space and a line feed.
 unfoldable pub space : List ℕ

@@ -1,5 +1,6 @@
 use borrow.Author.Needs.{needs}
 use mathlib.Core.Path.{refl}
+use native.Mathlib.Omega.{arith}
 use Rattle.line.specs.Written.{lineEnd}
 use Rattle.line.proofs.Text.{one-digit, two-digits, three-digits}
 use Rattle.line.proofs.write.put_decimal.Statement.{statement}
@@ -20,7 +21,7 @@ returns-2 c =
 returns-3 : tie.Need-returns-3
 unfolding lineEnd
 returns-3 c =
-    let e = three-digits (c .before .before .args .n) (c .if2 .left) in
+    let e = three-digits (c .before .before .args .n) (c .if2 .left) (omega arith) in
     (rw e refl, rw e refl)
 
 pub put-decimal-spec : {M : Type 1} → statement M

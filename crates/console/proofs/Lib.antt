@@ -1,0 +1,5 @@
+pub mod Copied
+pub mod Said
+pub mod Lines
+pub mod Asked
+pub mod Turned

@@ -1,0 +1,5 @@
+pub mod Arguments
+pub mod Words
+pub mod Report
+pub mod Turn
+pub mod Contracts

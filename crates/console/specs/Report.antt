@@ -1,0 +1,56 @@
+-- What the program `desk` says on standard error.
+use Prim.Native.Nat.{ℕ}
+use mathlib.Core.Bool.{Bool, true, false, cond, _||_}
+use mathlib.Core.List.{List, [], _++_}
+use lib.Dec.{eqb}
+use Rattle.line.specs.Written.{decimal}
+use Rattle.console.specs.declared.End.{End}
+use Rattle.console.specs.declared.End.the-variants.{Whole, Inside, Unread, Unwritten, Stopped}
+use Rattle.console.specs.Words.{bytesIn, refusalWords, blockWords}
+
+-- The block of a refusal and its words; refusals other than 13 and 14 name none.
+unfoldable pub blockPart : ℕ → ℕ → List ℕ
+blockPart number block =
+    cond (eqb number 13 || eqb number 14) (bytesIn ", block " ++ decimal block ++ bytesIn ", " ++ blockWords number block) []
+
+-- A refusal: its number, its words, and its block.
+unfoldable pub refusedPart : ℕ → ℕ → List ℕ
+refusedPart number block =
+    bytesIn "refused: " ++ decimal number ++ bytesIn ", " ++ refusalWords number ++ blockPart number block
+
+-- Why a super frame did not go through.
+unfoldable pub why : End → List ℕ
+why Whole = []
+why Inside = bytesIn "the input ends inside it"
+why Unread = bytesIn "not read: the input failed"
+why Unwritten = bytesIn "not written: the output failed"
+why (Stopped number block) = refusedPart number block
+
+-- Whether a run ended otherwise than after a whole super frame.
+unfoldable pub failed : End → Bool
+failed Whole = false
+failed Inside = true
+failed Unread = true
+failed Unwritten = true
+failed (Stopped number block) = true
+
+-- A line of what ended a run at a super frame, counted from 0; none where the input ended after a whole one.
+unfoldable pub endLine : End → ℕ → List ℕ
+endLine end index =
+    cond (failed end) (bytesIn "super frame " ++ decimal index ++ bytesIn ": " ++ why end ++ bytesIn "\n") []
+
+-- A run: the line of what ended it, and the closing line with the super frames that went through.
+unfoldable pub reportOf : End → ℕ → List ℕ
+reportOf end count = endLine end count ++ bytesIn "super frames: " ++ decimal count ++ bytesIn "\n"
+
+-- Settings that are refused.
+unfoldable pub settingsLine : ℕ → List ℕ
+settingsLine number = bytesIn "settings: " ++ refusedPart number 0 ++ bytesIn "\n"
+
+-- Anything else than a job and its settings.
+unfoldable pub usage : List ℕ
+usage =
+    bytesIn "usage: desk JOB SETTINGS\n"
+    ++ bytesIn "jobs: code, super frames of bytes to super frames of cells;\n"
+    ++ bytesIn "      read, super frames of cells to super frames of bytes\n"
+    ++ bytesIn "settings: twenty hexadecimal digits, 0 to 9 and A to F\n"

@@ -1,0 +1,131 @@
+// What is said on standard error, written into a buffer.
+use crate::End;
+use crate::bytes::put_bytes;
+use crate::words::block_words;
+use crate::words::refusal_words;
+ghost use mathlib.Core.Path.{_≡_};
+ghost use Prim.Native.Nat.{_+_, _≤_};
+ghost use lib.ListN.{length};
+ghost use Rattle.line.specs.Written.{decimal};
+ghost use Rattle.console.specs.Contracts.{Put};
+ghost use Rattle.console.specs.Report.{blockPart, refusedPart, why, failed, endLine, reportOf, settingsLine, usage};
+
+// A text from a place of a buffer on, and where it ends.
+fn put(text: &[u8], out: &mut [u8], at: usize) -> usize
+    requires { ⌜ at + length (now text) ≤ length (now out) ⌝ }
+    ensures { λ r. ⌜ Put (length (now (text .entry))) (now (text .entry)) (now (out .entry)) at r (now (out .exit)) ⌝ }
+{
+    put_bytes(text, out, at);
+    at + text.len()
+}
+
+// A number in decimal.
+pub fn put_decimal(n: u64, out: &mut [u8], at: usize) -> usize
+    requires { ⌜ at + 20 ≤ length (now out) ⌝ }
+    ensures { λ r. ⌜ Put 20 (decimal n) (now (out .entry)) at r (now (out .exit)) ⌝ }
+{
+    let mut digits = [0u8; 20];
+    let k = io::decimal(n, &mut digits);
+    put(&digits[0..k], out, at)
+}
+
+// The block of a refusal; refusals other than 13 and 14 name none.
+fn put_block(number: u8, block: u8, out: &mut [u8], at: usize) -> usize
+    requires { ⌜ at + 100 ≤ length (now out) ⌝ }
+    ensures { λ r. ⌜ Put 100 (blockPart number block) (now (out .entry)) at r (now (out .exit)) ⌝ }
+{
+    if !((number == 13) | (number == 14)) {
+        return at;
+    }
+    let a = put(b", block ", out, at);
+    let b = put_decimal(block as u64, out, a);
+    let c = put(b", ", out, b);
+    block_words(number, block, out, c)
+}
+
+// A refusal: its number, its words, and its block.
+pub fn put_refused(number: u8, block: u8, out: &mut [u8], at: usize) -> usize
+    requires { ⌜ at + 200 ≤ length (now out) ⌝ }
+    ensures { λ r. ⌜ Put 200 (refusedPart number block) (now (out .entry)) at r (now (out .exit)) ⌝ }
+{
+    let a = put(b"refused: ", out, at);
+    let b = put_decimal(number as u64, out, a);
+    let c = put(b", ", out, b);
+    let d = refusal_words(number, out, c);
+    put_block(number, block, out, d)
+}
+
+// Why a super frame did not go through.
+fn put_why(end: End, out: &mut [u8], at: usize) -> usize
+    requires { ⌜ at + 200 ≤ length (now out) ⌝ }
+    ensures { λ r. ⌜ Put 200 (why end) (now (out .entry)) at r (now (out .exit)) ⌝ }
+{
+    match end {
+        End::Whole => at,
+        End::Inside => put(b"the input ends inside it", out, at),
+        End::Unread => put(b"not read: the input failed", out, at),
+        End::Unwritten => put(b"not written: the output failed", out, at),
+        End::Stopped(number, block) => put_refused(number, block, out, at),
+    }
+}
+
+// Whether a run ended otherwise than after a whole super frame.
+fn failed(end: End) -> bool
+    ensures { λ r. ⌜ r ≡ failed end ⌝ }
+{
+    match end {
+        End::Whole => false,
+        End::Inside => true,
+        End::Unread => true,
+        End::Unwritten => true,
+        End::Stopped(_, _) => true,
+    }
+}
+
+// The line of what ended a run at a super frame, if anything did but the end of the input.
+fn put_end(end: End, index: u64, out: &mut [u8]) -> usize
+    requires { ⌜ 256 ≤ length (now out) ⌝ }
+    ensures { λ r. ⌜ Put 256 (endLine end index) (now (out .entry)) 0 r (now (out .exit)) ⌝ }
+{
+    if !failed(end) {
+        return 0;
+    }
+    let a = put(b"super frame ", out, 0);
+    let b = put_decimal(index, out, a);
+    let c = put(b": ", out, b);
+    let d = put_why(end, out, c);
+    put(b"\n", out, d)
+}
+
+// What is said at the end of a run.
+pub fn report(end: End, count: u64, out: &mut [u8; 512]) -> usize
+    ensures { λ r. ⌜ Put 512 (reportOf end count) (now (out .entry)) 0 r (now (out .exit)) ⌝ }
+{
+    let a = put_end(end, count, out);
+    let b = put(b"super frames: ", out, a);
+    let c = put_decimal(count, out, b);
+    put(b"\n", out, c)
+}
+
+// What is said of settings that are refused.
+pub fn settings_refused(number: u8, out: &mut [u8; 512]) -> usize
+    ensures { λ r. ⌜ Put 512 (settingsLine number) (now (out .entry)) 0 r (now (out .exit)) ⌝ }
+{
+    let a = put(b"settings: ", out, 0);
+    let b = put_refused(number, 0, out, a);
+    put(b"\n", out, b)
+}
+
+// What is said where the arguments are no job with settings.
+pub fn put_usage(out: &mut [u8; 512]) -> usize
+    ensures { λ r. ⌜ Put 512 usage (now (out .entry)) 0 r (now (out .exit)) ⌝ }
+{
+    put(
+        b"usage: desk JOB SETTINGS\n\
+        jobs: code, super frames of bytes to super frames of cells;\n\
+        \x20     read, super frames of cells to super frames of bytes\n\
+        settings: twenty hexadecimal digits, 0 to 9 and A to F\n",
+        out,
+        0,
+    )
+}

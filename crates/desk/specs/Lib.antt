@@ -1,4 +1,0 @@
-pub mod Cells
-pub mod Words
-pub mod Output
-pub mod Room

@@ -1,0 +1,136 @@
+// The desk's program: it reads, calls the jobs and writes. What is decided and what is said stands in the library `jobs`.
+use codecall::reset::reset;
+use console::End;
+use console::Job;
+use console::Next;
+use console::Start;
+use console::arguments;
+use console::report;
+use console::turn;
+use jobs::buffers;
+use jobs::sizes;
+use jobs::superframes;
+use libc::STDERR_FILENO;
+use libc::STDIN_FILENO;
+use libc::STDOUT_FILENO;
+use settings::Settings;
+use superframe::State;
+ghost use Prim.Native.Nat.{_≤_};
+
+// A super frame, and the state after it.
+struct Turn {
+    next: Next,
+    state: State,
+}
+
+// A text from a function that says how much of it counts.
+fn say(text: &[u8; 512], n: usize)
+    requires { ⌜ n ≤ 512 ⌝ }
+{
+    let all = &text[..];
+    io::write_all(STDERR_FILENO, &all[0..n]);
+}
+
+fn say_usage() {
+    let mut text = [0u8; 512];
+    let n = report::put_usage(&mut text);
+    say(&text, n);
+}
+
+fn say_settings(number: u8) {
+    let mut text = [0u8; 512];
+    let n = report::settings_refused(number, &mut text);
+    say(&text, n);
+}
+
+fn say_run(end: End, count: u64) {
+    let mut text = [0u8; 512];
+    let n = report::report(end, count, &mut text);
+    say(&text, n);
+}
+
+// Fills a buffer; a read after that tells the end of the input from a read that failed.
+fn fill(bytes: &mut [u8]) -> Next {
+    let n = io::read_full(STDIN_FILENO, bytes);
+    let last = libc::read(STDIN_FILENO, &mut bytes[n..]);
+    turn::after_read(n, bytes.len(), last == 0)
+}
+
+// A super frame whose bytes have come.
+fn pass(job: Job, state: State, bytes: &[u8], memory: &mut [i16], out: &mut [u8]) -> Turn {
+    let step = superframes::step(job, state, bytes, memory, out);
+    let n = step.length;
+    let written = io::write_all(STDOUT_FILENO, &out[0..n]);
+    let outcome = step.outcome;
+    let after = step.state;
+    Turn {
+        next: turn::after_write(outcome, written),
+        state: after,
+    }
+}
+
+// The next super frame.
+fn take(job: Job, state: State, bytes: &mut [u8], memory: &mut [i16], out: &mut [u8]) -> Turn {
+    let got = fill(bytes);
+    match got {
+        Next::On => pass(job, state, bytes, memory, out),
+        Next::Over(end) => Turn {
+            next: Next::Over(end),
+            state,
+        },
+    }
+}
+
+// Super frames up to the first end. A loop that is proved to end counts its turns.
+fn run(job: Job, start: State, bytes: &mut [u8], memory: &mut [i16], out: &mut [u8]) {
+    let mut state = start;
+    let mut count: u64 = 0;
+    while count < u64::MAX {
+        let turn = take(job, state, bytes, memory, out);
+        let next = turn.next;
+        state = turn.state;
+        match next {
+            Next::On => count += 1,
+            Next::Over(end) => {
+                say_run(end, count);
+                return;
+            }
+        }
+    }
+}
+
+// A run from a reset; settings that it refuses are refused at the first super frame too.
+fn run_settings(job: Job, s: Settings, bytes: &mut [u8], memory: &mut [i16], out: &mut [u8]) {
+    let old = State {
+        settings: s,
+        position: 0,
+        count: 0,
+    };
+    let done = reset(old, s, memory);
+    let start = done.state;
+    run(job, start, bytes, memory, out);
+}
+
+// The same on the part of the largest buffers that the settings need.
+fn begin(job: Job, s: Settings) {
+    let space = sizes::room(job, s);
+    let mut bytes = buffers::cell_bytes();
+    let mut memory = buffers::memory();
+    let mut out = buffers::cell_bytes();
+    let n = space.input;
+    let m = space.memory;
+    run_settings(job, s, &mut bytes[0..n], &mut memory[0..m], &mut out);
+}
+
+fn main() {
+    let mut word = [0u8; 32];
+    let mut digits = [0u8; 32];
+    let n = os::arg(1, &mut word);
+    let m = os::arg(2, &mut digits);
+    let start = arguments::start(os::arg_count(), &word[..n], &digits[..m]);
+    match start {
+        Start::Usage => say_usage(),
+        Start::Refused(number) => say_settings(number),
+        Start::Begin(job, s) => begin(job, s),
+    }
+}

@@ -1,0 +1,168 @@
+-- The calls of Code and Read that a job makes of its buffers.
+use Prim.Native.Nat.{ℕ, zero, suc, _+_, _-_, _*_, _/_, _≤_}
+use mathlib.Core.Path.{_≡_, refl, sym, ap, _∙_}
+use mathlib.Core.List.{List, _∷_}
+use native.Mathlib.Nat.{sub-zero}
+use native.Mathlib.Omega.{arith}
+use lib.ListN.{length, take, drop, replicate, length-drop, length-replicate}
+use lib.Seq.{sets, take-length}
+use lib.IntN.{ℤ, pos}
+use lib.Dec.{eqb, leb}
+use borrow.Author.Tests.{eq-eqb, ne-eqb, eqb-true, leb-true, not-false}
+use Rattle.settings.specs.declared.Sizes.{Sizes}
+use Rattle.settings.specs.Sizes.{sizesOf}
+use Rattle.superframe.specs.declared.State.{State}
+use Rattle.superframe.specs.Code.{CodeCall, codeOf}
+use Rattle.superframe.specs.Read.{readOf}
+use Rattle.codecall.specs.Yields.{codeCall}
+use Rattle.readblocks.specs.Finishing.{readCall}
+use Rattle.settings.specs.Refusal.{first}
+use Rattle.superframe.proofs.Calls.{first-zero, first-own}
+use Rattle.cellrows.specs.Refusals.{lengthRefusal}
+use Rattle.cellrows.proofs.Laid.{take-sets}
+use Rattle.console.specs.declared.Job.{Job}
+use Rattle.console.specs.declared.Job.the-variants.{Code, Read}
+use Rattle.console.specs.declared.Outcome.the-variants.{Refused}
+use Rattle.jobs.specs.Cells.{bytesCells}
+use Rattle.jobs.specs.Contracts.{Enough, CodeRoom, ReadRoom, Lent, CellsLent}
+use Rattle.jobs.specs.SuperFrame.{JobYield, jobYield, refused, inputLength, outputLength, blocksLength, cellsLength, jobRefusal, jobOf, codeLent, codeWritten, readLent, readAnswered, jobCall}
+use Rattle.jobs.proofs.Turns.{bytes-cells-long}
+use Rattle.jobs.proofs.Rooms.{enough}
+
+-- A part up to the end of a list is the list's rest.
+pub rest-part : {A : Type 0} (l : List A) (a : ℕ) → take (length l - a) (drop a l) ≡ drop a l
+rest-part l a = ap (λ n. take n (drop a l)) (sym (length-drop a l)) ∙ take-length (drop a l)
+
+take-replicate : {A : Type 0} (v : A) (n m : ℕ) → n ≤ m → take n (replicate m v) ≡ replicate n v
+take-replicate v zero m h = refl
+take-replicate v (suc n) zero h = absurd (omega arith)
+take-replicate v (suc n) (suc m) h = ap (λ l. v ∷ l) (take-replicate v n m (omega arith))
+
+-- The front of a buffer of equal values.
+pub front-blank : {A : Type 0} (v : A) (n m : ℕ) (buffer : List A) → buffer ≡ replicate m v → n ≤ m → take (n - 0) buffer ≡ replicate n v
+front-blank v n m buffer e h = rw (sub-zero n, e) (take-replicate v n m h)
+
+-- Its length.
+pub front-long : {A : Type 0} (v : A) (n m : ℕ) (buffer : List A) → buffer ≡ replicate m v → n ≤ m → length (take (n - 0) buffer) ≡ n
+front-long v n m buffer e h = rw (front-blank v n m buffer e h) (length-replicate n v)
+
+-- The front of a buffer of cells is what was put there.
+pub front-cells : (bytes : List ℕ) (n : ℕ) (buffer cells : List ℤ) → n ≡ length bytes / 2 → cells ≡ sets buffer 0 (bytesCells bytes) → n ≤ length buffer
+    → take (n - 0) cells ≡ bytesCells bytes
+front-cells bytes n buffer cells en e h =
+    rw (sub-zero n, e) (take-sets 0 n buffer (bytesCells bytes) (en ∙ sym (bytes-cells-long bytes) ∙ omega arith) h)
+
+past : (a b : ℕ) → a + b - a ≡ b
+past a b = omega arith
+
+pub code-call : (z : Sizes) (bytes : List ℕ) (fac sdc msc : List ℤ) → Enough z → fac ≡ replicate 390 (pos 0) → sdc ≡ replicate 1692 (pos 0) → msc ≡ replicate 36712 (pos 0)
+    → codeCall (take 27 bytes) (take (27 + z .sdcbytes - 27) (drop 27 bytes)) (drop (27 + z .sdcbytes) bytes) fac (take (z .sdcnumbers - 0) sdc) (take (z .mscnumbers - 0) msc)
+    ≡ codeLent z bytes
+unfolding codeLent
+code-call z bytes fac sdc msc h ef es em =
+    rw (past 27 (z .sdcbytes), ef, front-blank (pos 0) (z .sdcnumbers) 1692 sdc es (h .sdcnumbers), front-blank (pos 0) (z .mscnumbers) 36712 msc em (h .mscnumbers))
+
+pub code-called : (state : State) (z : Sizes) (memory : List ℤ) (bytes out : List ℕ) (c : CodeCall) (y : JobYield) → z ≡ sizesOf (state .settings) → c ≡ codeLent z bytes
+    → y ≡ codeWritten (codeOf state memory c) out → y ≡ jobCall Code state memory bytes out
+unfolding jobCall
+code-called state z memory bytes out c y e f h = h ∙ ap (λ c. codeWritten (codeOf state memory c) out) (f ∙ ap (λ z. codeLent z bytes) e)
+
+pub read-call : (z : Sizes) (cells : List ℤ) (fac sdc msc : List ℕ) → Enough z → fac ≡ replicate 27 0 → sdc ≡ replicate 210 0 → msc ≡ replicate 13767 0
+    → readCall (take 390 cells) (take (390 + z .sdcnumbers - 390) (drop 390 cells)) (drop (390 + z .sdcnumbers) cells) fac (take (z .sdcbytes - 0) sdc) (take (z .mscbytes - 0) msc)
+    ≡ readLent z cells
+unfolding readLent
+read-call z cells fac sdc msc h ef es em =
+    rw (past 390 (z .sdcnumbers), ef, front-blank 0 (z .sdcbytes) 210 sdc es (h .sdcbytes), front-blank 0 (z .mscbytes) 13767 msc em (h .mscbytes))
+
+pub read-called : (state : State) (z : Sizes) (memory cells : List ℤ) (bytes out : List ℕ) (y : JobYield) → z ≡ sizesOf (state .settings) → cells ≡ bytesCells bytes
+    → y ≡ readAnswered (readOf state memory (readLent z cells)) out → y ≡ jobCall Read state memory bytes out
+unfolding jobCall
+read-called state z memory cells bytes out y e f h = h ∙ rw (f, e)
+
+-- What the calls require of the buffers.
+pub code-room : (state : State) (z : Sizes) (bytes out : List ℕ) (fac sdc msc : List ℤ) → Lent Code state z bytes out
+    → fac ≡ replicate 390 (pos 0) → sdc ≡ replicate 1692 (pos 0) → msc ≡ replicate 36712 (pos 0)
+    → CodeRoom (27 + z .sdcbytes) bytes fac (take (z .sdcnumbers - 0) sdc) (take (z .mscnumbers - 0) msc) out
+unfolding inputLength outputLength blocksLength cellsLength
+code-room state z bytes out fac sdc msc p ef es em =
+    let h = enough (state .settings) z (p .sizes) (p .accepted) in
+    record {
+      first = omega arith;
+      last = omega (arith, p .input);
+      room =
+          omega (
+            arith,
+            p .output,
+            h .facnumbers,
+            ap length ef ∙ length-replicate 390 (pos 0),
+            front-long (pos 0) (z .sdcnumbers) 1692 sdc es (h .sdcnumbers),
+            front-long (pos 0) (z .mscnumbers) 36712 msc em (h .mscnumbers),
+          );
+    }
+
+pub read-room : (state : State) (z : Sizes) (cells : List ℤ) (out fac sdc msc : List ℕ) → CellsLent state z cells out
+    → fac ≡ replicate 27 0 → sdc ≡ replicate 210 0 → msc ≡ replicate 13767 0
+    → ReadRoom (390 + z .sdcnumbers) cells fac (take (z .sdcbytes - 0) sdc) (take (z .mscbytes - 0) msc) out
+read-room state z cells out fac sdc msc p ef es em =
+    let h = enough (state .settings) z (p .sizes) (p .accepted) in
+    record {
+      first = omega arith;
+      last = omega (arith, p .input, h .facnumbers);
+      room =
+          omega (
+            arith,
+            p .output,
+            ap length ef ∙ length-replicate {A = ℕ} 27 0,
+            front-long 0 (z .sdcbytes) 210 sdc es (h .sdcbytes),
+            front-long 0 (z .mscbytes) 13767 msc em (h .mscbytes),
+          );
+    }
+
+-- The bytes of the cells of accepted settings.
+pub cells-long : (state : State) (z : Sizes) (bytes out : List ℕ) → Lent Read state z bytes out → length bytes ≤ 2 * 38794
+unfolding inputLength cellsLength
+cells-long state z bytes out p =
+    let h = enough (state .settings) z (p .sizes) (p .accepted) in
+    omega (arith, p .input, h .facnumbers, h .sdcnumbers, h .mscnumbers)
+
+pub cells-lent : (state : State) (z : Sizes) (bytes out : List ℕ) (cells : List ℤ) → Lent Read state z bytes out → cells ≡ bytesCells bytes → CellsLent state z cells out
+unfolding inputLength outputLength blocksLength cellsLength
+cells-lent state z bytes out cells p e =
+    record {
+      sizes = p .sizes;
+      accepted = p .accepted;
+      input = omega (arith, p .input, ap length e, bytes-cells-long bytes);
+      output = omega (arith, p .output);
+    }
+
+-- Number 0 says that the buffers are of the right lengths; any other is the answer.
+module _ (job : Job) (state : State) (z : Sizes) (memory : List ℤ) (bytes out : List ℕ) (i o n : ℕ)
+    (ez : z ≡ sizesOf (state .settings)) (ei : i ≡ inputLength job z) (eo : o ≡ outputLength job z)
+    (en : n ≡ lengthRefusal z (length memory) (eqb (length bytes) i) (leb o (length out))) where
+  number-is : n ≡ jobRefusal job state memory bytes out
+  unfolding jobRefusal
+  number-is = en ∙ rw (ei, eo, ez)
+
+  pub job-refused : (n ≡ 0 → ⊥) → jobYield (record { outcome = Refused n 0; state = state; length = 0 }) memory out ≡ jobOf job state memory bytes out
+  unfolding jobOf refused
+  job-refused h = rw (← number-is, ne-eqb n 0 h)
+
+  pub job-called : n ≡ 0 → (y : JobYield) (kind : Job) → job ≡ kind → y ≡ jobCall kind state memory bytes out → y ≡ jobOf job state memory bytes out
+  unfolding jobOf
+  job-called h y kind e f = rw (← number-is, eq-eqb n 0 h) (f ∙ ap (λ k. jobCall k state memory bytes out) (sym e))
+
+  pub job-lent : n ≡ 0 → (kind : Job) → job ≡ kind → Lent kind state z bytes out
+  unfolding lengthRefusal
+  job-lent h kind e =
+      let a = first-own (z .refusal) _ (sym en ∙ h) in
+      let b = first-zero _ 8 _ (omega arith) (a .1) in
+      let c = first-zero _ 9 _ (omega arith) (b .1) in
+      let d = first-zero _ 10 0 (omega arith) (c .1) in
+      let k = eqb-true (length bytes) i (not-false _ (c .0)) in
+      let l = leb-true o (length out) (not-false _ (d .0)) in
+      record {
+        sizes = ez;
+        accepted = a .0;
+        input = k ∙ ei ∙ ap (λ j. inputLength j z) e;
+        output = omega (arith, l, eo ∙ ap (λ j. outputLength j z) e);
+      }

@@ -1,0 +1,7 @@
+pub mod Signs
+pub mod Turns
+pub mod Joins
+pub mod Rooms
+pub mod Lengths
+pub mod Steps
+pub mod Calls

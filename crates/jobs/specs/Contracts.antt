@@ -1,0 +1,53 @@
+-- What inner functions require and promise: nothing of the papers is stated here.
+use Prim.Native.Nat.{ℕ, _+_, _*_, _≤_}
+use mathlib.Core.Path.{_≡_}
+use mathlib.Core.List.{List}
+use lib.ListN.{length}
+use lib.IntN.{ℤ}
+use Rattle.settings.specs.declared.Sizes.{Sizes}
+use Rattle.settings.specs.Sizes.{sizesOf}
+use Rattle.superframe.specs.declared.State.{State}
+use Rattle.console.specs.declared.Job.{Job}
+use Rattle.jobs.specs.declared.sizes.Space.{Space}
+use Rattle.jobs.specs.SuperFrame.{inputLength, outputLength}
+
+-- Room for the cells of a super frame, and for their bytes.
+pub record CodeRoom (at : ℕ) (bytes : List ℕ) (fac sdc msc : List ℤ) (out : List ℕ) : Type 0 where
+  pub first : 27 ≤ at
+  pub last : at ≤ length bytes
+  pub room : 2 * length fac + 2 * length sdc + 2 * length msc ≤ length out
+
+-- Room for the blocks of a super frame.
+pub record ReadRoom (at : ℕ) (cells : List ℤ) (fac sdc msc out : List ℕ) : Type 0 where
+  pub first : 390 ≤ at
+  pub last : at ≤ length cells
+  pub room : length fac + length sdc + 1 + length msc ≤ length out
+
+-- The sizes of accepted settings, an input of a super frame's length, and an output with room.
+pub record Lent (job : Job) (state : State) (z : Sizes) (bytes out : List ℕ) : Type 0 where
+  pub sizes : z ≡ sizesOf (state .settings)
+  pub accepted : z .refusal ≡ 0
+  pub input : length bytes ≡ inputLength job z
+  pub output : outputLength job z ≤ length out
+
+pub record CellsLent (state : State) (z : Sizes) (cells : List ℤ) (out : List ℕ) : Type 0 where
+  pub sizes : z ≡ sizesOf (state .settings)
+  pub accepted : z .refusal ≡ 0
+  pub input : length cells ≡ z .facnumbers + (z .sdcnumbers + z .mscnumbers)
+  pub output : 27 + (z .sdcbytes + z .mscbytes) + 1 ≤ length out
+
+-- No settings need more.
+pub record Enough (z : Sizes) : Type 0 where
+  pub sdcbytes : z .sdcbytes ≤ 210
+  pub mscbytes : z .mscbytes ≤ 13767
+  pub facnumbers : z .facnumbers ≡ 390
+  pub sdcnumbers : z .sdcnumbers ≤ 1692
+  pub mscnumbers : z .mscnumbers ≤ 36712
+  pub memory : z .memory ≤ 61180
+
+-- Nor more than the program has.
+pub record Rooms (job : Job) (z : Sizes) (r : Space) : Type 0 where
+  pub input : r .input ≡ inputLength job z
+  pub memory : r .memory ≡ z .memory
+  pub inputmost : r .input ≤ 77588
+  pub memorymost : r .memory ≤ 61180

@@ -1,0 +1,4 @@
+pub mod Cells
+pub mod Output
+pub mod SuperFrame
+pub mod Contracts

@@ -1,0 +1,111 @@
+-- What the jobs `code` and `read` make of a super frame, by the definitions of Code and Read.
+use Prim.Native.Nat.{ℕ, _+_, _*_}
+use mathlib.Core.Bool.{cond}
+use mathlib.Core.List.{List}
+use lib.ListN.{length, take, drop, replicate}
+use lib.Seq.{sets}
+use lib.IntN.{ℤ, pos}
+use lib.Dec.{eqb, leb}
+use Rattle.settings.specs.declared.Sizes.{Sizes}
+use Rattle.settings.specs.Sizes.{sizesOf}
+use Rattle.superframe.specs.declared.State.{State}
+use Rattle.superframe.specs.declared.Answer.{Answer}
+use Rattle.superframe.specs.declared.Answer.the-variants.{Finished, Refused as Answer·Refused}
+use Rattle.superframe.specs.Code.{CodeCall, CodeYield, codeOf}
+use Rattle.superframe.specs.Read.{ReadCall, ReadYield, readOf}
+use Rattle.cellrows.specs.Refusals.{lengthRefusal}
+use Rattle.console.specs.declared.Job.{Job}
+use Rattle.console.specs.declared.Job.the-variants.{Code, Read}
+use Rattle.console.specs.declared.Outcome.the-variants.{Through, Refused}
+use Rattle.jobs.specs.declared.Step.{Step}
+use Rattle.jobs.specs.Cells.{bytesCells}
+use Rattle.jobs.specs.Output.{cellOutput, blockOutput}
+
+-- All that a job yields for a super frame: its answer, and memory and the output buffer as it leaves them.
+pub record JobYield : Type 0 where
+  pub step : Step
+  pub memory : List ℤ
+  pub out : List ℕ
+
+abbrev pub jobYield : Step → List ℤ → List ℕ → JobYield
+jobYield step memory out = record { step = step; memory = memory; out = out }
+
+-- A super frame that went through: bytes from the start of the buffer on, and their number.
+unfoldable pub through : State → List ℤ → List ℕ → List ℕ → JobYield
+through state memory bytes out =
+    jobYield (record { outcome = Through; state = state; length = length bytes }) memory (sets out 0 bytes)
+
+-- One that was refused: nothing is written.
+unfoldable pub refused : ℕ → ℕ → State → List ℤ → List ℕ → JobYield
+refused number block state memory out =
+    jobYield (record { outcome = Refused number block; state = state; length = 0 }) memory out
+
+-- The bytes of a super frame's blocks, and those of its cells.
+unfoldable pub blocksLength : Sizes → ℕ
+blocksLength z = 27 + (z .sdcbytes + z .mscbytes)
+
+unfoldable pub cellsLength : Sizes → ℕ
+cellsLength z = 2 * (z .facnumbers + (z .sdcnumbers + z .mscnumbers))
+
+-- What comes in for a super frame, and the most that goes out.
+unfoldable pub inputLength : Job → Sizes → ℕ
+inputLength Code z = blocksLength z
+inputLength Read z = cellsLength z
+
+unfoldable pub outputLength : Job → Sizes → ℕ
+outputLength Code z = cellsLength z
+outputLength Read z = blocksLength z + 1
+
+-- `code`: FAC, SDC and MSC, one behind the other, and working buffers for their cells.
+unfoldable pub codeLent : Sizes → List ℕ → CodeCall
+codeLent z bytes =
+    record {
+      fac = take 27 bytes;
+      sdc = take (z .sdcbytes) (drop 27 bytes);
+      msc = drop (27 + z .sdcbytes) bytes;
+      faccells = replicate 390 (pos 0);
+      sdccells = replicate (z .sdcnumbers) (pos 0);
+      msccells = replicate (z .mscnumbers) (pos 0);
+    }
+
+unfoldable pub codeWritten : CodeYield → List ℕ → JobYield
+codeWritten y out =
+    cond (eqb (y .done .refusal) 0)
+    (through (y .done .state) (y .memory) (cellOutput (y .faccells) (y .sdccells) (y .msccells)) out)
+    (refused (y .done .refusal) 0 (y .done .state) (y .memory) out)
+
+-- `read`: the cells of FAC, SDC and MSC, and working buffers for their bytes.
+unfoldable pub readLent : Sizes → List ℤ → ReadCall
+readLent z cells =
+    record {
+      faccells = take 390 cells;
+      sdccells = take (z .sdcnumbers) (drop 390 cells);
+      msccells = drop (390 + z .sdcnumbers) cells;
+      fac = replicate 27 0;
+      sdc = replicate (z .sdcbytes) 0;
+      msc = replicate (z .mscbytes) 0;
+    }
+
+unfoldable pub readWritten : Answer → ReadYield → List ℕ → JobYield
+readWritten (Finished n) y out = through (y .reading .state) (y .memory) (blockOutput (y .fac) (y .sdc) n (y .msc)) out
+readWritten (Answer·Refused number block) y out = refused number block (y .reading .state) (y .memory) out
+
+unfoldable pub readAnswered : ReadYield → List ℕ → JobYield
+readAnswered y out = readWritten (y .reading .answer) y out
+
+-- The call of a job on buffers of the right lengths.
+unfoldable pub jobCall : Job → State → List ℤ → List ℕ → List ℕ → JobYield
+jobCall Code state memory bytes out = codeWritten (codeOf state memory (codeLent (sizesOf (state .settings)) bytes)) out
+jobCall Read state memory bytes out = readAnswered (readOf state memory (readLent (sizesOf (state .settings)) (bytesCells bytes))) out
+
+-- 1 to 10: an input of a super frame's length, and an output with room.
+unfoldable pub jobRefusal : Job → State → List ℤ → List ℕ → List ℕ → ℕ
+jobRefusal job state memory bytes out =
+    let z = sizesOf (state .settings) in
+    lengthRefusal z (length memory) (eqb (length bytes) (inputLength job z)) (leb (outputLength job z) (length out))
+
+-- What a job yields for a super frame, for every input.
+unfoldable pub jobOf : Job → State → List ℤ → List ℕ → List ℕ → JobYield
+jobOf job state memory bytes out =
+    cond (eqb (jobRefusal job state memory bytes out) 0) (jobCall job state memory bytes out)
+    (refused (jobRefusal job state memory bytes out) 0 state memory out)

@@ -1,0 +1,60 @@
+// Buffers that are long enough for all settings.
+ghost use mathlib.Core.Path.{_≡_};
+ghost use lib.ListN.{replicate};
+ghost use lib.IntN.{pos};
+
+pub fn memory() -> [i16; 61180]
+    ensures { λ r. ⌜ r ≡ replicate 61180 (pos 0) ⌝ }
+{
+    [0i16; 61180]
+}
+
+pub fn fac_bytes() -> [u8; 27]
+    ensures { λ r. ⌜ r ≡ replicate 27 0 ⌝ }
+{
+    [0u8; 27]
+}
+
+pub fn sdc_bytes() -> [u8; 210]
+    ensures { λ r. ⌜ r ≡ replicate 210 0 ⌝ }
+{
+    [0u8; 210]
+}
+
+pub fn msc_bytes() -> [u8; 13767]
+    ensures { λ r. ⌜ r ≡ replicate 13767 0 ⌝ }
+{
+    [0u8; 13767]
+}
+
+pub fn fac_cells() -> [i16; 390]
+    ensures { λ r. ⌜ r ≡ replicate 390 (pos 0) ⌝ }
+{
+    [0i16; 390]
+}
+
+pub fn sdc_cells() -> [i16; 1692]
+    ensures { λ r. ⌜ r ≡ replicate 1692 (pos 0) ⌝ }
+{
+    [0i16; 1692]
+}
+
+pub fn msc_cells() -> [i16; 36712]
+    ensures { λ r. ⌜ r ≡ replicate 36712 (pos 0) ⌝ }
+{
+    [0i16; 36712]
+}
+
+// The cells of a super frame: FAC, SDC and MSC.
+pub fn cells() -> [i16; 38794]
+    ensures { λ r. ⌜ r ≡ replicate 38794 (pos 0) ⌝ }
+{
+    [0i16; 38794]
+}
+
+// Their bytes.
+pub fn cell_bytes() -> [u8; 77588]
+    ensures { λ r. ⌜ r ≡ replicate 77588 0 ⌝ }
+{
+    [0u8; 77588]
+}

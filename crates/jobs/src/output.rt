@@ -1,0 +1,48 @@
+// A super frame as it goes to standard output: its bytes in one buffer.
+use crate::cells::put_cells;
+use console::bytes::put_bytes;
+ghost use mathlib.Core.Path.{_≡_};
+ghost use Prim.Native.Nat.{_+_, _*_, _≤_};
+ghost use lib.ListN.{length};
+ghost use Rattle.jobs.specs.Output.{Joined, framesLength, cellOutput, blockOutput};
+
+// The bytes of the cells of a super frame from the start of a buffer on, and how many there are.
+pub fn join_cells(fac: &[i16], sdc: &[i16], msc: &[i16], out: &mut [u8]) -> usize
+    requires { ⌜ 2 * length (now fac) + 2 * length (now sdc) + 2 * length (now msc) ≤ length (now out) ⌝ }
+    ensures { λ r. ⌜ Joined (length (now (out .entry))) (cellOutput (now (fac .entry)) (now (sdc .entry)) (now (msc .entry))) (now (out .entry)) r (now (out .exit)) ⌝ }
+{
+    let a = 2 * fac.len();
+    let b = a + 2 * sdc.len();
+    put_cells(fac, out, 0);
+    put_cells(sdc, out, a);
+    put_cells(msc, out, b);
+    b + 2 * msc.len()
+}
+
+// The length of the first n of three frames.
+fn frames_length(n: u8, all: usize) -> usize
+    ensures { λ r. ⌜ r ≡ framesLength n all ⌝ }
+    ensures { λ r. ⌜ r ≤ all ⌝ }
+{
+    match n {
+        0 => 0,
+        1 => all / 3,
+        2 => 2 * (all / 3),
+        _ => all,
+    }
+}
+
+// FAC, SDC, the number of finished frames, and those frames, from the start of a buffer on, and how many bytes there are.
+pub fn join_blocks(fac: &[u8], sdc: &[u8], n: u8, msc: &[u8], out: &mut [u8]) -> usize
+    requires { ⌜ length (now fac) + length (now sdc) + 1 + length (now msc) ≤ length (now out) ⌝ }
+    ensures { λ r. ⌜ Joined (length (now (out .entry))) (blockOutput (now (fac .entry)) (now (sdc .entry)) n (now (msc .entry))) (now (out .entry)) r (now (out .exit)) ⌝ }
+{
+    let end = frames_length(n, msc.len());
+    let a = fac.len();
+    let b = a + sdc.len();
+    put_bytes(fac, out, 0);
+    put_bytes(sdc, out, a);
+    put_bytes(&[n], out, b);
+    put_bytes(&msc[0..end], out, b + 1);
+    b + 1 + end
+}

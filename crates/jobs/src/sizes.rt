@@ -1,0 +1,58 @@
+// How many bytes the jobs take and give.
+use console::Job;
+use settings::Settings;
+use settings::Sizes;
+use settings::answers;
+ghost use mathlib.Core.Path.{_≡_};
+ghost use Rattle.settings.specs.Sizes.{sizesOf};
+ghost use Rattle.jobs.specs.SuperFrame.{blocksLength, cellsLength, inputLength, outputLength};
+ghost use Rattle.jobs.specs.Contracts.{Rooms};
+
+// What a program lends for a super frame of settings: bytes of input, and numbers of memory.
+pub struct Space {
+    pub input: usize,
+    pub memory: usize,
+}
+
+// The bytes of a super frame's blocks.
+fn blocks_length(z: Sizes) -> usize
+    ensures { λ r. ⌜ r ≡ blocksLength z ⌝ }
+{
+    27 + (z.sdcbytes as usize + z.mscbytes as usize)
+}
+
+// The bytes of its cells.
+fn cells_length(z: Sizes) -> usize
+    ensures { λ r. ⌜ r ≡ cellsLength z ⌝ }
+{
+    2 * (z.facnumbers as usize + (z.sdcnumbers as usize + z.mscnumbers as usize))
+}
+
+pub fn input_length(job: Job, z: Sizes) -> usize
+    ensures { λ r. ⌜ r ≡ inputLength job z ⌝ }
+{
+    match job {
+        Job::Code => blocks_length(z),
+        Job::Read => cells_length(z),
+    }
+}
+
+pub fn output_length(job: Job, z: Sizes) -> usize
+    ensures { λ r. ⌜ r ≡ outputLength job z ⌝ }
+{
+    match job {
+        Job::Code => cells_length(z),
+        Job::Read => blocks_length(z) + 1,
+    }
+}
+
+// The part of the largest buffers that settings need.
+pub fn room(job: Job, s: Settings) -> Space
+    ensures { λ r. ⌜ Rooms job (sizesOf s) r ⌝ }
+{
+    let z = answers::sizes(s);
+    Space {
+        input: input_length(job, z),
+        memory: z.memory as usize,
+    }
+}

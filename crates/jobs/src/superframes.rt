@@ -1,0 +1,231 @@
+// A super frame of the jobs `code` and `read`: bytes in, bytes out.
+use crate::Step;
+use crate::buffers;
+use crate::cells::take_cells;
+use crate::output::join_blocks;
+use crate::output::join_cells;
+use crate::sizes::input_length;
+use crate::sizes::output_length;
+use cellrows::refusal::length_refusal;
+use codecall::code::code;
+use console::Job;
+use console::Outcome;
+use readcall::read::read;
+use settings::Sizes;
+use settings::answers;
+use superframe::Answer;
+use superframe::Done;
+use superframe::Reading;
+use superframe::State;
+ghost use mathlib.Core.Path.{_≡_};
+ghost use Prim.Native.Nat.{_+_, _*_, _-_, _≤_};
+ghost use mathlib.Core.List.{List};
+ghost use lib.ListN.{length, take, drop};
+ghost use lib.IntN.{ℤ};
+ghost use Rattle.superframe.specs.Code.{codeOf};
+ghost use Rattle.superframe.specs.Read.{readOf};
+ghost use Rattle.codecall.specs.Yields.{codeCall, codeYield};
+ghost use Rattle.readblocks.specs.Finishing.{readCall};
+ghost use Rattle.readcall.specs.Working.{readYield};
+ghost use Rattle.jobs.specs.Contracts.{CodeRoom, ReadRoom, Lent, CellsLent};
+ghost use Rattle.jobs.specs.SuperFrame.{jobYield, codeWritten, readWritten, readAnswered, readLent, jobCall, jobOf};
+
+// What the output is after Code: the bytes of the cells, or nothing where the call was refused.
+fn write_coded(done: Done, fac: &[i16], sdc: &[i16], msc: &[i16], out: &mut [u8]) -> Step
+    requires { ⌜ 2 * length (now fac) + 2 * length (now sdc) + 2 * length (now msc) ≤ length (now out) ⌝ }
+    ensures { λ r. ⌜ ((memory : List ℤ) → jobYield r memory (now (out .exit))
+        ≡ codeWritten (codeYield done memory (now (fac .entry)) (now (sdc .entry)) (now (msc .entry))) (now (out .entry))) ⌝ }
+    ensures { λ r. ⌜ r .length ≤ length (now (out .entry)) ⌝ }
+{
+    let state = done.state;
+    if done.refusal != 0 {
+        return Step {
+            outcome: Outcome::Refused(done.refusal, 0),
+            state,
+            length: 0,
+        };
+    }
+    let length = join_cells(fac, sdc, msc, out);
+    Step {
+        outcome: Outcome::Through,
+        state,
+        length,
+    }
+}
+
+// Code on a super frame's bytes, of which those of the MSC start at a place, with buffers for the cells.
+fn code_with(
+    state: State,
+    bytes: &[u8],
+    at: usize,
+    memory: &mut [i16],
+    fac: &mut [i16],
+    sdc: &mut [i16],
+    msc: &mut [i16],
+    out: &mut [u8],
+) -> Step
+    requires { ⌜ CodeRoom at (now bytes) (now fac) (now sdc) (now msc) (now out) ⌝ }
+    ensures { λ r. ⌜ jobYield r (now (memory .exit)) (now (out .exit))
+        ≡ codeWritten
+        (codeOf state (now (memory .entry))
+        (codeCall (take 27 (now (bytes .entry))) (take (at - 27) (drop 27 (now (bytes .entry)))) (drop at (now (bytes .entry)))
+        (now (fac .entry)) (now (sdc .entry)) (now (msc .entry))))
+        (now (out .entry)) ⌝ }
+    ensures { λ r. ⌜ r .length ≤ length (now (out .entry)) ⌝ }
+{
+    let done = code(
+        state,
+        &bytes[0..27],
+        &bytes[27..at],
+        &bytes[at..],
+        memory,
+        fac,
+        sdc,
+        msc,
+    );
+    write_coded(done, fac, sdc, msc, out)
+}
+
+// The job `code` on buffers of the right lengths.
+fn code_bytes(state: State, z: Sizes, bytes: &[u8], memory: &mut [i16], out: &mut [u8]) -> Step
+    requires { ⌜ Lent Job.Code state z (now bytes) (now out) ⌝ }
+    ensures { λ r. ⌜ jobYield r (now (memory .exit)) (now (out .exit)) ≡ jobCall Job.Code state (now (memory .entry)) (now (bytes .entry)) (now (out .entry)) ⌝ }
+    ensures { λ r. ⌜ r .length ≤ length (now (out .entry)) ⌝ }
+{
+    let mut fac = buffers::fac_cells();
+    let mut sdc = buffers::sdc_cells();
+    let mut msc = buffers::msc_cells();
+    let at = 27 + z.sdcbytes as usize;
+    let n = z.sdcnumbers as usize;
+    let m = z.mscnumbers as usize;
+    code_with(
+        state,
+        bytes,
+        at,
+        memory,
+        &mut fac,
+        &mut sdc[0..n],
+        &mut msc[0..m],
+        out,
+    )
+}
+
+// What the output is after Read: FAC, SDC and the finished frames, or nothing where the call was refused.
+fn write_read(reading: Reading, fac: &[u8], sdc: &[u8], msc: &[u8], out: &mut [u8]) -> Step
+    requires { ⌜ length (now fac) + length (now sdc) + 1 + length (now msc) ≤ length (now out) ⌝ }
+    ensures { λ r. ⌜ ((memory : List ℤ) → jobYield r memory (now (out .exit))
+        ≡ readWritten (reading .answer) (readYield reading memory (now (fac .entry)) (now (sdc .entry)) (now (msc .entry))) (now (out .entry))) ⌝ }
+    ensures { λ r. ⌜ r .length ≤ length (now (out .entry)) ⌝ }
+{
+    let answer = reading.answer;
+    let state = reading.state;
+    match answer {
+        Answer::Finished(n) => {
+            let length = join_blocks(fac, sdc, n, msc, out);
+            Step {
+                outcome: Outcome::Through,
+                state,
+                length,
+            }
+        }
+        Answer::Refused(number, block) => Step {
+            outcome: Outcome::Refused(number, block),
+            state,
+            length: 0,
+        },
+    }
+}
+
+// Read on a super frame's cells, of which those of the MSC start at a place, with buffers for the bytes.
+fn read_with(
+    state: State,
+    cells: &[i16],
+    at: usize,
+    memory: &mut [i16],
+    fac: &mut [u8],
+    sdc: &mut [u8],
+    msc: &mut [u8],
+    out: &mut [u8],
+) -> Step
+    requires { ⌜ ReadRoom at (now cells) (now fac) (now sdc) (now msc) (now out) ⌝ }
+    ensures { λ r. ⌜ jobYield r (now (memory .exit)) (now (out .exit))
+        ≡ readAnswered
+        (readOf state (now (memory .entry))
+        (readCall (take 390 (now (cells .entry))) (take (at - 390) (drop 390 (now (cells .entry)))) (drop at (now (cells .entry)))
+        (now (fac .entry)) (now (sdc .entry)) (now (msc .entry))))
+        (now (out .entry)) ⌝ }
+    ensures { λ r. ⌜ r .length ≤ length (now (out .entry)) ⌝ }
+{
+    let reading = read(
+        state,
+        &cells[0..390],
+        &cells[390..at],
+        &cells[at..],
+        memory,
+        fac,
+        sdc,
+        msc,
+    );
+    write_read(reading, fac, sdc, msc, out)
+}
+
+// The job `read` on cells and buffers of the right lengths.
+fn read_cells(state: State, z: Sizes, cells: &[i16], memory: &mut [i16], out: &mut [u8]) -> Step
+    requires { ⌜ CellsLent state z (now cells) (now out) ⌝ }
+    ensures { λ r. ⌜ jobYield r (now (memory .exit)) (now (out .exit)) ≡ readAnswered (readOf state (now (memory .entry)) (readLent z (now (cells .entry)))) (now (out .entry)) ⌝ }
+    ensures { λ r. ⌜ r .length ≤ length (now (out .entry)) ⌝ }
+{
+    let mut fac = buffers::fac_bytes();
+    let mut sdc = buffers::sdc_bytes();
+    let mut msc = buffers::msc_bytes();
+    let at = 390 + z.sdcnumbers as usize;
+    let n = z.sdcbytes as usize;
+    let m = z.mscbytes as usize;
+    read_with(
+        state,
+        cells,
+        at,
+        memory,
+        &mut fac,
+        &mut sdc[0..n],
+        &mut msc[0..m],
+        out,
+    )
+}
+
+// The same from the bytes of the cells.
+fn read_bytes(state: State, z: Sizes, bytes: &[u8], memory: &mut [i16], out: &mut [u8]) -> Step
+    requires { ⌜ Lent Job.Read state z (now bytes) (now out) ⌝ }
+    ensures { λ r. ⌜ jobYield r (now (memory .exit)) (now (out .exit)) ≡ jobCall Job.Read state (now (memory .entry)) (now (bytes .entry)) (now (out .entry)) ⌝ }
+    ensures { λ r. ⌜ r .length ≤ length (now (out .entry)) ⌝ }
+{
+    let mut cells = buffers::cells();
+    take_cells(bytes, &mut cells);
+    let end = bytes.len() / 2;
+    read_cells(state, z, &cells[0..end], memory, out)
+}
+
+// A super frame of a job: its bytes come in, and what is to be written stands first in the output; a refusal leaves everything as it was.
+pub fn step(job: Job, state: State, bytes: &[u8], memory: &mut [i16], out: &mut [u8]) -> Step
+    ensures { λ r. ⌜ jobYield r (now (memory .exit)) (now (out .exit)) ≡ jobOf job state (now (memory .entry)) (now (bytes .entry)) (now (out .entry)) ⌝ }
+    ensures { λ r. ⌜ r .length ≤ length (now (out .entry)) ⌝ }
+{
+    let z = answers::sizes(state.settings);
+    let number = length_refusal(
+        z,
+        memory.len(),
+        bytes.len() == input_length(job, z),
+        output_length(job, z) <= out.len(),
+    );
+    if number != 0 {
+        return Step {
+            outcome: Outcome::Refused(number, 0),
+            state,
+            length: 0,
+        };
+    }
+    match job {
+        Job::Code => code_bytes(state, z, bytes, memory, out),
+        Job::Read => read_bytes(state, z, bytes, memory, out),
+    }
+}
