@@ -1,6 +1,6 @@
 /*
  * Codes and reads back short runs with drmcoder.h alone. Every run has three super frames of pseudo-random bits and
- * two whose MSC bits are zero. Exits with 1 if anything is not as it must be.
+ * two whose MSC bits are zero; its FAC blocks are built from fields. Exits with 1 if anything is not as it must be.
  */
 #include <stdio.h>
 #include <stdlib.h>
@@ -67,6 +67,35 @@ static size_t sdc_bits(const uint8_t *settings) {
     return settings[8] == 1 ? n - 6 : (2 * n - 12) / 3 * 3;
 }
 
+/* The fields of FAC block k of a super frame: one audio service in English, its identity by the block's place. */
+static void fac_fields(const uint8_t *settings, uint32_t k, uint32_t *fields) {
+    const uint32_t of_block[DRM_FAC_FIELDS] = {
+        0, k, settings[1], settings[9], settings[2], settings[8], 4, 0, 0xE1C238, 0, 0, 5, 0, 1};
+    memcpy(fields, of_block, sizeof of_block);
+}
+
+static unsigned fac_read(const uint8_t *settings, const uint8_t *block, uint32_t *fields) {
+    return drm_fac_read(settings, DRM_SETTINGS_BYTES, block, DRM_FAC_BLOCK_BYTES, fields, DRM_FAC_FIELDS);
+}
+
+/* Builds FAC block k, and sees that no wrong bit and no field against the settings passes. */
+static void fac_block(const uint8_t *settings, uint32_t k, uint8_t *block) {
+    uint32_t fields[DRM_FAC_FIELDS], read[DRM_FAC_FIELDS], i;
+    fac_fields(settings, k, fields);
+    must(drm_fac_build(settings, DRM_SETTINGS_BYTES, fields, DRM_FAC_FIELDS, block, DRM_FAC_BLOCK_BYTES) == 0,
+         "an FAC block is built");
+    must(fac_read(settings, block, read) == 0 && memcmp(read, fields, sizeof read) == 0, "its fields are read back");
+    for (i = 0; i < 72; i++) {
+        block[i / 8] ^= 0x80 >> i % 8;
+        must(fac_read(settings, block, read) >= DRM_REFUSED_FIELD, "a wrong bit of an FAC block is refused");
+        block[i / 8] ^= 0x80 >> i % 8;
+    }
+    fields[2] = (fields[2] + 1) % 6;
+    must(drm_fac_build(settings, DRM_SETTINGS_BYTES, fields, DRM_FAC_FIELDS, block, DRM_FAC_BLOCK_BYTES) ==
+             DRM_REFUSED_FIELD,
+         "another occupancy than that of the settings is refused by 15");
+}
+
 /* The bits of super frame m, of which the last ones have zero MSC bits; outputs are made such as nobody wants. */
 static void bring(const uint8_t *settings, size_t m) {
     size_t bits = (size_t)lengths[4] + lengths[2] + lengths[3], bytes = sizes[MSC_BYTES] / 3, k;
@@ -74,7 +103,7 @@ static void bring(const uint8_t *settings, size_t m) {
     memset(&given, 0xA5, sizeof given);
     memset(&cells, 0xA5, sizeof cells);
     for (k = 0; k < 3; k++)
-        draw(brought.fac + 9 * k, 72);
+        fac_block(settings, (uint32_t)k, brought.fac + DRM_FAC_BLOCK_BYTES * k);
     draw(brought.sdc, sdc_bits(settings));
     for (k = 0; k < 3 && m < SUPER_FRAMES - CLOSING; k++)
         draw(brought.msc + bytes * k, bits);

@@ -61,7 +61,18 @@
  *    13  a cell lent to drm_read is no point of its constellation, or a filler is wrong; cells of frames before the
  *        first are ignored and may be anything
  *    14  cells of a block or of a finished frame that no bits give
+ *    15  a field of an FAC block too large for its bits, or against the settings
+ *    16  an FAC block with a wrong CRC
  *   255  a settings, state, lengths or sizes slice of the wrong length; this goes before all others
+ *
+ * Fields of an FAC block: fourteen numbers, with their bits (clauses 6.3.3 and 6.3.4 of the standard)
+ *   0  base/enhancement flag (1)        1  identity (2)               2  spectrum occupancy (4)
+ *   3  interleaver depth flag (1)       4  MSC mode (2)               5  SDC mode (1)
+ *   6  number of services (4)           7  reconfiguration index (3)  8  service identifier (24)
+ *   9  short identifier (2)            10  CA indication (1)         11  language (4)
+ *  12  audio/data flag (1)             13  service descriptor (5)
+ *   Fields 2 to 5 are the settings' own numbers. A block has its reserved bits beside them (two after field 7, seven
+ *   after field 13) and ends with the 8-bit CRC of annex D: 72 bits, nine bytes, one of the three blocks of drm_code.
  */
 #ifndef DRMCODER_H
 #define DRMCODER_H
@@ -80,7 +91,9 @@ enum {
     DRM_LENGTHS = 5,
     DRM_SIZES = 6,
     DRM_FAC_BYTES = 27,
-    DRM_FAC_NUMBERS = 390
+    DRM_FAC_NUMBERS = 390,
+    DRM_FAC_BLOCK_BYTES = 9,
+    DRM_FAC_FIELDS = 14
 };
 
 /* The most that any permitted settings ask of the other slices, for buffers that serve them all. */
@@ -112,6 +125,8 @@ enum {
     DRM_REFUSED_STATE_OR_MEMORY = 12,
     DRM_REFUSED_POINT = 13,
     DRM_REFUSED_BLOCK = 14,
+    DRM_REFUSED_FIELD = 15,
+    DRM_REFUSED_CRC = 16,
     DRM_REFUSED_SLICE = 255
 };
 
@@ -176,6 +191,26 @@ uint16_t drm_read(uint8_t *state, size_t state_len, int16_t *memory, size_t memo
                   size_t fac_cells_len, const int16_t *sdc_cells, size_t sdc_cells_len, const int16_t *msc_cells,
                   size_t msc_cells_len, uint8_t *fac, size_t fac_len, uint8_t *sdc, size_t sdc_len, uint8_t *msc,
                   size_t msc_len);
+
+/*
+ * Builds an FAC block from its fields; reserved bits are zero.
+ *   settings   10 bytes
+ *   fields     14 numbers
+ *   block      9 bytes, written if the answer is 0
+ * Answers 0, 1 to 7, 9 (fields), 10 (block), 15, or 255.
+ */
+uint8_t drm_fac_build(const uint8_t *settings, size_t settings_len, const uint32_t *fields, size_t fields_len,
+                      uint8_t *block, size_t block_len);
+
+/*
+ * Reads an FAC block; its reserved bits are looked at by the CRC alone. A block with one wrong bit is always refused.
+ *   settings   10 bytes
+ *   block      9 bytes
+ *   fields     14 numbers, written if the answer is 0
+ * Answers 0, 1 to 7, 9 (block), 10 (fields), 15, 16, or 255.
+ */
+uint8_t drm_fac_read(const uint8_t *settings, size_t settings_len, const uint8_t *block, size_t block_len,
+                     uint32_t *fields, size_t fields_len);
 
 #ifdef __cplusplus
 }

@@ -9,6 +9,7 @@ pub mod component;
 pub mod counts;
 pub mod digest;
 pub mod dispersal;
+pub mod fac;
 pub mod interleaver;
 pub mod lengths;
 pub mod mapping;

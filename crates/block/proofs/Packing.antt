@@ -33,17 +33,17 @@ digit {bits} B s j (suc m) =
     let e : (digits bits s (j + suc m) * 2 + getD bits (s + (j + suc m)) 0) / 2 ≡ digits bits s (j + suc m) = omega (arith, B .bit (s + (j + suc m))) in
     rw (add-suc j (suc m), shr-suc, e) (digit B s j m)
 
-digit-at : {bits : List ℕ} → Bits bits → (s n j m i : ℕ) → j + suc m ≡ n → s + j ≡ i → digits bits s n / 2 ^ m % 2 ≡ getD bits i 0
+pub digit-at : {bits : List ℕ} → Bits bits → (s n j m i : ℕ) → j + suc m ≡ n → s + j ≡ i → digits bits s n / 2 ^ m % 2 ≡ getD bits i 0
 digit-at B s n j m i e f = rw (← e, ← f) (digit B s j m)
 
 -- a number is below the power of its digits
-digits-low : {bits : List ℕ} → Bits bits → (s n : ℕ) → digits bits s n < 2 ^ n
+pub digits-low : {bits : List ℕ} → Bits bits → (s n : ℕ) → digits bits s n < 2 ^ n
 unfolding digits
 digits-low B s zero = omega arith
 digits-low B s (suc n) = omega (arith, B .bit (s + n), digits-low B s n)
 
 -- a number is made of its digits: j of them give the number without the m last
-undigit : (bits : List ℕ) (s x j m : ℕ) → x < 2 ^ (j + m) → ((i k : ℕ) → i + suc k ≡ j + m → getD bits (s + i) 0 ≡ x / 2 ^ k % 2) → digits bits s j ≡ x / 2 ^ m
+pub undigit : (bits : List ℕ) (s x j m : ℕ) → x < 2 ^ (j + m) → ((i k : ℕ) → i + suc k ≡ j + m → getD bits (s + i) 0 ≡ x / 2 ^ k % 2) → digits bits s j ≡ x / 2 ^ m
 unfolding digits
 undigit bits s x zero m l h = sym (div-eq-of-lt (rw zero-add at l))
 undigit bits s x (suc j) m l h =

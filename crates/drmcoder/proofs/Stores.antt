@@ -1,12 +1,11 @@
 -- Lists stored whole, element by element.
 use Prim.Native.Nat.{ℕ, _/_, _%_}
-use native.Mathlib.Omega.{arith}
-use native.Mathlib.Nat.{zero-add}
-use mathlib.Core.Path.{_≡_, _∙_}
-use mathlib.Core.List.{List, [], _∷_, _++_, append-nil}
+use mathlib.Core.Path.{_≡_}
+use mathlib.Core.List.{List, [], _∷_, _++_}
 use lib.ListN.{length}
-use lib.Seq.{sets, sets-eq, drop-length}
+use lib.Seq.{sets}
 use borrow.Author.Tests.{eq-eqb, ne-eqb}
+use Rattle.lists.proofs.Copies.{whole}
 use Rattle.settings.specs.declared.Lengths.{Lengths}
 use Rattle.settings.specs.declared.Sizes.{Sizes}
 use Rattle.settings.specs.declared.Settings.{Settings}
@@ -16,9 +15,6 @@ use Rattle.settings.specs.Sizes.{sizesOf}
 use Rattle.drmcoder.specs.Bytes.{settingsOf, settingsBytes, stateBytes}
 use Rattle.drmcoder.specs.Numbers.{Numbers, yielded, lengthsInto, lengthsBytes, sizesInto, sizesBytes}
 use Rattle.drmcoder.proofs.Tests.{both-right}
-
-pub whole : (l vs : List ℕ) → length l ≡ length vs → sets l 0 vs ≡ vs
-whole l vs e = sets-eq vs l 0 (omega arith) ∙ rw (zero-add (length vs), ← e, drop-length, append-nil vs)
 
 pub lengths-stored : (l : Lengths) (d : List ℕ) → l .refusal ≡ 0 → length d ≡ 5
     → yielded 0 (sets d 0 (l .n1 ∷ l .n2 ∷ l .l1 ∷ l .l2 ∷ l .vspp ∷ [])) ≡ lengthsInto l d

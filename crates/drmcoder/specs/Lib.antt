@@ -1,3 +1,4 @@
 pub mod Bytes
+pub mod Fac
 pub mod Numbers
 pub mod Calls

@@ -1,4 +1,5 @@
 // The C interface. Settings are ten bytes, a state is those ten, position and count.
 pub mod bytes;
 pub mod calls;
+pub mod fac;
 pub mod numbers;

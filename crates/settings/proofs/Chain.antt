@@ -121,7 +121,7 @@ unfolding refusal first nMux n1
 refused-late s e = rw e
 
 -- Number 0: none of 1 to 6, and N1 is at most N_MUX - 20.
-passes : (r m : ℕ) → first (ltb 0 r) r m ≡ 0 → r ≡ 0
+pub passes : (r m : ℕ) → first (ltb 0 r) r m ≡ 0 → r ≡ 0
 unfolding first
 passes zero m e = refl
 passes (suc r) m e =

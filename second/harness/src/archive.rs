@@ -22,6 +22,14 @@ mod c {
             msc_cells: *const i16, msc_cells_len: usize,
             fac: *mut u8, fac_len: usize, sdc: *mut u8, sdc_len: usize, msc: *mut u8, msc_len: usize,
         ) -> u16;
+        pub fn drm_fac_build(
+            settings: *const u8, settings_len: usize, fields: *const u32, fields_len: usize,
+            block: *mut u8, block_len: usize,
+        ) -> u8;
+        pub fn drm_fac_read(
+            settings: *const u8, settings_len: usize, block: *const u8, block_len: usize,
+            fields: *mut u32, fields_len: usize,
+        ) -> u8;
     }
 }
 
@@ -63,6 +71,22 @@ pub fn read(state: &mut [u8], memory: &mut [i16], cells: [&[i16]; 3], bytes: [&m
             cells[0].as_ptr(), cells[0].len(), cells[1].as_ptr(), cells[1].len(), cells[2].as_ptr(), cells[2].len(),
             bytes[0].as_mut_ptr(), bytes[0].len(), bytes[1].as_mut_ptr(), bytes[1].len(),
             bytes[2].as_mut_ptr(), bytes[2].len(),
+        )
+    }
+}
+
+pub fn fac_build(settings: &[u8], fields: &[u32], block: &mut [u8]) -> u8 {
+    unsafe {
+        c::drm_fac_build(
+            settings.as_ptr(), settings.len(), fields.as_ptr(), fields.len(), block.as_mut_ptr(), block.len(),
+        )
+    }
+}
+
+pub fn fac_read(settings: &[u8], block: &[u8], fields: &mut [u32]) -> u8 {
+    unsafe {
+        c::drm_fac_read(
+            settings.as_ptr(), settings.len(), block.as_ptr(), block.len(), fields.as_mut_ptr(), fields.len(),
         )
     }
 }
@@ -110,6 +134,7 @@ pub fn answer(kind: Kind, lent: &mut Lent) -> Result<u16, String> {
     let [mut fac, mut sdc, mut msc] = [&lent.fac, &lent.sdc, &lent.msc].map(|b| Guarded::new(b, 0xA5));
     let cells = [&lent.fac_cells, &lent.sdc_cells, &lent.msc_cells];
     let [mut fac_cells, mut sdc_cells, mut msc_cells] = cells.map(|b| Guarded::new(b, 0x5A5A));
+    let mut fields = Guarded::new(&lent.fields, 0xA5A5A5A5);
     let answer = match kind {
         Kind::Lengths => lengths(settings.lent(), lengths_out.lent()) as u16,
         Kind::Sizes => sizes(settings.lent(), sizes_out.lent()) as u16,
@@ -122,6 +147,8 @@ pub fn answer(kind: Kind, lent: &mut Lent) -> Result<u16, String> {
             let bytes = [fac.lent(), sdc.lent(), msc.lent()];
             read(state.lent(), memory.lent(), [fac_cells.lent(), sdc_cells.lent(), msc_cells.lent()], bytes)
         }
+        Kind::FacBuild => fac_build(settings.lent(), fields.lent(), fac.lent()) as u16,
+        Kind::FacRead => fac_read(settings.lent(), fac.lent(), fields.lent()) as u16,
     };
     settings.back("settings", &mut lent.settings)?;
     state.back("state", &mut lent.state)?;
@@ -134,5 +161,6 @@ pub fn answer(kind: Kind, lent: &mut Lent) -> Result<u16, String> {
     fac_cells.back("FAC cells", &mut lent.fac_cells)?;
     sdc_cells.back("SDC cells", &mut lent.sdc_cells)?;
     msc_cells.back("MSC cells", &mut lent.msc_cells)?;
+    fields.back("fields", &mut lent.fields)?;
     Ok(answer)
 }

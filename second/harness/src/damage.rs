@@ -4,6 +4,7 @@
 
 use crate::draw::Draw;
 use crate::lent::{Kind, Lent};
+use second::fac;
 use second::settings::Settings;
 
 pub struct Change {
@@ -76,6 +77,25 @@ static OF_READ: [Change; 11] = [
     change("ignored cells", ignored),
 ];
 
+static OF_FAC_BUILD: [Change; 7] = [
+    change("length of fields", |l, _, d| length(&mut l.fields, d)),
+    change("length of block", |l, _, d| length(&mut l.fac, d)),
+    change("field", |l, _, d| field(&mut l.fields, d)),
+    change("field of one bit more", |l, _, d| wider(&mut l.fields, d)),
+    change("field of the settings", |l, _, d| named(&mut l.fields, d)),
+    change("all fields", |l, _, d| l.fields.iter_mut().for_each(|v| *v = d.word() as u32)),
+    change("other fields", |l, s, d| l.fields = d.fields(s)),
+];
+
+static OF_FAC_READ: [Change; 6] = [
+    change("length of block", |l, _, d| length(&mut l.fac, d)),
+    change("length of fields", |l, _, d| length(&mut l.fields, d)),
+    change("bit of the block", |l, _, d| bit(&mut l.fac, d)),
+    change("reserved bits", |l, _, d| reserved(&mut l.fac, d)),
+    change("right CRC", |l, _, _| right_crc(&mut l.fac)),
+    change("all of the block", |l, _, d| l.fac.iter_mut().for_each(|b| *b = d.byte())),
+];
+
 /// The changes for a kind of call.
 fn changes(kind: Kind) -> Vec<&'static Change> {
     let (shared, own): (&'static [Change], &'static [Change]) = match kind {
@@ -84,6 +104,8 @@ fn changes(kind: Kind) -> Vec<&'static Change> {
         Kind::Reset => (&OF_SETTINGS, &OF_RESET),
         Kind::Code => (&OF_SUPER_FRAME, &OF_CODE),
         Kind::Read => (&OF_SUPER_FRAME, &OF_READ),
+        Kind::FacBuild => (&OF_SETTINGS, &OF_FAC_BUILD),
+        Kind::FacRead => (&OF_SETTINGS, &OF_FAC_READ),
     };
     shared.iter().chain(own).collect()
 }
@@ -238,6 +260,53 @@ pub fn ignored(lent: &mut Lent, s: &Settings, draw: &mut Draw) {
                 cell.fill_with(|| draw.number());
             }
         }
+    }
+}
+
+/// Any number in a field.
+fn field(fields: &mut [u32], draw: &mut Draw) {
+    if let Some(at) = draw.place(fields) {
+        let bits = draw.below(33);
+        fields[at] = (draw.word() % (1 << bits)) as u32;
+    }
+}
+
+/// A number that has just one bit more than its field, or all 32.
+fn wider(fields: &mut [u32], draw: &mut Draw) {
+    let at = draw.below(fac::FIELDS);
+    if let Some(v) = fields.get_mut(at) {
+        let more = 1 << fac::width(at);
+        *v = draw.pick(&[*v | more, more, u32::MAX]);
+    }
+}
+
+/// Another small number in a field that the settings name too.
+fn named(fields: &mut [u32], draw: &mut Draw) {
+    let at = draw.pick(&[2, 3, 4, 5]);
+    if let Some(v) = fields.get_mut(at) {
+        *v = draw.below(6) as u32;
+    }
+}
+
+fn bit(bytes: &mut [u8], draw: &mut Draw) {
+    if let Some(at) = draw.place(bytes) {
+        bytes[at] ^= 1 << draw.below(8);
+    }
+}
+
+/// Any reserved bits, with the CRC of what then stands in the block: good, and read as the same fields.
+fn reserved(block: &mut [u8], draw: &mut Draw) {
+    if let [_, _, rfu, .., rfa, _] = block {
+        *rfu ^= draw.byte() & 0x30;
+        *rfa ^= draw.byte() & 0x7F;
+    }
+    right_crc(block);
+}
+
+/// The CRC of what stands in the block.
+fn right_crc(block: &mut [u8]) {
+    if let Some((last, parameters)) = block.split_last_mut() {
+        *last = fac::crc_of(parameters);
     }
 }
 

@@ -1,5 +1,6 @@
 //! Pseudo-random numbers, and what is drawn with them.
 
+use second::fac;
 use second::rates;
 use second::settings::{Settings, FAC_BITS, FAC_BYTES};
 
@@ -87,5 +88,15 @@ impl Draw {
     pub fn old_numbers(&mut self, len: usize) -> Vec<i16> {
         let start = self.word() as i16;
         (0..len).map(|i| start.wrapping_add(i as i16)).collect()
+    }
+
+    /// Fields of an FAC block that agree with the settings.
+    pub fn fields(&mut self, s: &Settings) -> Vec<u32> {
+        let mut fields = [0; fac::FIELDS];
+        for (k, field) in fields.iter_mut().enumerate() {
+            *field = (self.word() % (1 << fac::width(k))) as u32;
+        }
+        fac::take_named(s, &mut fields);
+        fields.to_vec()
     }
 }

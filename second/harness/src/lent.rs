@@ -7,13 +7,16 @@ pub enum Kind {
     Reset,
     Code,
     Read,
+    FacBuild,
+    FacRead,
 }
 
-pub const KINDS: [Kind; 5] = [Kind::Lengths, Kind::Sizes, Kind::Reset, Kind::Code, Kind::Read];
+pub const KINDS: [Kind; 7] =
+    [Kind::Lengths, Kind::Sizes, Kind::Reset, Kind::Code, Kind::Read, Kind::FacBuild, Kind::FacRead];
 
 impl Kind {
     pub fn name(self) -> &'static str {
-        ["lengths", "sizes", "reset", "code", "read"][self as usize]
+        ["lengths", "sizes", "reset", "code", "read", "facbuild", "facread"][self as usize]
     }
 
     /// The refusal's number in an answer, 0 for acceptance.
@@ -37,6 +40,7 @@ pub struct Lent {
     pub fac_cells: Vec<i16>,
     pub sdc_cells: Vec<i16>,
     pub msc_cells: Vec<i16>,
+    pub fields: Vec<u32>,
 }
 
 impl Lent {
@@ -53,6 +57,7 @@ impl Lent {
             .or_else(|| first("FAC cells", &self.fac_cells, &other.fac_cells))
             .or_else(|| first("SDC cells", &self.sdc_cells, &other.sdc_cells))
             .or_else(|| first("MSC cells", &self.msc_cells, &other.msc_cells))
+            .or_else(|| first("fields", &self.fields, &other.fields))
     }
 }
 

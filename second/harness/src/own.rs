@@ -1,6 +1,7 @@
 //! The second program's own results, under the same interface; nothing here comes from the archive.
 
 use crate::lent::{Kind, Lent};
+use second::fac;
 use second::settings::Settings;
 use second::superframe::{self, Answer, Bits, BitsMut, Cells, CellsMut, State};
 
@@ -70,6 +71,16 @@ pub fn read(state: &mut [u8], memory: &mut [i16], cells: [&[i16]; 3], bytes: [&m
     }
 }
 
+pub fn fac_build(settings: &[u8], fields: &[u32], block: &mut [u8]) -> u8 {
+    let Ok(bytes) = <[u8; SETTINGS_BYTES]>::try_from(settings) else { return BAD_SLICE };
+    fac::build(&Settings::from_bytes(bytes), fields, block)
+}
+
+pub fn fac_read(settings: &[u8], block: &[u8], fields: &mut [u32]) -> u8 {
+    let Ok(bytes) = <[u8; SETTINGS_BYTES]>::try_from(settings) else { return BAD_SLICE };
+    fac::read(&Settings::from_bytes(bytes), block, fields)
+}
+
 fn state_of(bytes: &[u8]) -> Option<State> {
     <[u8; STATE_BYTES]>::try_from(bytes).ok().map(State::from_bytes)
 }
@@ -84,5 +95,7 @@ pub fn answer(kind: Kind, lent: &mut Lent) -> u16 {
         Kind::Reset => reset(state, settings, memory) as u16,
         Kind::Code => code(state, memory, [fac, sdc, msc], [fac_cells, sdc_cells, msc_cells]) as u16,
         Kind::Read => read(state, memory, [fac_cells, sdc_cells, msc_cells], [fac, sdc, msc]),
+        Kind::FacBuild => fac_build(settings, &lent.fields, fac) as u16,
+        Kind::FacRead => fac_read(settings, fac, &mut lent.fields) as u16,
     }
 }

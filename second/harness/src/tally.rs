@@ -3,16 +3,20 @@
 use crate::lent::{Kind, KINDS};
 use std::collections::BTreeMap;
 
+/// The greatest refusal but 255.
+const LAST: u8 = 16;
+
 /// The refusals that a kind of call can give.
 fn possible(kind: Kind) -> Vec<u8> {
-    let last = match kind {
-        Kind::Lengths | Kind::Sizes => 7,
-        Kind::Reset => 8,
-        Kind::Code => 12,
-        Kind::Read => 14,
+    let after: &[u8] = match kind {
+        Kind::Lengths | Kind::Sizes => &[],
+        Kind::Reset => &[8],
+        Kind::Code => &[8, 9, 10, 11, 12],
+        Kind::Read => &[8, 9, 10, 12, 13, 14],
+        Kind::FacBuild => &[9, 10, 15],
+        Kind::FacRead => &[9, 10, 15, 16],
     };
-    let numbers = (1..=last).chain([255]);
-    numbers.filter(|&n| !(kind == Kind::Read && n == 11)).collect()
+    (1..=7).chain(after.iter().copied()).chain([255]).collect()
 }
 
 #[derive(Default)]
@@ -51,7 +55,7 @@ impl Tally {
         row("", &|kind| kind.name().to_string());
         row("calls", &|kind| (0..=255).map(|n| self.of(kind, n)).sum::<u32>().to_string());
         row("accepted", &|kind| self.of(kind, 0).to_string());
-        for n in (1..=14).chain([255]) {
+        for n in (1..=LAST).chain([255]) {
             let shown = |kind| if possible(kind).contains(&n) { self.of(kind, n).to_string() } else { "-".to_string() };
             row(&format!("refusal {n}"), &shown);
         }

@@ -22,6 +22,9 @@ const CHANGED_CODES: usize = 4;
 const CHANGED_READS: usize = 8;
 /// Refusal 14 with block 4, the first finished frame.
 const EMPTY_CELL: u16 = 14 * 256 + 4;
+/// FAC blocks built and read, and changed calls beside each.
+const FAC_BLOCKS: usize = 5;
+const CHANGED_FACS: usize = 9;
 
 fn main() -> ExitCode {
     let args: Vec<String> = std::env::args().skip(1).collect();
@@ -84,6 +87,7 @@ impl Run {
     /// All calls with one setting.
     fn all(&mut self, s: &Settings) -> Result<(), String> {
         self.lengths(s)?;
+        (0..FAC_BLOCKS).try_for_each(|_| self.fac(s))?;
         let (mut coder, mut reader) = (self.reset(s)?, self.reset(s)?);
         for m in 0..SUPER_FRAMES {
             let bytes = self.draw.super_frame(s);
@@ -131,6 +135,21 @@ impl Run {
         self.calls(Kind::Lengths, CHANGED_LENGTHS, &mut lengths, s)?;
         self.calls(Kind::Sizes, CHANGED_LENGTHS, &mut sizes, s)?;
         Ok(())
+    }
+
+    /// An FAC block built from fields and read back.
+    fn fac(&mut self, s: &Settings) -> Result<(), String> {
+        let (settings, fields) = (s.bytes().to_vec(), self.draw.fields(s));
+        let mut build =
+            Lent { settings: settings.clone(), fields: fields.clone(), fac: self.draw.old_bytes(9), ..Lent::default() };
+        self.calls(Kind::FacBuild, CHANGED_FACS, &mut build, s)?;
+        let old = (0..14).map(|_| self.draw.word() as u32).collect();
+        let mut read = Lent { settings, fac: build.fac, fields: old, ..Lent::default() };
+        self.calls(Kind::FacRead, CHANGED_FACS, &mut read, s)?;
+        match read.fields == fields {
+            true => Ok(()),
+            false => Err(format!("fields built with {} are not read back", s.hex())),
+        }
     }
 
     fn reset(&mut self, s: &Settings) -> Result<Side, String> {

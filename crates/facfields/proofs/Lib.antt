@@ -1,0 +1,10 @@
+pub mod Digits
+pub mod Laid
+pub mod Linear
+pub mod Register
+pub mod Words
+pub mod Parameters
+pub mod Block
+pub mod Refusals
+pub mod RoundTrip
+pub mod OneBit

@@ -1,0 +1,7 @@
+pub mod Bits
+pub mod Fields
+pub mod Crc
+pub mod Block
+pub mod Build
+pub mod Read
+pub mod Theorems
