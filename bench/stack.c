@@ -10,9 +10,9 @@
 
 #include "drmcoder.h"
 
-enum { STACK = 8 * 1024 * 1024, PAINT = 0xA5, CALLS = 5 };
+enum { STACK = 8 * 1024 * 1024, PAINT = 0xA5, CALLS = 6 };
 
-static const char *const names[CALLS] = {"lengths", "sizes", "reset", "code", "read"};
+static const char *const names[CALLS] = {"lengths", "sizes", "reset", "code", "read", "nearest"};
 static unsigned char *stack;
 
 /* What the calls are lent; all bits are zero. */
@@ -22,6 +22,8 @@ static int16_t fac_cells[DRM_FAC_NUMBERS], sdc_cells[DRM_MOST_SDC_NUMBERS], msc_
 static int16_t memory[DRM_MOST_MEMORY_NUMBERS];
 static uint16_t lengths[DRM_LENGTHS];
 static uint32_t sizes[DRM_SIZES];
+static uint8_t received[DRM_FAC_VALUES], block[DRM_FAC_BLOCK_BYTES];
+static uint16_t disagreement[1];
 static unsigned answer;
 
 /* Bodies of the threads. */
@@ -57,6 +59,11 @@ static void *call_read(void *unused) {
     return unused;
 }
 
+static void *call_nearest(void *unused) {
+    answer = drm_fac_nearest(received, sizeof received, block, sizeof block, disagreement, 1);
+    return unused;
+}
+
 static void must(int holds, const char *what) {
     if (!holds) {
         fprintf(stderr, "%s\n", what);
@@ -83,8 +90,9 @@ static size_t depth(void *(*body)(void *)) {
 /* Makes all calls with these settings; a reader, just reset, reads the cells that the coder gave three times. */
 static void measure(size_t deepest[CALLS]) {
     static void *(*const bodies[])(void *) = {call_lengths, call_sizes, call_reset, call_code,  call_code,
-                                              call_code,    call_reset, call_read,  call_read, call_read};
-    static const int kinds[] = {0, 1, 2, 3, 3, 3, 2, 4, 4, 4};
+                                              call_code,    call_reset, call_read,  call_read, call_read,
+                                              call_nearest};
+    static const int kinds[] = {0, 1, 2, 3, 3, 3, 2, 4, 4, 4, 5};
     size_t empty = depth(nothing), k;
     for (k = 0; k < sizeof kinds / sizeof kinds[0]; k++) {
         size_t used = depth(bodies[k]) - empty;

@@ -184,10 +184,29 @@ static void run(const uint8_t *settings) {
     printf("; %d frames brought, %d read as brought\n", FRAMES, (int)out);
 }
 
+/* The first FAC block of the last super frame, from its cells with errors: wrong bits, and bits that are not known. */
+static void nearest(void) {
+    uint8_t received[DRM_FAC_VALUES], block[DRM_FAC_BLOCK_BYTES];
+    uint16_t wrong = 7;
+    size_t i;
+    for (i = 0; i < DRM_FAC_VALUES; i++)
+        received[i] = cells.fac[i] < 0;
+    for (i = 0; i < DRM_FAC_VALUES; i += 10)
+        received[i] = 2;
+    received[33] ^= 1;
+    received[77] ^= 1;
+    must(drm_fac_nearest(received, DRM_FAC_VALUES, block, sizeof block, &wrong, 1) == DRM_ACCEPTED, "a block is found");
+    must(memcmp(block, brought.fac, sizeof block) == 0 && wrong == 2, "it is the block brought, with two wrong bits");
+    received[5] = 3;
+    must(drm_fac_nearest(received, DRM_FAC_VALUES, block, sizeof block, &wrong, 1) == DRM_REFUSED_VALUE, "3 is no value");
+    printf("nearest FAC block: found with 13 bits unknown and %d wrong\n", wrong);
+}
+
 int main(void) {
     size_t k;
     for (k = 0; k < sizeof runs / sizeof runs[0]; k++)
         run(runs[k]);
+    nearest();
     printf("all as it must be\n");
     return 0;
 }

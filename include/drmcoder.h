@@ -63,6 +63,7 @@
  *    14  cells of a block or of a finished frame that no bits give
  *    15  a field of an FAC block too large for its bits, or against the settings
  *    16  an FAC block with a wrong CRC
+ *    21  a value lent to drm_fac_nearest is above 2
  *   255  a settings, state, lengths or sizes slice of the wrong length; this goes before all others
  *
  * Fields of an FAC block: fourteen numbers, with their bits (clauses 6.3.3 and 6.3.4 of the standard)
@@ -93,7 +94,8 @@ enum {
     DRM_FAC_BYTES = 27,
     DRM_FAC_NUMBERS = 390,
     DRM_FAC_BLOCK_BYTES = 9,
-    DRM_FAC_FIELDS = 14
+    DRM_FAC_FIELDS = 14,
+    DRM_FAC_VALUES = 130
 };
 
 /* The most that any permitted settings ask of the other slices, for buffers that serve them all. */
@@ -127,6 +129,7 @@ enum {
     DRM_REFUSED_BLOCK = 14,
     DRM_REFUSED_FIELD = 15,
     DRM_REFUSED_CRC = 16,
+    DRM_REFUSED_VALUE = 21,
     DRM_REFUSED_SLICE = 255
 };
 
@@ -211,6 +214,18 @@ uint8_t drm_fac_build(const uint8_t *settings, size_t settings_len, const uint32
  */
 uint8_t drm_fac_read(const uint8_t *settings, size_t settings_len, const uint8_t *block, size_t block_len,
                      uint32_t *fields, size_t fields_len);
+
+/*
+ * The FAC block nearest to received bits: the one whose coded bits disagree with the fewest known ones, and of equals the
+ * one that is smaller as a binary number, first bit highest. The block is as it is before dispersal, as drm_code takes
+ * it. The standard's puncturing is used.
+ *   received      130 values in the order of the mapped cells (of each cell the real axis first): 0, 1, or 2 for unknown
+ *   block         9 bytes, written if the answer is 0
+ *   disagreement  1 number, how many known values disagree with the block's coded bits; written if the answer is 0
+ * Answers 0, 9 (received), 10 (block or disagreement) or 21. If nothing is known, the block is zero and the number 0.
+ */
+uint8_t drm_fac_nearest(const uint8_t *received, size_t received_len, uint8_t *block, size_t block_len,
+                        uint16_t *disagreement, size_t disagreement_len);
 
 #ifdef __cplusplus
 }

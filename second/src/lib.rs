@@ -13,6 +13,7 @@ pub mod fac;
 pub mod interleaver;
 pub mod lengths;
 pub mod mapping;
+pub mod nearest;
 pub mod packing;
 pub mod rates;
 #[cfg(test)]

@@ -9,11 +9,12 @@ fn main() -> ExitCode {
         "lengths" => second::lengths::print(&mut out),
         "annexj" => second::annexj::print(&mut out),
         "blocks" => second::blocks::print(&mut out),
+        "nearest" => second::nearest::print(&mut out),
         "runs" => second::runs::print(&Own, &mut out),
         "counts" => second::counts::print(&Own, &mut out),
         "refusals" => second::refusals::print(&Own, &mut out),
         _ => {
-            eprintln!("second lengths | annexj | blocks | runs | counts | refusals");
+            eprintln!("second lengths | annexj | blocks | nearest | runs | counts | refusals");
             return ExitCode::from(2);
         }
     };

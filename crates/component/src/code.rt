@@ -71,7 +71,7 @@ const COLUMNS: [usize; 25] = [
 ];
 
 // The columns of the pattern of number k, filled up to eight.
-fn row(k: usize) -> [u8; 8]
+pub fn row(k: usize) -> [u8; 8]
     requires { ⌜ k < 25 ⌝ }
     ensures { λ r. ⌜ r ≡ padded (patternAt k) ⌝ }
 {
@@ -79,7 +79,7 @@ fn row(k: usize) -> [u8; 8]
 }
 
 // How many columns the pattern of number k has.
-fn columns(k: usize) -> usize
+pub fn columns(k: usize) -> usize
     requires { ⌜ k < 25 ⌝ }
     ensures { λ r. ⌜ r ≡ length (patternAt k) ⌝ }
 {
@@ -93,7 +93,7 @@ pub struct Coder {
 }
 
 // The register with one more bit, the newest being the highest.
-fn next(register: u32, bit: u8) -> u32
+pub fn next(register: u32, bit: u8) -> u32
     requires { ⌜ (register < 128) × (bit < 2) ⌝ }
     ensures { λ r. ⌜ r ≡ next register bit ⌝ }
 {
@@ -101,14 +101,14 @@ fn next(register: u32, bit: u8) -> u32
 }
 
 // The count of ones of the masked register, modulo 2.
-fn parity(register: u32, mask: u32) -> u8
+pub fn parity(register: u32, mask: u32) -> u8
     ensures { λ r. ⌜ r ≡ parity mask register ⌝ }
 {
     (u32::count_ones(register & mask) % 2) as u8
 }
 
 // The column after column i of a pattern.
-fn following(columns: usize, i: usize) -> usize
+pub fn following(columns: usize, i: usize) -> usize
     requires { ⌜ i < columns ⌝ }
     ensures { λ r. ⌜ r ≡ cond (ltb (i + 1) columns) (i + 1) 0 ⌝ }
 {

@@ -5,7 +5,7 @@ use mathlib.Core.List.{List, [], _∷_, _++_}
 use lib.ListN.{length}
 use lib.Seq.{sets}
 use borrow.Author.Tests.{eq-eqb, ne-eqb}
-use Rattle.lists.proofs.Copies.{whole}
+use Rattle.lists.proofs.Parts.{sets-whole}
 use Rattle.settings.specs.declared.Lengths.{Lengths}
 use Rattle.settings.specs.declared.Sizes.{Sizes}
 use Rattle.settings.specs.declared.Settings.{Settings}
@@ -19,7 +19,7 @@ use Rattle.drmcoder.proofs.Tests.{both-right}
 pub lengths-stored : (l : Lengths) (d : List ℕ) → l .refusal ≡ 0 → length d ≡ 5
     → yielded 0 (sets d 0 (l .n1 ∷ l .n2 ∷ l .l1 ∷ l .l2 ∷ l .vspp ∷ [])) ≡ lengthsInto l d
 unfolding lengthsInto
-lengths-stored l d e h = rw (eq-eqb (l .refusal) 0 e, whole d (l .n1 ∷ l .n2 ∷ l .l1 ∷ l .l2 ∷ l .vspp ∷ []) h)
+lengths-stored l d e h = rw (eq-eqb (l .refusal) 0 e, sets-whole d (l .n1 ∷ l .n2 ∷ l .l1 ∷ l .l2 ∷ l .vspp ∷ []) h)
 
 pub lengths-refused : (l : Lengths) (d : List ℕ) → (l .refusal ≡ 0 → ⊥) → yielded (l .refusal) d ≡ lengthsInto l d
 unfolding lengthsInto
@@ -28,7 +28,7 @@ lengths-refused l d h = rw (ne-eqb (l .refusal) 0 h)
 pub sizes-stored : (z : Sizes) (d : List ℕ) → z .refusal ≡ 0 → length d ≡ 6
     → yielded 0 (sets d 0 (z .sdcbytes ∷ z .mscbytes ∷ z .facnumbers ∷ z .sdcnumbers ∷ z .mscnumbers ∷ z .memory ∷ [])) ≡ sizesInto z d
 unfolding sizesInto
-sizes-stored z d e h = rw (eq-eqb (z .refusal) 0 e, whole d (z .sdcbytes ∷ z .mscbytes ∷ z .facnumbers ∷ z .sdcnumbers ∷ z .mscnumbers ∷ z .memory ∷ []) h)
+sizes-stored z d e h = rw (eq-eqb (z .refusal) 0 e, sets-whole d (z .sdcbytes ∷ z .mscbytes ∷ z .facnumbers ∷ z .sdcnumbers ∷ z .mscnumbers ∷ z .memory ∷ []) h)
 
 pub sizes-refused : (z : Sizes) (d : List ℕ) → (z .refusal ≡ 0 → ⊥) → yielded (z .refusal) d ≡ sizesInto z d
 unfolding sizesInto
@@ -50,4 +50,4 @@ pub state-stored : (state : State) (d : List ℕ) (high low : ℕ) → length d 
     → let s = state .settings in
     sets d 0 (s .mode ∷ s .occupancy ∷ s .msc ∷ s .levela ∷ s .levelb ∷ s .vspp ∷ high ∷ low ∷ s .sdc ∷ s .interleaving ∷ state .position ∷ state .count ∷ []) ≡ stateBytes state
 unfolding stateBytes settingsBytes
-state-stored state d high low e eh el = rw (eh, el) (whole d (settingsBytes (state .settings) ++ (state .position ∷ state .count ∷ [])) e)
+state-stored state d high low e eh el = rw (eh, el) (sets-whole d (settingsBytes (state .settings) ++ (state .position ∷ state .count ∷ [])) e)

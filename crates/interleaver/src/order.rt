@@ -2,7 +2,7 @@
 ghost use mathlib.Core.Path.{_≡_};
 ghost use Prim.Native.Nat.{_-_, _/_, _%_, _≤_};
 ghost use Rattle.interleaver.specs.Interleaving.{size, nextPlace, interleaved};
-ghost use Rattle.interleaver.specs.Deinterleaving.{Sizes, Steps, deinterleaved};
+ghost use Rattle.interleaver.specs.Deinterleaving.{Sizes, Steps, Lends, deinterleaved};
 ghost use Rattle.interleaver.specs.Weights.{Weight, Adds, Takes, added, taken};
 
 // s, the smallest power of two not below n: n - 1 has as many digits as s has zeros.
@@ -31,6 +31,23 @@ pub fn next_place(t: usize, n: usize, s: usize, q: usize, place: usize) -> usize
         x = (t * x + q) & (s - 1);
     }
     x
+}
+
+// Output P(i) is input i.
+pub fn deinterleave(t: usize, values: &[u8], out: &mut [u8])
+    requires { ⌜ Lends t (now values) (now out) ⌝ }
+    ensures { λ r. ⌜ now (out .exit) ≡ deinterleaved 0 t (now (values .entry)) ⌝ }
+{
+    let n = values.len();
+    let s = size_of(n);
+    let q = offset_of(s);
+    let mut place = 0;
+    let mut i = 0;
+    while i < n {
+        out[place] = values[i];
+        place = next_place(t, n, s, q, place);
+        i += 1;
+    }
 }
 
 // Number i becomes itself + weight × bit P(i): a level's bits are interleaved and added in one pass.

@@ -1,11 +1,10 @@
--- Lists written over by another list's elements, or by zeros. Assumes nothing.
+-- Lists written over from the front by another list's elements, or by zeros. Assumes nothing.
 use Prim.Native.Nat.{ℕ, _≤_}
 use mathlib.Core.Path.{_≡_, refl, sym, _∙_}
-use mathlib.Core.List.{List, append-nil}
-use native.Mathlib.Nat.{zero-add}
+use mathlib.Core.List.{List}
 use native.Mathlib.Omega.{arith}
 use lib.ListN.{length, getD, replicate}
-use lib.Seq.{ext-getD, sets, sets-eq, drop-length}
+use lib.Seq.{ext-getD}
 use lib.IntN.{ℤ, pos}
 use Rattle.lists.proofs.Tables.{Filled, filled-end, replicate-table}
 
@@ -18,7 +17,3 @@ pub zeros-end : (d out : List ℤ) (i : ℕ) → i ≤ length d → length out �
 zeros-end d out i h k w =
     let e : i ≡ length d = omega (arith, w .long) in
     filled-end (pos 0) (λ j. pos 0) d out (length d) refl (rw e at w) ∙ sym (replicate-table (pos 0) 0 (length d))
-
--- a list written over whole, element by element
-pub whole : {A : Type 0} (l vs : List A) → length l ≡ length vs → sets l 0 vs ≡ vs
-whole l vs e = sets-eq vs l 0 (omega arith) ∙ rw (zero-add (length vs), ← e, drop-length, append-nil vs)

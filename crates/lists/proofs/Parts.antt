@@ -1,10 +1,11 @@
 -- Parts of a buffer: from its start, to its end, and a buffer written in two parts. Assumes nothing.
-use Prim.Native.Nat.{ℕ, _-_, _≤_}
-use mathlib.Core.Path.{_≡_, ap, ap₂, _∙_}
-use mathlib.Core.List.{List, [], _++_, append-nil}
+use Prim.Native.Nat.{ℕ, zero, suc, _-_, _≤_, _<_}
+use mathlib.Core.Path.{_≡_, refl, ap, ap₂, _∙_}
+use mathlib.Core.List.{List, [], _∷_, _++_, append-nil}
+use native.Mathlib.Nat.{zero-add}
 use native.Mathlib.Omega.{arith}
-use lib.ListN.{length, take, drop, length-append, length-drop, take-append-drop}
-use lib.Seq.{length-take-le, take-all, take-at, drop-length}
+use lib.ListN.{length, getD, take, drop, length-append, length-drop, take-append-drop}
+use lib.Seq.{sets, sets-eq, length-take-le, take-all, take-at, drop-length}
 
 -- a part from the start of a list, and one to its end
 pub from-start : (n : ℕ) → n - 0 ≡ n
@@ -24,6 +25,10 @@ module _ {A : Type 0} (l p : List A) (n : ℕ) (h : n ≤ length l) (e : length 
   pub length-written : length (p ++ drop (n - 0) l) ≡ length l
   length-written = rw (length-append, from-start n, length-drop, e) (omega arith)
 
+  -- and they are what was written
+  pub front-written : take (n - 0) (p ++ drop (n - 0) l) ≡ p
+  front-written = rw (from-start n) (take-at p (drop n l) n e)
+
   -- so that the second part is as long as it was
   pub length-second : length (take (length (p ++ drop (n - 0) l) - n) (drop n (p ++ drop (n - 0) l))) ≡ length l - n
   length-second = length-end n (p ++ drop (n - 0) l) ∙ ap (λ m. m - n) length-written
@@ -40,3 +45,13 @@ module _ {A : Type 0} (l p : List A) (n : ℕ) (h : n ≤ length l) (e : length 
 pub length-inside : {A : Type 0} (d e : List A) (i n : ℕ) → length e ≡ length (take n (drop i d)) → length (take i d ++ (e ++ drop n (drop i d))) ≡ length d
 length-inside d e i n h =
     rw (length-append, length-append, h, ← length-append (take n (drop i d)) (drop n (drop i d)), take-append-drop n (drop i d), ← length-append (take i d) (drop i d), take-append-drop i d)
+
+-- a list stored over all of another
+pub sets-whole : {A : Type 0} (l vs : List A) → length l ≡ length vs → sets l 0 vs ≡ vs
+sets-whole l vs e = sets-eq vs l 0 (omega arith) ∙ rw (zero-add (length vs), ← e, drop-length, append-nil vs)
+
+-- within a list the default is not asked for
+pub getD-any : {A : Type 0} (l : List A) (i : ℕ) (y z : A) → i < length l → getD l i y ≡ getD l i z
+getD-any [] i y z h = absurd (omega arith)
+getD-any (a ∷ l) zero y z h = refl
+getD-any (a ∷ l) (suc i) y z h = getD-any l i y z (omega arith)

@@ -30,6 +30,10 @@ mod c {
             settings: *const u8, settings_len: usize, block: *const u8, block_len: usize,
             fields: *mut u32, fields_len: usize,
         ) -> u8;
+        pub fn drm_fac_nearest(
+            received: *const u8, received_len: usize, block: *mut u8, block_len: usize,
+            disagreement: *mut u16, disagreement_len: usize,
+        ) -> u8;
     }
 }
 
@@ -91,29 +95,37 @@ pub fn fac_read(settings: &[u8], block: &[u8], fields: &mut [u32]) -> u8 {
     }
 }
 
+pub fn fac_nearest(received: &[u8], block: &mut [u8], count: &mut [u16]) -> u8 {
+    unsafe {
+        c::drm_fac_nearest(
+            received.as_ptr(), received.len(), block.as_mut_ptr(), block.len(), count.as_mut_ptr(), count.len(),
+        )
+    }
+}
+
 /// Elements before and after a lent buffer that nobody may write; odd, so that alignment is the least allowed.
 const GUARD: usize = 33;
 
 /// A copy of a buffer with a guard on each side.
-struct Guarded<T> {
+pub struct Guarded<T> {
     all: Vec<T>,
     len: usize,
     guard: T,
 }
 
 impl<T: Copy + PartialEq> Guarded<T> {
-    fn new(buffer: &[T], guard: T) -> Guarded<T> {
+    pub fn new(buffer: &[T], guard: T) -> Guarded<T> {
         let mut all = vec![guard; buffer.len() + 2 * GUARD];
         all[GUARD..GUARD + buffer.len()].copy_from_slice(buffer);
         Guarded { all, len: buffer.len(), guard }
     }
 
-    fn lent(&mut self) -> &mut [T] {
+    pub fn lent(&mut self) -> &mut [T] {
         &mut self.all[GUARD..GUARD + self.len]
     }
 
     /// Copies the buffer back; an error if a guard was written.
-    fn back(&self, name: &str, buffer: &mut [T]) -> Result<(), String> {
+    pub fn back(&self, name: &str, buffer: &mut [T]) -> Result<(), String> {
         let (before, rest) = self.all.split_at(GUARD);
         let (lent, after) = rest.split_at(self.len);
         buffer.copy_from_slice(lent);

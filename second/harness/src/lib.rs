@@ -6,6 +6,7 @@ pub mod compare;
 pub mod damage;
 pub mod draw;
 pub mod lent;
+pub mod nearest;
 pub mod own;
 pub mod rig;
 pub mod tally;

@@ -1,7 +1,9 @@
 //! Times Code and Read of the archive beside the second program's own, or makes a given number of calls.
 
+use harness::archive;
 use harness::rig::{Program, Rig};
-use second::settings::Settings;
+use second::nearest::RECEIVED;
+use second::settings::{Settings, FAC_BITS, FAC_BYTES};
 use std::process::ExitCode;
 use std::time::Instant;
 
@@ -139,6 +141,19 @@ fn table() {
     print_ratios("Read", all.iter().map(|t| t.library_read / t.second_read).collect());
     println!();
     print_growth();
+    println!();
+    print_nearest();
+}
+
+/// The search for the nearest FAC block, by values with a third unknown.
+fn print_nearest() {
+    let received: Vec<u8> = (0..RECEIVED).map(|i| (i % 3) as u8).collect();
+    let (mut block, mut count) = ([0; FAC_BYTES], [0]);
+    let mut least = f64::INFINITY;
+    for _ in 0..ROUNDS {
+        least = least.min(time(|| assert_eq!(archive::fac_nearest(&received, &mut block, &mut count), 0)));
+    }
+    println!("nearest FAC block: {:.0} ns a bit", least / FAC_BITS as f64);
 }
 
 fn print_times(mode: u8, occupancy: u8, msc: u8, interleaving: u8, t: &Times) {

@@ -6,6 +6,7 @@ use harness::compare;
 use harness::damage::{ignored, spoil};
 use harness::draw::Draw;
 use harness::lent::{Kind, Lent};
+use harness::nearest;
 use harness::tally::Tally;
 use second::interleaver::Places;
 use second::settings::{Settings, PAIRINGS};
@@ -60,6 +61,13 @@ fn random_calls() -> ExitCode {
                     return ExitCode::FAILURE;
                 }
             }
+        }
+    }
+    match nearest::calls(SEED) {
+        Ok(line) => println!("{line}"),
+        Err(difference) => {
+            eprintln!("{difference}");
+            return ExitCode::FAILURE;
         }
     }
     run.tally.print();

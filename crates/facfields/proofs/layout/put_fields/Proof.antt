@@ -2,14 +2,14 @@
 use native.Mathlib.Omega.{arith}
 use borrow.Author.Needs.{needs}
 use lib.ListN.{length-set}
-use Rattle.lists.proofs.Copies.{whole}
+use Rattle.lists.proofs.Parts.{sets-whole}
 use Rattle.facfields.specs.Fields.{numbersOf}
 use Rattle.facfields.proofs.layout.put_fields.Statement.{statement}
 use Rattle.facfields.proofs.layout.put_fields.Tie as tie
 
 returns : tie.Need-returns
 unfolding numbersOf
-returns c = whole (c .args .numbers .now) (numbersOf (c .args .f)) (c .pre)
+returns c = sets-whole (c .args .numbers .now) (numbersOf (c .args .f)) (c .pre)
 
 pub put-fields-spec : {M : Type 1} → statement M
 put-fields-spec =

@@ -1,0 +1,120 @@
+-- The FAC block as an instance of the search. Assumes nothing.
+use Prim.Native.Nat.{ℕ, zero, suc}
+use mathlib.Core.Path.{_≡_, refl, sym, ap, ap₂, _∙_}
+use mathlib.Core.List.{List, _∷_}
+use native.Mathlib.Omega.{arith}
+use lib.ListN.{length, replicate}
+use lib.Dec.{lit<}
+use Rattle.lists.specs.Bytes.{bytesFor}
+use Rattle.packing.specs.Requirements.{Packs}
+use Rattle.lists.specs.Lists.{table}
+use Rattle.lists.proofs.Tables.{length-table}
+use Rattle.component.specs.Bits.{Bits}
+use Rattle.component.specs.Patterns.{pattern, R3/5}
+use Rattle.component.specs.Decoding.{patternAt}
+use Rattle.component.proofs.Patterns.{pattern-at}
+use Rattle.component.proofs.Lengths.{fac-codeword}
+use Rattle.interleaver.specs.Deinterleaving.{Cycles, Lends, deinterleaved}
+use Rattle.settings.specs.Formulas.{facBits}
+use Rattle.block.specs.Packing.{packed}
+use Rattle.block.specs.Dispersal.{p, dispersed}
+use Rattle.block.proofs.Dispersal.{p-bit}
+use Rattle.block.proofs.Lists.{bits-table}
+use Rattle.nearest.specs.Nearest.{disagreement, nearest}
+use Rattle.nearest.specs.Coded.{added, coded, facFlips, facCoded, facSent}
+use Rattle.nearest.specs.Fac.{facNearest}
+use Rattle.nearest.specs.Contracts.{SearchesWith, Found, Long, Receives, Nearby, NearbyBits}
+use Rattle.nearest.proofs.Cheapest.{cheapest-same, cheapest-bits, cheapest-long}
+use Rattle.nearest.proofs.FourValues.{length-added}
+use Rattle.nearest.proofs.Order.{order-disagrees}
+
+-- zeros dispersed are the sequence itself
+pub dispersed-zeros : (k n : ℕ) → dispersed k (replicate n 0) ≡ table p k n
+unfolding dispersed table
+dispersed-zeros k zero = refl
+dispersed-zeros k (suc n) = ap₂ _∷_ (omega (arith, p-bit k)) (dispersed-zeros (suc k) n)
+
+pub length-flips : length facFlips ≡ 72
+unfolding facFlips facBits
+length-flips = length-table p 0 72
+
+pub bits-flips : Bits facFlips
+unfolding facFlips
+bits-flips = bits-table p 0 facBits p-bit
+
+-- an FAC block has 130 coded bits
+pub length-coded : (bits : List ℕ) → length bits ≡ 72 → length (facCoded bits) ≡ 130
+unfolding facCoded coded
+length-coded bits e = fac-codeword 0 (added facFlips bits) (length-added facFlips bits (e ∙ sym length-flips) ∙ length-flips)
+
+-- the values in the coder's order find the block and its disagreement
+module _ (received : List ℕ) (l : length received ≡ 130) where
+  cycles : Cycles 21 (length received)
+  cycles = record { low = omega arith; factor = refl }
+
+  pub same-disagreement : (bits : List ℕ) → length bits ≡ 72 → disagreement received (facSent bits) ≡ disagreement (deinterleaved 0 21 received) (facCoded bits)
+  unfolding facSent
+  same-disagreement bits e = order-disagrees 21 received cycles (facCoded bits) (length-coded bits e ∙ sym l)
+
+  pub same-block : facNearest received ≡ nearest (length facFlips) (coded (pattern R3/5) (pattern R3/5) facFlips) (deinterleaved 0 21 received)
+  unfolding facNearest nearest facBits facCoded
+  same-block =
+      rw length-flips
+      (cheapest-same 72 (λ bits. disagreement received (facSent bits)) (λ bits. disagreement (deinterleaved 0 21 received) (facCoded bits))
+      (λ bits B e. same-disagreement bits e))
+
+-- the FAC's search, and what it finds
+pub fac-searches : {flips bits : List ℕ} → flips ≡ facFlips → length bits ≡ 72 → SearchesWith 6 6 flips bits
+fac-searches ef lb =
+    rw ef
+    (record {
+      number = lit< tt;
+      numberTail = lit< tt;
+      bits = bits-flips;
+      few = rw length-flips (omega arith);
+      same = lb ∙ sym length-flips;
+    })
+
+pub fac-found : {flips values bits : List ℕ} {count : ℕ} → flips ≡ facFlips
+    → Found (patternAt 6) (patternAt 6) flips values bits count → Found (pattern R3/5) (pattern R3/5) facFlips values bits count
+fac-found ef F = rw (ef, pattern-at R3/5 (lit< tt)) at F
+
+pub length-nearest : (received : List ℕ) → length (facNearest received) ≡ 72
+unfolding facNearest nearest facBits
+length-nearest received = cheapest-long 72 (λ bits. disagreement received (facSent bits))
+
+pub bits-nearest : (received : List ℕ) → Bits (facNearest received)
+unfolding facNearest nearest facBits
+bits-nearest received = cheapest-bits 72 (λ bits. disagreement received (facSent bits))
+
+pub found-block : {received values bits : List ℕ} {count : ℕ} → length received ≡ 130 → values ≡ deinterleaved 0 21 received
+    → Found (pattern R3/5) (pattern R3/5) facFlips values bits count → NearbyBits received bits count
+unfolding facCoded
+found-block {received} {values} {bits} l ev F =
+    let b : bits ≡ facNearest received = F .bits ∙ rw ev (sym (same-block received l)) in
+    record {
+      block = b;
+      counted = F .counted ∙ rw (ev, b) (sym (same-disagreement received l (facNearest received) (length-nearest received)));
+    }
+
+-- its bits packed
+pub packs : {received bits block : List ℕ} {count : ℕ} → Receives received block → NearbyBits received bits count → Packs bits block
+unfolding bytesFor
+packs {received} R N =
+    rw (N .block)
+    (record {
+      input = bits-nearest received;
+      few = rw length-nearest (omega arith);
+      same = rw length-nearest (R .room);
+    })
+
+pub nearby : {received bits block′ : List ℕ} {count : ℕ} → NearbyBits received bits count → block′ ≡ packed bits → Nearby received block′ count
+nearby N e = record { bytes = e ∙ ap packed (N .block); counted = N .counted }
+
+-- what putting the values back requires
+pub lends : {received values : List ℕ} → length received ≡ 130 → Long 130 values → Lends 21 received values
+lends {received} l B =
+    record {
+      fits = record { cycles = cycles received l; high = omega arith; small = omega arith };
+      same = B .long ∙ sym l;
+    }

@@ -1,0 +1,12 @@
+pub mod Cheapest
+pub mod FourValues
+pub mod Choices
+pub mod Spreading
+pub mod Layers
+pub mod Following
+pub mod Searching
+pub mod Order
+pub mod Blocks
+pub mod Answers
+pub mod Sent
+pub mod Undamaged

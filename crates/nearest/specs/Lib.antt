@@ -1,0 +1,5 @@
+pub mod Nearest
+pub mod Coded
+pub mod Fac
+pub mod Contracts
+pub mod Theorem

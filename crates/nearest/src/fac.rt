@@ -1,0 +1,115 @@
+// The nearest FAC block. 02, S-9.
+use crate::search::search_with;
+use interleaver::order::deinterleave;
+use packing::bits::disperse;
+use packing::bits::pack;
+use settings::tables::FAC_BYTES;
+use settings::tables::FAC_NUMBERS;
+use settings::tables::R3_5;
+ghost use mathlib.Core.Path.{_≡_};
+ghost use lib.ListN.{length};
+ghost use Rattle.component.specs.Patterns.{pattern, R3/5};
+ghost use Rattle.nearest.specs.Coded.{facFlips};
+ghost use Rattle.nearest.specs.Fac.{allValues, nearestRefusalBy, nearestYield, nearestOf};
+ghost use Rattle.nearest.specs.Contracts.{Found, Long, Receives, Nearby, NearbyBits};
+
+// An FAC block's bits and t of its interleaver.
+const FAC_BITS: usize = 72;
+
+const FAC_STEP: usize = 21;
+
+// Whether every received value is 0, 1 or 2.
+fn all_values(received: &[u8]) -> bool
+    ensures { λ r. ⌜ r ≡ allValues (now (received .entry)) ⌝ }
+{
+    let mut i = 0;
+    while i < received.len() {
+        if 2 < received[i] {
+            return false;
+        }
+        i += 1;
+    }
+    true
+}
+
+// The lowest number that applies, 0 for acceptance.
+fn refusal(received: &[u8], block: usize, counts: usize) -> u8
+    ensures { λ r. ⌜ r ≡ nearestRefusalBy (now (received .entry)) block counts ⌝ }
+{
+    if received.len() != FAC_NUMBERS {
+        return 9;
+    }
+    if block != FAC_BYTES {
+        return 10;
+    }
+    if counts != 1 {
+        return 10;
+    }
+    if !all_values(received) {
+        return 21;
+    }
+    0
+}
+
+// The bits that dispersal adds to a block: what it makes of zeros.
+fn flips() -> [u8; FAC_BITS]
+    ensures { λ r. ⌜ r ≡ facFlips ⌝ }
+{
+    let mut flips = [0u8; FAC_BITS];
+    disperse(&mut flips);
+    flips
+}
+
+// The search with the pattern of rate 3/5, with which the FAC's tail goes on.
+fn search_block(values: &[u8], bits: &mut [u8]) -> u16
+    requires { ⌜ length (now bits) ≡ 72 ⌝ }
+    ensures { λ r. ⌜ Found (pattern R3/5) (pattern R3/5) facFlips (now (values .entry)) (now (bits .exit)) r ⌝ }
+{
+    let flips = flips();
+    search_with(R3_5, R3_5, &flips, values, bits)
+}
+
+fn value_buffer() -> [u8; FAC_NUMBERS]
+    ensures { λ r. ⌜ Long 130 r ⌝ }
+{
+    [0u8; FAC_NUMBERS]
+}
+
+fn bit_buffer() -> [u8; FAC_BITS]
+    ensures { λ r. ⌜ Long 72 r ⌝ }
+{
+    [0u8; FAC_BITS]
+}
+
+// The nearest block's bits: the values are put back to the coder's order first.
+fn nearest_bits(received: &[u8], bits: &mut [u8]) -> u16
+    requires { ⌜ (length (now received) ≡ 130) × (length (now bits) ≡ 72) ⌝ }
+    ensures { λ r. ⌜ NearbyBits (now (received .entry)) (now (bits .exit)) r ⌝ }
+{
+    let mut values = value_buffer();
+    deinterleave(FAC_STEP, received, &mut values);
+    search_block(&values, bits)
+}
+
+// The nearest block, packed.
+fn nearest_block(received: &[u8], block: &mut [u8]) -> u16
+    requires { ⌜ Receives (now received) (now block) ⌝ }
+    ensures { λ r. ⌜ Nearby (now (received .entry)) (now (block .exit)) r ⌝ }
+{
+    let mut bits = bit_buffer();
+    let count = nearest_bits(received, &mut bits);
+    pack(&bits, block);
+    count
+}
+
+// The call: 130 received values in the order of the mapped cells, each 0, 1 or 2 for unknown, to the nearest block and its number of disagreements.
+pub fn fac_nearest(received: &[u8], block: &mut [u8], count: &mut [u16]) -> u8
+    ensures { λ r. ⌜ nearestYield r (now (block .exit)) (now (count .exit)) ≡ nearestOf (now (received .entry)) (now (block .entry)) (now (count .entry)) ⌝ }
+{
+    let number = refusal(received, block.len(), count.len());
+    if number != 0 {
+        return number;
+    }
+    count[0] = nearest_block(received, block);
+    0
+}
