@@ -142,6 +142,37 @@ static void refused_calls(void) {
     must(memcmp(&given, &given_before, sizeof given) == 0, "a refused call leaves the bits");
 }
 
+/* Places the cells on a grid, spoils its kinds, and takes the cells off again. */
+static void grid_and_back(const uint8_t *settings) {
+    static int16_t grid[DRM_MOST_GRID_NUMBERS];
+    static struct cells taken;
+    uint32_t of_grid[DRM_GRID_SIZES];
+    size_t i, references = 0;
+    must(drm_grid_sizes(settings, DRM_SETTINGS_BYTES, of_grid, DRM_GRID_SIZES) == 0, "the settings have a grid");
+    must(of_grid[2] == 3 * of_grid[0] * of_grid[1], "a grid has three numbers a place");
+    must(drm_grid_place(settings, DRM_SETTINGS_BYTES, cells.fac, DRM_FAC_NUMBERS, cells.sdc, sizes[SDC_NUMBERS],
+                        cells.msc, sizes[MSC_NUMBERS], grid, of_grid[2] - 1) == DRM_REFUSED_GRID_LENGTH,
+         "a grid without its last number is refused by 17");
+    must(drm_grid_place(settings, DRM_SETTINGS_BYTES, cells.fac, DRM_FAC_NUMBERS, cells.sdc, sizes[SDC_NUMBERS],
+                        cells.msc, sizes[MSC_NUMBERS], grid, of_grid[2]) == DRM_ACCEPTED, "the cells are placed");
+    for (i = 0; i < of_grid[2]; i += 3) {
+        if (grid[i] < DRM_FAC_CELL) {
+            must(grid[i + 1] == 0 && grid[i + 2] == 0, "references and empty places have the cell (0, 0)");
+            references++;
+            grid[i + 1] = 99;
+        }
+        grid[i] = -1;
+    }
+    must(of_grid[0] * of_grid[1] - references == (DRM_FAC_NUMBERS + sizes[SDC_NUMBERS] + sizes[MSC_NUMBERS]) / 2,
+         "there is a place for each cell");
+    memset(&taken, 0xA5, sizeof taken);
+    must(drm_grid_take(settings, DRM_SETTINGS_BYTES, grid, of_grid[2], taken.fac, DRM_FAC_NUMBERS, taken.sdc,
+                       sizes[SDC_NUMBERS], taken.msc, sizes[MSC_NUMBERS]) == DRM_ACCEPTED, "the cells are taken");
+    must(memcmp(taken.fac, cells.fac, sizeof taken.fac) == 0, "FAC cells are taken as placed");
+    must(memcmp(taken.sdc, cells.sdc, 2 * sizes[SDC_NUMBERS]) == 0, "SDC cells are taken as placed");
+    must(memcmp(taken.msc, cells.msc, 2 * sizes[MSC_NUMBERS]) == 0, "MSC cells are taken as placed");
+}
+
 /* Whether what was read is what was brought, out frames being handed out before. */
 static void compare(size_t out, size_t finished) {
     size_t bytes = sizes[MSC_BYTES] / 3, i;
@@ -174,6 +205,7 @@ static void run(const uint8_t *settings) {
         bring(settings, m);
         must(code(DRM_FAC_BYTES) == DRM_ACCEPTED, "the super frame is coded");
         refused_calls();
+        grid_and_back(settings);
         finished = read_back(DRM_STATE_BYTES);
         printf(" %u", finished);
         must(finished == (settings[9] == 0 ? in_long[m] : 3), "frames finish 0 2 3 3 3 in long interleaving, else 3");

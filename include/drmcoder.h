@@ -63,6 +63,7 @@
  *    14  cells of a block or of a finished frame that no bits give
  *    15  a field of an FAC block too large for its bits, or against the settings
  *    16  an FAC block with a wrong CRC
+ *    17  a grid of the wrong length
  *    21  a value lent to drm_fac_nearest is above 2
  *   255  a settings, state, lengths or sizes slice of the wrong length; this goes before all others
  *
@@ -95,7 +96,8 @@ enum {
     DRM_FAC_NUMBERS = 390,
     DRM_FAC_BLOCK_BYTES = 9,
     DRM_FAC_FIELDS = 14,
-    DRM_FAC_VALUES = 130
+    DRM_FAC_VALUES = 130,
+    DRM_GRID_SIZES = 3
 };
 
 /* The most that any permitted settings ask of the other slices, for buffers that serve them all. */
@@ -104,7 +106,8 @@ enum {
     DRM_MOST_MSC_BYTES = 10797,
     DRM_MOST_SDC_NUMBERS = 1692,
     DRM_MOST_MSC_NUMBERS = 36708,
-    DRM_MOST_MEMORY_NUMBERS = 61180
+    DRM_MOST_MEMORY_NUMBERS = 61180,
+    DRM_MOST_GRID_NUMBERS = 62235
 };
 
 /* Free stack, in bytes, that is enough for any call. */
@@ -129,6 +132,7 @@ enum {
     DRM_REFUSED_BLOCK = 14,
     DRM_REFUSED_FIELD = 15,
     DRM_REFUSED_CRC = 16,
+    DRM_REFUSED_GRID_LENGTH = 17,
     DRM_REFUSED_VALUE = 21,
     DRM_REFUSED_SLICE = 255
 };
@@ -226,6 +230,52 @@ uint8_t drm_fac_read(const uint8_t *settings, size_t settings_len, const uint8_t
  */
 uint8_t drm_fac_nearest(const uint8_t *received, size_t received_len, uint8_t *block, size_t block_len,
                         uint16_t *disagreement, size_t disagreement_len);
+
+/*
+ * Grids (clause 8). A grid has a row for each symbol of a transmission super frame, and in it a place for each carrier
+ * from k_min to k_max, carriers rising; every place is three numbers, its kind and its cell. Kinds: 0 empty, 1 frequency,
+ * 2 time, 3 gain reference, 4 FAC, 5 SDC, 6 MSC; the cell is (0, 0) for kinds 0 to 3. FAC block f goes to frame f, SDC and
+ * MSC cells go symbol after symbol with carriers rising.
+ */
+enum {
+    DRM_EMPTY = 0,
+    DRM_FREQUENCY_REFERENCE = 1,
+    DRM_TIME_REFERENCE = 2,
+    DRM_GAIN_REFERENCE = 3,
+    DRM_FAC_CELL = 4,
+    DRM_SDC_CELL = 5,
+    DRM_MSC_CELL = 6
+};
+
+/*
+ * Sizes of a grid: symbols of a super frame, carriers of a symbol, numbers of a grid (three times their product).
+ *   settings   10 bytes
+ *   sizes      3 numbers, written if the answer is 0
+ * Answers 0, 1 to 7, or 255.
+ */
+uint8_t drm_grid_sizes(const uint8_t *settings, size_t settings_len, uint32_t *sizes, size_t sizes_len);
+
+/*
+ * Places the cells of one super frame on a grid, whatever they are.
+ *   settings   10 bytes
+ *   fac_cells, sdc_cells, msc_cells  390, SDC numbers, MSC numbers, as drm_code writes them
+ *   grid       as many numbers as drm_grid_sizes says: all are written if the answer is 0
+ * Answers 0, 1 to 7, 9 (cells of a wrong length), 17 (a grid of a wrong length) or 255.
+ */
+uint8_t drm_grid_place(const uint8_t *settings, size_t settings_len, const int16_t *fac_cells, size_t fac_cells_len,
+                       const int16_t *sdc_cells, size_t sdc_cells_len, const int16_t *msc_cells, size_t msc_cells_len,
+                       int16_t *grid, size_t grid_len);
+
+/*
+ * Takes the cells of one super frame off a grid. Kinds in the grid are not looked at, nor places of kinds 0 to 3.
+ *   settings   10 bytes
+ *   grid       as many numbers as drm_grid_sizes says
+ *   fac_cells, sdc_cells, msc_cells  390, SDC numbers, MSC numbers: all are written if the answer is 0
+ * Answers 0, 1 to 7, 10 (cells of a wrong length), 17 (a grid of a wrong length) or 255.
+ */
+uint8_t drm_grid_take(const uint8_t *settings, size_t settings_len, const int16_t *grid, size_t grid_len,
+                      int16_t *fac_cells, size_t fac_cells_len, int16_t *sdc_cells, size_t sdc_cells_len,
+                      int16_t *msc_cells, size_t msc_cells_len);
 
 #ifdef __cplusplus
 }

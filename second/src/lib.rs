@@ -10,6 +10,7 @@ pub mod counts;
 pub mod digest;
 pub mod dispersal;
 pub mod fac;
+pub mod grid;
 pub mod interleaver;
 pub mod lengths;
 pub mod mapping;

@@ -10,11 +10,12 @@ fn main() -> ExitCode {
         "annexj" => second::annexj::print(&mut out),
         "blocks" => second::blocks::print(&mut out),
         "nearest" => second::nearest::print(&mut out),
+        "kinds" => second::grid::print(&mut out),
         "runs" => second::runs::print(&Own, &mut out),
         "counts" => second::counts::print(&Own, &mut out),
         "refusals" => second::refusals::print(&Own, &mut out),
         _ => {
-            eprintln!("second lengths | annexj | blocks | nearest | runs | counts | refusals");
+            eprintln!("second lengths | annexj | blocks | nearest | kinds | runs | counts | refusals");
             return ExitCode::from(2);
         }
     };

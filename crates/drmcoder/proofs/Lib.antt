@@ -1,3 +1,4 @@
 pub mod Stores
 pub mod Tests
 pub mod Answers
+pub mod Placed

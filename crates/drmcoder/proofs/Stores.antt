@@ -12,8 +12,11 @@ use Rattle.settings.specs.declared.Settings.{Settings}
 use Rattle.settings.specs.Lengths.{lengthsOf}
 use Rattle.superframe.specs.declared.State.{State}
 use Rattle.settings.specs.Sizes.{sizesOf}
+use Rattle.grid.specs.declared.GridSizes.{GridSizes}
+use Rattle.grid.specs.Calls.{gridSizes}
 use Rattle.drmcoder.specs.Bytes.{settingsOf, settingsBytes, stateBytes}
 use Rattle.drmcoder.specs.Numbers.{Numbers, yielded, lengthsInto, lengthsBytes, sizesInto, sizesBytes}
+use Rattle.drmcoder.specs.Grids.{gridSizesInto, gridSizesBytes}
 use Rattle.drmcoder.proofs.Tests.{both-right}
 
 pub lengths-stored : (l : Lengths) (d : List ℕ) → l .refusal ≡ 0 → length d ≡ 5
@@ -51,3 +54,18 @@ pub state-stored : (state : State) (d : List ℕ) (high low : ℕ) → length d 
     sets d 0 (s .mode ∷ s .occupancy ∷ s .msc ∷ s .levela ∷ s .levelb ∷ s .vspp ∷ high ∷ low ∷ s .sdc ∷ s .interleaving ∷ state .position ∷ state .count ∷ []) ≡ stateBytes state
 unfolding stateBytes settingsBytes
 state-stored state d high low e eh el = rw (eh, el) (sets-whole d (settingsBytes (state .settings) ++ (state .position ∷ state .count ∷ [])) e)
+
+-- The sizes of a grid.
+pub grid-sizes-stored : (z : GridSizes) (d : List ℕ) → z .refusal ≡ 0 → length d ≡ 3
+    → yielded 0 (sets d 0 (z .symbols ∷ z .carriers ∷ z .numbers ∷ [])) ≡ gridSizesInto z d
+unfolding gridSizesInto
+grid-sizes-stored z d e h = rw (eq-eqb (z .refusal) 0 e, sets-whole d (z .symbols ∷ z .carriers ∷ z .numbers ∷ []) h)
+
+pub grid-sizes-refused : (z : GridSizes) (d : List ℕ) → (z .refusal ≡ 0 → ⊥) → yielded (z .refusal) d ≡ gridSizesInto z d
+unfolding gridSizesInto
+grid-sizes-refused z d h = rw (ne-eqb (z .refusal) 0 h)
+
+pub grid-sizes-right : (s d : List ℕ) (t : Settings) (z : GridSizes) (y : Numbers) → length s ≡ 10 → length d ≡ 3 → t ≡ settingsOf s → z ≡ gridSizes t
+    → y ≡ gridSizesInto z d → y ≡ gridSizesBytes s d
+unfolding gridSizesBytes
+grid-sizes-right s d t z y hs hd et ez ey = rw (ey, ez, et) (both-right _ _ _ _ _ _ hs hd)

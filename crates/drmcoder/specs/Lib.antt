@@ -2,3 +2,4 @@ pub mod Bytes
 pub mod Fac
 pub mod Numbers
 pub mod Calls
+pub mod Grids

@@ -2,4 +2,5 @@
 pub mod bytes;
 pub mod calls;
 pub mod fac;
+pub mod grids;
 pub mod numbers;

@@ -111,7 +111,7 @@ fn changes(kind: Kind) -> Vec<&'static Change> {
 }
 
 /// A wrong length: shorter or longer by one, nothing, a part, or a few more.
-fn length<T: Clone + Default>(buffer: &mut Vec<T>, draw: &mut Draw) {
+pub(crate) fn length<T: Clone + Default>(buffer: &mut Vec<T>, draw: &mut Draw) {
     let len = buffer.len();
     let len = match draw.below(6) {
         0 | 1 => len.saturating_sub(1),
@@ -132,7 +132,7 @@ fn memory_length(lent: &mut Lent, s: &Settings, draw: &mut Draw) {
 }
 
 /// Another value in one field of the settings but X; some of these values are permitted.
-fn setting(settings: &mut [u8], draw: &mut Draw) {
+pub(crate) fn setting(settings: &mut [u8], draw: &mut Draw) {
     let at = draw.pick(&[0, 1, 2, 3, 4, 5, 8, 9]);
     if let Some(b) = settings.get_mut(at) {
         *b = small(draw);
@@ -140,7 +140,7 @@ fn setting(settings: &mut [u8], draw: &mut Draw) {
 }
 
 /// Anything from one field of the settings on, so that several of them are at fault.
-fn last_settings(settings: &mut [u8], draw: &mut Draw) {
+pub(crate) fn last_settings(settings: &mut [u8], draw: &mut Draw) {
     let first = draw.below(10);
     settings.iter_mut().take(10).skip(first).for_each(|b| *b = draw.byte());
 }
@@ -151,7 +151,7 @@ fn small(draw: &mut Draw) -> u8 {
 }
 
 /// An X about the greatest that is permitted, or any.
-fn put_x(settings: &mut [u8], draw: &mut Draw) {
+pub(crate) fn put_x(settings: &mut [u8], draw: &mut Draw) {
     let Some(Ok(bytes)) = settings.get(..10).map(<[u8; 10]>::try_from) else { return };
     let mut s = Settings { x: 0, ..Settings::from_bytes(bytes) };
     let any = draw.word() as u16;

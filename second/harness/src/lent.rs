@@ -61,7 +61,7 @@ impl Lent {
     }
 }
 
-fn first<T: PartialEq + std::fmt::Display>(name: &str, a: &[T], b: &[T]) -> Option<String> {
+pub(crate) fn first<T: PartialEq + std::fmt::Display>(name: &str, a: &[T], b: &[T]) -> Option<String> {
     if a.len() != b.len() {
         return Some(format!("{name}: {} elements instead of {}", a.len(), b.len()));
     }

@@ -5,6 +5,7 @@ pub mod calls;
 pub mod compare;
 pub mod damage;
 pub mod draw;
+pub mod grids;
 pub mod lent;
 pub mod nearest;
 pub mod own;

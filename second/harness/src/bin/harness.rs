@@ -5,6 +5,7 @@ use harness::calls::Archive;
 use harness::compare;
 use harness::damage::{ignored, spoil};
 use harness::draw::Draw;
+use harness::grids;
 use harness::lent::{Kind, Lent};
 use harness::nearest;
 use harness::tally::Tally;
@@ -33,11 +34,12 @@ fn main() -> ExitCode {
     let mut out = BufWriter::new(io::stdout().lock());
     let done = match args[..] {
         [] => return random_calls(),
+        ["grid"] => return grid_calls(),
         ["runs"] => runs::print(&Archive, &mut out),
         ["counts"] => counts::print(&Archive, &mut out),
         ["refusals"] => refusals::print(&Archive, &mut out),
         _ => {
-            eprintln!("harness [runs | counts | refusals]");
+            eprintln!("harness [grid | runs | counts | refusals]");
             return ExitCode::from(2);
         }
     };
@@ -45,6 +47,19 @@ fn main() -> ExitCode {
         Ok(()) => ExitCode::SUCCESS,
         Err(e) => {
             eprintln!("the archive's {e}");
+            ExitCode::FAILURE
+        }
+    }
+}
+
+fn grid_calls() -> ExitCode {
+    match grids::random_calls() {
+        Ok(calls) => {
+            println!("{calls} calls");
+            ExitCode::SUCCESS
+        }
+        Err(difference) => {
+            eprintln!("{difference}");
             ExitCode::FAILURE
         }
     }
