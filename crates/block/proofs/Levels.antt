@@ -19,7 +19,9 @@ use Rattle.component.proofs.Register.{after-low}
 use Rattle.component.proofs.Codeword.{length-encode, codeword-bits, codeword-one, codeword-two, length-tail}
 use Rattle.component.proofs.Decoding.{length-decode, decode-bits, decode-encode}
 use Rattle.interleaver.proofs.Interleaving.{interleaved-length, interleaved-all, deinterleaved-interleaved, interleaved-none, deinterleaved-none}
-use Rattle.block.specs.Levels.{Level, codedA, codedB, mixed, stream, totalA, totalB, streams}
+use Rattle.component.specs.Coding.{patternOf}
+use Rattle.block.specs.declared.Level.{Level}
+use Rattle.block.specs.Levels.{codedA, codedB, mixed, stream, totalA, totalB, streams}
 use Rattle.block.specs.Reading.{unmixed, sizeA, sizeB, inputA, inputB, inputsA, inputsB}
 use Rattle.block.specs.Fits.{Streams, Mixes, plain, empty, cycle, LevelFits, LevelsFit, none, more}
 use Rattle.block.proofs.Lists.{bits-take}
@@ -59,20 +61,20 @@ unmixed-mixed t v (cycle c) =
     let n : eqb t 0 ≡ false = ne-eqb t 0 (λ e. omega (arith, c .factor)) in
     rw n (deinterleaved-interleaved 0 t v c)
 
-module _ {n : ℕ} {l : Level} (F : LevelFits n l) {a b : List ℕ} (A : Bits a) (B : Bits b) (la : length a ≡ l .bitsA) (lb : length b ≡ l .bitsB) where
+module _ {n : ℕ} {l : Level} (F : LevelFits n l) {a b : List ℕ} (A : Bits a) (B : Bits b) (la : length a ≡ l .bitsa) (lb : length b ≡ l .bitsb) where
   -- the coded bits of part A, and how many they are
-  coded-A : codedA l a ≡ encode (l .patternA) 0 0 a
+  coded-A : codedA l a ≡ encode (patternOf (l .patterna)) 0 0 a
   unfolding codedA
-  coded-A = codeword-one 0 (segment (l .patternA) a)
+  coded-A = codeword-one 0 (segment (patternOf (l .patterna)) a)
 
   length-codedA : length (codedA l a) ≡ sizeA l
   unfolding sizeA
-  length-codedA = rw (coded-A, length-encode (F .soundA) 0 0 a (F .soundA .some), la)
+  length-codedA = rw (coded-A, length-encode (F .heldA .sound) 0 0 a (F .heldA .sound .some), la)
 
   -- those of part B
-  coded-B : codedB l a b ≡ encode (l .patternB) (after 0 a) 0 b ++ encode (l .tail) (after (after 0 a) b) 0 tailBits
+  coded-B : codedB l a b ≡ encode (patternOf (l .patternb)) (after 0 a) 0 b ++ encode (patternOf (l .tail)) (after (after 0 a) b) 0 tailBits
   unfolding codedB
-  coded-B = codeword-two (after 0 a) (segment (l .patternB) b) (segment (l .tail) tailBits)
+  coded-B = codeword-two (after 0 a) (segment (patternOf (l .patternb)) b) (segment (patternOf (l .tail)) tailBits)
 
   length-codedB : length (codedB l a b) ≡ sizeB l
   unfolding sizeB
@@ -80,8 +82,8 @@ module _ {n : ℕ} {l : Level} (F : LevelFits n l) {a b : List ℕ} (A : Bits a)
       rw (
         coded-B,
         length-append,
-        length-encode (F .soundB) (after 0 a) 0 b (F .soundB .some),
-        length-encode (F .soundTail) (after (after 0 a) b) 0 tailBits (F .soundTail .some),
+        length-encode (F .heldB .sound) (after 0 a) 0 b (F .heldB .sound .some),
+        length-encode (F .heldTail .sound) (after (after 0 a) b) 0 tailBits (F .heldTail .sound .some),
         lb,
         length-tail,
       )
@@ -104,14 +106,14 @@ module _ {n : ℕ} {l : Level} (F : LevelFits n l) {a b : List ℕ} (A : Bits a)
   unfolding inputA
   inputA-stream =
       rw (part-A, unmixed-mixed (l .t) (codedA l a) (rw length-codedA (F .mixesA)), coded-A, ← la)
-      (rw (append-nil (encode (l .patternA) 0 0 a)) at (decode-encode (F .soundA) 0 0 a [] (F .soundA .some) (lit< tt) A))
+      (rw (append-nil (encode (patternOf (l .patterna)) 0 0 a)) at (decode-encode (F .heldA .sound) 0 0 a [] (F .heldA .sound .some) (lit< tt) A))
 
   -- and part B's, with the register after part A
   pub inputB-stream : inputB l (stream l a b) ≡ b
   unfolding inputB
   inputB-stream =
       rw (inputA-stream, part-B, unmixed-mixed (l .t) (codedB l a b) (rw length-codedB (F .mixesB)), coded-B, ← lb)
-      (decode-encode (F .soundB) (after 0 a) 0 b _ (F .soundB .some) (after-low (lit< tt) A) B)
+      (decode-encode (F .heldB .sound) (after 0 a) 0 b _ (F .heldB .sound .some) (after-low (lit< tt) A) B)
 
 -- a level's stream is bits
 pub bits-stream : (l : Level) (a b : List ℕ) → Bits (stream l a b)
@@ -122,7 +124,7 @@ bits-stream l a b = bits-append (bits-mixed (l .t) (codeword-bits 0 _)) (bits-mi
 pub length-streams : (ls : List Level) (a b : List ℕ) → length (streams ls a b) ≡ length ls
 unfolding streams
 length-streams [] a b = refl
-length-streams (l ∷ ls) a b = ap suc (length-streams ls (drop (l .bitsA) a) (drop (l .bitsB) b))
+length-streams (l ∷ ls) a b = ap suc (length-streams ls (drop (l .bitsa) a) (drop (l .bitsb) b))
 
 -- a stream before streams
 streams-more : {n : ℕ} {y : List ℕ} {ys : List (List ℕ)} → length y ≡ n → Bits y → Streams n ys → Streams n (y ∷ ys)
@@ -143,15 +145,15 @@ unfolding streams inputsA inputsB totalA totalB
 streams-back none {a} {b} A B la lb =
     record { sent = record { long = λ i h. absurd (omega arith); bits = λ i. bits-nil }; partA = none-left a la; partB = none-left b lb }
 streams-back (more {l} {ls} F Fs) {a} {b} A B la lb =
-    let ea : length (take (l .bitsA) a) ≡ l .bitsA = length-take-le (l .bitsA) a (omega arith) in
-    let eb : length (take (l .bitsB) b) ≡ l .bitsB = length-take-le (l .bitsB) b (omega arith) in
-    let TA = bits-take (l .bitsA) A in
-    let TB = bits-take (l .bitsB) B in
-    let rest = streams-back Fs (bits-drop (l .bitsA) A) (bits-drop (l .bitsB) B) (rw length-drop (omega arith)) (rw length-drop (omega arith)) in
+    let ea : length (take (l .bitsa) a) ≡ l .bitsa = length-take-le (l .bitsa) a (omega arith) in
+    let eb : length (take (l .bitsb) b) ≡ l .bitsb = length-take-le (l .bitsb) b (omega arith) in
+    let TA = bits-take (l .bitsa) A in
+    let TB = bits-take (l .bitsb) B in
+    let rest = streams-back Fs (bits-drop (l .bitsa) A) (bits-drop (l .bitsb) B) (rw length-drop (omega arith)) (rw length-drop (omega arith)) in
     record {
-      sent = streams-more (length-stream F TA TB ea eb) (bits-stream l (take (l .bitsA) a) (take (l .bitsB) b)) (rest .sent);
-      partA = rw (inputA-stream F TA TB ea eb, rest .partA) (take-append-drop (l .bitsA) a);
-      partB = rw (inputB-stream F TA TB ea eb, rest .partB) (take-append-drop (l .bitsB) b);
+      sent = streams-more (length-stream F TA TB ea eb) (bits-stream l (take (l .bitsa) a) (take (l .bitsb) b)) (rest .sent);
+      partA = rw (inputA-stream F TA TB ea eb, rest .partA) (take-append-drop (l .bitsa) a);
+      partB = rw (inputB-stream F TA TB ea eb, rest .partB) (take-append-drop (l .bitsb) b);
     }
 
 -- what is read of any streams: as many bits as the levels have
@@ -168,9 +170,9 @@ length-inputsB (l ∷ ls) ys = rw (length-append, length-decode, length-inputsB 
 pub bits-inputsA : (ls : List Level) (ys : List (List ℕ)) → Bits (inputsA ls ys)
 unfolding inputsA inputA
 bits-inputsA [] ys = bits-nil
-bits-inputsA (l ∷ ls) ys = bits-append (decode-bits (l .patternA) 0 0 (l .bitsA) _) (bits-inputsA ls (drop 1 ys))
+bits-inputsA (l ∷ ls) ys = bits-append (decode-bits (patternOf (l .patterna)) 0 0 (l .bitsa) _) (bits-inputsA ls (drop 1 ys))
 
 pub bits-inputsB : (ls : List Level) (ys : List (List ℕ)) → Bits (inputsB ls ys)
 unfolding inputsB inputB
 bits-inputsB [] ys = bits-nil
-bits-inputsB (l ∷ ls) ys = bits-append (decode-bits (l .patternB) _ 0 (l .bitsB) _) (bits-inputsB ls (drop 1 ys))
+bits-inputsB (l ∷ ls) ys = bits-append (decode-bits (patternOf (l .patternb)) _ 0 (l .bitsb) _) (bits-inputsB ls (drop 1 ys))

@@ -3,5 +3,5 @@ pub mod Packing
 pub mod Dispersal
 pub mod Mapping
 pub mod Levels
-pub mod Block
+pub mod Blocks
 pub mod Reader

@@ -7,13 +7,14 @@ use mathlib.Core.Option.{some, none}
 use mathlib.Core.List.{List}
 use lib.IntN.{ℤ}
 use Rattle.block.specs.Packing.{unpacked}
-use Rattle.block.specs.Block.{Block, bitCount, cellsOf, cellsFrom}
+use Rattle.block.specs.declared.Block.{Block}
+use Rattle.block.specs.Block.{bitCount, cellsOf, cellsFrom}
 use Rattle.block.specs.Reading.{candidate, given, bytesRead, readBlock}
 use Rattle.block.specs.Fits.{BlockFits, BlockBits, BlockBytes}
 use Rattle.block.specs.Reads.{NoBits, NoBytes, ReadsBits, ReadsBytes}
 use Rattle.lists.proofs.Bools.{never-both}
 use Rattle.lists.proofs.Same.{sameNumbers-refl, sameNumbers-true}
-use Rattle.block.proofs.Block.{candidate-block, candidate-cells, bits-block, bytes-block, unpacked-block, packed-block}
+use Rattle.block.proofs.Blocks.{candidate-block, candidate-cells, bits-block, bytes-block, unpacked-block, packed-block}
 
 -- for any code and any back that undoes it on inputs that are ok, with a test of equality of what is coded
 module _ {X C : Type 0} (code : X → C) (back : C → X) (ok : X → Type 0) (test : C → Bool)

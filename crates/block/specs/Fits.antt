@@ -6,13 +6,14 @@ use mathlib.Core.List.{List, [], _∷_}
 use lib.ListN.{length, getD}
 use lib.IntN.{ℤ, pos}
 use Rattle.component.specs.Bits.{Bits}
-use Rattle.component.specs.Decoding.{Sound}
+use Rattle.component.specs.Coding.{Held}
 use Rattle.interleaver.specs.Deinterleaving.{Cycles}
 use Rattle.lists.specs.Bytes.{bytesFor}
 use Rattle.block.specs.Packing.{spareZero}
-use Rattle.block.specs.Levels.{Level}
+use Rattle.block.specs.declared.Level.{Level}
+use Rattle.block.specs.declared.Block.{Block}
 use Rattle.block.specs.Mapping.{Constellation}
-use Rattle.block.specs.Block.{Block, bitCount}
+use Rattle.block.specs.Block.{levelsOf, pointsOf, oneAxis, bitCount}
 use Rattle.block.specs.Reading.{placeOf, sizeA, sizeB}
 
 -- Every element of a list is a byte.
@@ -40,11 +41,12 @@ pub data Mixes (t n : ℕ) : Type 0 where
   empty : n ≡ 0 → Mixes t n
   cycle : Cycles t n → Mixes t n
 
--- A level with n coded bits.
+-- A level with n coded bits: its patterns are held, and its t is an interleaver's.
 pub record LevelFits (n : ℕ) (l : Level) : Type 0 where
-  pub soundA : Sound (l .patternA)
-  pub soundB : Sound (l .patternB)
-  pub soundTail : Sound (l .tail)
+  pub heldA : Held (l .patterna)
+  pub heldB : Held (l .patternb)
+  pub heldTail : Held (l .tail)
+  pub small : l .t < 64
   pub mixesA : Mixes (l .t) (sizeA l)
   pub mixesB : Mixes (l .t) (sizeB l)
   pub size : sizeA l + sizeB l ≡ n
@@ -54,13 +56,20 @@ pub data LevelsFit (n : ℕ) : List Level → Type 0 where
   none : LevelsFit n []
   more : {l : Level} {ls : List Level} → LevelFits n l → LevelsFit n ls → LevelsFit n (l ∷ ls)
 
--- The levels and the constellation of a block: each level has two bits a cell; or one, and then levels go in pairs.
+-- All that is required of a block: each level has two bits a cell, or one where levels go in pairs; as many levels as the constellation has bits on an axis; and sizes for which
+-- the code has room.
 pub record BlockFits (k : Block) : Type 0 where
   pub streams : ℕ
-  pub levels : length (k .levels) ≡ cond (k .oneAxis) (2 * streams) streams
-  pub fit : LevelsFit (cond (k .oneAxis) (k .cells) (2 * k .cells)) (k .levels)
-  pub labels : Labels streams (k .points)
+  pub levels : length (levelsOf k) ≡ cond (oneAxis k) (2 * streams) streams
+  pub fit : LevelsFit (cond (oneAxis k) (k .cells) (2 * k .cells)) (levelsOf k)
+  pub labels : Labels streams (pointsOf k)
   pub front : k .vspp ≤ bitCount k
+  pub few : k .count ≤ 6
+  pub room : k .count ≤ length (k .levels)
+  pub known : k .constellation < 5
+  pub part : k .parta ≤ k .cells
+  pub most : k .cells ≤ 6118
+  pub short : bitCount k ≤ 36708
 
 -- Bits of a block: as many as it has.
 pub record BlockBits (k : Block) (l : List ℕ) : Type 0 where

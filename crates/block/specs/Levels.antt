@@ -4,27 +4,20 @@ use mathlib.Core.Bool.{cond}
 use mathlib.Core.List.{List, [], _∷_, _++_}
 use lib.ListN.{take, drop}
 use lib.Dec.{eqb}
+use Rattle.component.specs.Coding.{patternOf}
 use Rattle.component.specs.Register.{after}
 use Rattle.component.specs.Codeword.{codeword, tailBits}
 use Rattle.interleaver.specs.Interleaving.{interleaved}
-
--- A level: its input bits in parts A and B, the puncturing patterns of both and of its tail, and the interleaver's t, 0 where it isn't interleaved.
-pub record Level : Type 0 where
-  pub bitsA : ℕ
-  pub bitsB : ℕ
-  pub patternA : List ℕ
-  pub patternB : List ℕ
-  pub tail : List ℕ
-  pub t : ℕ
+use Rattle.block.specs.declared.Level.{Level}
 
 -- A level's coded bits in part A; its register starts at zero.
 unfoldable pub codedA : Level → List ℕ → List ℕ
-codedA l a = codeword 0 (record { pattern = l .patternA; bits = a } ∷ [])
+codedA l a = codeword 0 (record { pattern = patternOf (l .patterna); bits = a } ∷ [])
 
 -- Its coded bits in part B: the register runs on from part A, the pattern starts at its first column, and six zero bits with the tail's pattern follow.
 unfoldable pub codedB : Level → List ℕ → List ℕ → List ℕ
 codedB l a b =
-    codeword (after 0 a) (record { pattern = l .patternB; bits = b } ∷ record { pattern = l .tail; bits = tailBits } ∷ [])
+    codeword (after 0 a) (record { pattern = patternOf (l .patternb); bits = b } ∷ record { pattern = patternOf (l .tail); bits = tailBits } ∷ [])
 
 -- A part's bits interleaved, or as they are where t is 0.
 unfoldable pub mixed : ℕ → List ℕ → List ℕ
@@ -37,14 +30,14 @@ stream l a b = mixed (l .t) (codedA l a) ++ mixed (l .t) (codedB l a b)
 -- The input bits of all levels in part A, and in part B.
 unfoldable pub totalA : List Level → ℕ
 totalA [] = 0
-totalA (l ∷ ls) = l .bitsA + totalA ls
+totalA (l ∷ ls) = l .bitsa + totalA ls
 
 unfoldable pub totalB : List Level → ℕ
 totalB [] = 0
-totalB (l ∷ ls) = l .bitsB + totalB ls
+totalB (l ∷ ls) = l .bitsb + totalB ls
 
 -- Partition: part A's bits level by level, and part B's.
 unfoldable pub streams : List Level → List ℕ → List ℕ → List (List ℕ)
 streams [] a b = []
 streams (l ∷ ls) a b =
-    stream l (take (l .bitsA) a) (take (l .bitsB) b) ∷ streams ls (drop (l .bitsA) a) (drop (l .bitsB) b)
+    stream l (take (l .bitsa) a) (take (l .bitsb) b) ∷ streams ls (drop (l .bitsa) a) (drop (l .bitsb) b)

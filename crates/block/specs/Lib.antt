@@ -7,4 +7,3 @@ pub mod Points
 pub mod Reading
 pub mod Fits
 pub mod Reads
-pub mod Plan

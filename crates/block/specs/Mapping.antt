@@ -33,7 +33,22 @@ pub record Constellation : Type 0 where
   pub real : List ℤ
   pub imaginary : List ℤ
 
--- The five labellings: 0 4-QAM, 1 16-QAM, 2 64-QAM SM, 3 64-QAM HMsym, 4 64-QAM HMmix (HMsym's rule on the real axis, SM's on the imaginary).
+-- The five constellations by number; 64-QAM HMmix has HMsym's rule on the real axis and SM's on the imaginary.
+abbrev pub QAM4 : ℕ
+QAM4 = 0
+
+abbrev pub QAM16 : ℕ
+QAM16 = 1
+
+abbrev pub SM64 : ℕ
+SM64 = 2
+
+abbrev pub HMSYM : ℕ
+HMSYM = 3
+
+abbrev pub HMMIX : ℕ
+HMMIX = 4
+
 unfoldable pub constellation : ℕ → Constellation
 constellation c =
     getD

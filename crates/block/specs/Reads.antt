@@ -6,7 +6,8 @@ use mathlib.Core.Option.{some, none}
 use mathlib.Core.List.{List}
 use Prim.Native.Nat.{ℕ}
 use lib.IntN.{ℤ}
-use Rattle.block.specs.Block.{Block, cellsOf, cellsFrom}
+use Rattle.block.specs.declared.Block.{Block}
+use Rattle.block.specs.Block.{cellsOf, cellsFrom}
 use Rattle.block.specs.Reading.{given, bytesRead, readBlock}
 use Rattle.block.specs.Fits.{BlockBits, BlockBytes}
 

@@ -1,2 +1,1 @@
-pub mod LevelsRead
 pub mod CellsRead

@@ -7,8 +7,7 @@ use lib.ListN.{length, take, getD}
 use lib.IntN.{ℤ, pos}
 use mir.Syntax.{w16}
 use mir.Val.{toZ, ofZ}
-use Rattle.lists.proofs.Tables.{Filled, filled-end}
-use Rattle.superframe.proofs.Lists.{take-table}
+use Rattle.lists.proofs.Tables.{Filled, filled-end, take-table}
 use Rattle.cellrows.specs.Fillers.{fillerNumbers}
 
 -- The fillers are signed 16-bit numbers; a row of them filled up to its end.

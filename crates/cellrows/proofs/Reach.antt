@@ -15,6 +15,7 @@ use Rattle.lists.specs.Lists.{table}
 use Rattle.settings.specs.declared.Settings.{Settings}
 use Rattle.settings.specs.Lengths.{nMux}
 use Rattle.settings.specs.Sizes.{depth}
+use Rattle.block.specs.Block.{pointsOf}
 use Rattle.frame.specs.Msc.{mscConstellation, mscBlock}
 use Rattle.superframe.specs.Call.{isStart, memoryCell}
 use Rattle.superframe.specs.Read.{rowCell, rowPoints}
@@ -186,8 +187,8 @@ unfolding same reach sameNumber
 is-zero = agree (sameNumber (pos 0)) (λ v. eqb (reach v) 0) tt tt fails-zero fails-none
 
 -- A cell is a point exactly if its two distances are those of coordinates.
-point-is : (s : Settings) (re im : ℤ) → ofPoint (farthest (s .msc)) (reach re) && ofPoint (farthest (s .msc)) (reach im) ≡ isPoint (mscBlock s .points) re im
-unfolding isPoint mscBlock
+point-is : (s : Settings) (re im : ℤ) → ofPoint (farthest (s .msc)) (reach re) && ofPoint (farthest (s .msc)) (reach im) ≡ isPoint (pointsOf (mscBlock s)) re im
+unfolding isPoint mscBlock reach onAxis farthest pointsOf
 point-is s re im = rw (on-real (s .msc) re, on-imaginary (s .msc) im)
 
 -- Refusals 12 and 13 by distances: the cells of memory, and those of a row.

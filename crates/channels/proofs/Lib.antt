@@ -1,2 +1,2 @@
-pub mod Planned
+pub mod Codes
 pub mod Lengths

@@ -1,5 +1,5 @@
 -- What the calls that turn a block's packed bytes into cells and back require of the buffers that they are lent. Lengths: 01 "Buffers and state".
-use Prim.Native.Nat.{ℕ, _*_, _≤_}
+use Prim.Native.Nat.{ℕ, _*_}
 use mathlib.Core.Path.{_≡_}
 use mathlib.Core.List.{List}
 use lib.ListN.{length}
@@ -11,7 +11,6 @@ use Rattle.settings.specs.Lengths.{nMux, nSdc, lSdc}
 use Rattle.lists.specs.Bytes.{bytesFor}
 use Rattle.settings.specs.Sizes.{frameBits}
 use Rattle.settings.specs.Accepted.{Accepted}
-use Rattle.frame.specs.Plans.{mscPlan, sdcPlan, facPlan}
 
 -- As many bytes as the block's bits take, and as many numbers as its cells have.
 pub record Lent (bits numbers : ℕ) (bytes : List ℕ) (cells : List ℤ) : Type 0 where
@@ -31,18 +30,3 @@ pub record SdcLent (s : Settings) (bytes : List ℕ) (cells : List ℤ) : Type 0
 -- An FAC block: 9 bytes and 130 numbers.
 pub record FacLent (bytes : List ℕ) (cells : List ℤ) : Type 0 where
   pub lent : Lent facBits (2 * facCells) bytes cells
-
--- The same, with the table of levels.
-pub record FramePlanned (s : Settings) (plan bytes : List ℕ) (cells : List ℤ) : Type 0 where
-  pub frame : FrameLent s bytes cells
-  pub planned : plan ≡ mscPlan s
-  pub few : length plan ≤ 36
-
-pub record SdcPlanned (s : Settings) (plan bytes : List ℕ) (cells : List ℤ) : Type 0 where
-  pub block : SdcLent s bytes cells
-  pub planned : plan ≡ sdcPlan s
-  pub few : length plan ≤ 36
-
-pub record FacPlanned (plan bytes : List ℕ) (cells : List ℤ) : Type 0 where
-  pub block : FacLent bytes cells
-  pub planned : plan ≡ facPlan

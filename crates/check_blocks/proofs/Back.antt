@@ -16,7 +16,8 @@ use Rattle.lists.proofs.Counting.{below-or}
 use Rattle.lists.proofs.Tables.{length-table, table-at, zero-total}
 use Rattle.block.specs.Packing.{bitAt, spareZero}
 use Rattle.lists.specs.Bytes.{bytesFor}
-use Rattle.block.specs.Block.{Block, bitCount, cellsFrom}
+use Rattle.block.specs.declared.Block.{Block}
+use Rattle.block.specs.Block.{bitCount, cellsFrom}
 use Rattle.block.specs.Reading.{given, bytesRead}
 use Rattle.block.specs.Fits.{BlockFits, BlockBytes}
 use Rattle.block.proofs.Reader.{reads-bytes}

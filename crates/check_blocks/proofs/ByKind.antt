@@ -13,7 +13,8 @@ use Rattle.settings.specs.Formulas.{facBits, roundUp}
 use Rattle.settings.specs.Refusal.{refusal}
 use Rattle.lists.specs.Bytes.{bytesFor}
 use Rattle.settings.proofs.Bounds.{accepted-of}
-use Rattle.block.specs.Block.{Block, bitCount}
+use Rattle.block.specs.declared.Block.{Block}
+use Rattle.block.specs.Block.{bitCount}
 use Rattle.block.specs.Fits.{BlockFits}
 use Rattle.frame.specs.Fac.{facBlock}
 use Rattle.frame.specs.Sdc.{sdcBlock}

@@ -7,7 +7,8 @@ use lib.IntN.{ℤ}
 use Rattle.settings.specs.declared.Settings.{Settings}
 use Rattle.settings.specs.Refusal.{refusal}
 use Rattle.lists.specs.Bytes.{bytesFor}
-use Rattle.block.specs.Block.{Block, bitCount}
+use Rattle.block.specs.declared.Block.{Block}
+use Rattle.block.specs.Block.{bitCount}
 use Rattle.check_blocks.specs.Kinds.{blockOf}
 
 -- Buffers of a block's lengths, for settings that are not refused.

@@ -11,7 +11,7 @@ use Rattle.settings.specs.declared.Settings.{Settings}
 use Rattle.settings.specs.Lengths.{nMux, nSfa}
 use Rattle.settings.specs.Cells.{facCells}
 use Rattle.block.specs.Block.{cellsFrom}
-use Rattle.block.proofs.Block.{length-cells}
+use Rattle.block.proofs.Blocks.{length-cells}
 use borrow.Rule.Slice.PartMut.{putMid, post-is}
 use lib.Seq.{sets, length-sets, length-take-le, drop-length}
 use Rattle.superframe.specs.Memory.{stored, slotSize}

@@ -1,286 +1,234 @@
 -- A block coded, step by step. Assumes nothing.
-use Prim.Native.Nat.{ℕ, zero, suc, _+_, _-_, _*_, _/_, _≤_, _<_}
-use mathlib.Core.Path.{_≡_, refl, sym, ap, ap₂, _∙_}
+use Prim.Native.Nat.{ℕ, _+_, _-_, _*_, _/_, _≤_, _<_}
+use mathlib.Core.Path.{_≡_, sym, ap, _∙_}
 use mathlib.Core.Logic.{_⊎_, inl, inr}
-use mathlib.Core.Bool.{Bool, true, false, cond}
-use mathlib.Core.List.{List}
+use mathlib.Core.Bool.{true, false, cond}
+use mathlib.Core.List.{List, _++_}
 use native.Mathlib.Omega.{arith}
-use lib.ListN.{length, take, drop}
+use lib.ListN.{length, getD, take, drop, List·getD-eq-default}
 use lib.Pow.{pow-mono}
 use lib.IntN.{ℤ}
 use Rattle.lists.specs.Lists.{table}
+use Rattle.lists.specs.Bytes.{bytesFor}
 use Rattle.component.proofs.Bits.{bits-drop}
 use Rattle.lists.proofs.Counting.{below-or}
-use Rattle.lists.proofs.Tables.{length-table}
-use Rattle.lists.specs.Bytes.{bytesFor}
+use Rattle.lists.proofs.Tables.{length-table, getD-table}
+use Rattle.lists.proofs.Parts.{from-start, to-end, length-start, length-end, length-written, written-front}
+use Rattle.block.specs.declared.Level.{Level}
+use Rattle.block.specs.declared.Block.{Block}
 use Rattle.block.specs.Packing.{unpacked}
 use Rattle.block.specs.Dispersal.{dispersedParts}
-use Rattle.block.specs.Levels.{totalA, streams}
+use Rattle.block.specs.Levels.{streams}
 use Rattle.block.specs.Mapping.{constellation, numberAt, mapped, weave, woven}
 use Rattle.mapping.specs.Numbers.{coordinates}
-use Rattle.block.specs.Block.{bitCount, streamsOf, cellsOf, cellsFrom}
-use Rattle.block.specs.Fits.{Labels, LevelsFit}
-use Rattle.block.specs.Plan.{levelsOf, bitsBefore, streamAt, stepped, CodesLevels, blockOf}
-use Rattle.levels.specs.Requirements.{Sums}
+use Rattle.mapping.specs.Requirements.{Numbers}
+use Rattle.block.specs.Block.{levelsOf, pointsOf, oneAxis, bitCount, streamsOf, cellsOf, cellsFrom}
+use Rattle.levels.specs.Partition.{bitsBefore, streamAt, stepped, CodesLevels}
+use Rattle.levels.proofs.Totals.{total-A, all-bits, streams-are, count-is, three, codes-levels, length-streamAt, number-low}
 use Rattle.block.proofs.Lists.{bits-take}
 use Rattle.block.proofs.Packing.{length-unpacked}
 use Rattle.block.proofs.Dispersal.{length-dispersedParts, bits-dispersedParts}
-use Rattle.block.proofs.Mapping.{levelCount, constellation-labels}
-use Rattle.coder.specs.Coder.{cellsBy}
-use Rattle.coder.specs.Parts.{UnpacksParts, MapsParts, MapsAxesParts, PlanBits, CodesBoth, CodesAxes, CodesBits, CodesBlockIn, CodesBlockWith}
-use Rattle.lists.proofs.Parts.{from-start, to-end, length-start, length-end}
-use Rattle.coder.proofs.Plans.{totalA-plan, totalB-plan, streams-plan, length-levelsOf, level-ready, codes-levels, length-streamAt, numbers-low}
+use Rattle.coder.specs.Coder.{cellsBy, CodesBlock}
+use Rattle.coder.specs.Parts.{UnpacksParts, MapsParts, MapsAxesParts, CodesParts, CodesBits}
 use Rattle.coder.proofs.Woven.{mapped-numbers, numbers-woven}
 
--- levels that go to both axes
-module _ {plan : List ℕ} {c n1 : ℕ} {a b coded numbers : List ℕ} {out : List ℤ} (C : CodesBoth plan c n1 a b coded numbers out) where
-  -- they can be coded
-  pub codes-both : CodesLevels plan 0 1 (length plan / 6) a b coded numbers
-  codes-both =
-      codes-levels (C .bits) 1 0 (length plan / 6) (omega arith) (omega arith) (omega arith) (C .three) (omega arith) refl (C .buffer) (C .high)
+-- the numbers of at most three levels are numbers of level bits
+numbers-low : (ls : List Level) (a b : List ℕ) (l s m n : ℕ) → m ≤ 3 → Numbers (table (numberAt (stepped (streamAt ls a b) l s m)) 0 n)
+numbers-low ls a b l s m n h = record { low = λ k. go k (below-or k n) }
+  where
+    f : ℕ → ℕ
+    f = numberAt (stepped (streamAt ls a b) l s m)
 
-  module _ {numbers′ : List ℕ} (e : numbers′ ≡ table (numberAt (stepped (streamAt plan a b) 0 1 (length plan / 6))) 0 (length numbers)) where
-    same-count : length numbers′ ≡ length numbers
-    same-count = rw e (length-table _ 0 (length numbers))
+    go : (k : ℕ) → (k < n) ⊎ (n ≤ k) → getD (table f 0 n) k 0 < 8
+    go k (inl i) = rw (getD-table 0 f n k i) (omega (arith, number-low ls a b l s m k, pow-mono {i = m} {j = 3} h))
+    go k (inr i) = rw (List·getD-eq-default (table f 0 n) 0 {n = k} (rw (length-table f 0 n) i)) (omega arith)
+
+-- levels that go to both axes
+module _ {k : Block} {a b : List ℕ} {out : List ℤ} (C : CodesParts k a b out) (one : oneAxis k ≡ false) where
+  both : length out ≡ cond (oneAxis k) (k .cells) (2 * k .cells)
+  both = rw one (C .cells)
+
+  pub out-low : length out ≤ 12236
+  out-low = omega (arith, C .cells, C .fits .most)
+
+  few : k .count ≤ 3
+  few = omega (arith, sym (count-is (C .fits)) ∙ rw one at (C .fits .levels), three (C .fits))
+
+  -- they can be coded
+  pub codes-both : {numbers : List ℕ} → length numbers ≡ length out → CodesLevels (k .levels) 0 1 (k .count) a b numbers
+  codes-both e = codes-levels (C .fits) (C .parts) both out-low (C .inputA) (C .inputB) 1 0 (k .count) (omega arith) (omega arith) (omega arith) few (omega arith) e
+
+  module _ {numbers : List ℕ} (e : numbers ≡ table (numberAt (stepped (streamAt (k .levels) a b) 0 1 (k .count))) 0 (length out)) where
+    same-count : length numbers ≡ length out
+    same-count = rw e (length-table _ 0 (length out))
 
     -- and their numbers mapped
-    pub maps-both : MapsParts c n1 numbers′ out
+    pub maps-both : MapsParts (k .constellation) (k .parta) numbers out
     maps-both =
         record {
-          known = C .known;
-          same = C .same ∙ sym same-count;
-          whole = rw same-count (C .whole);
-          part = rw same-count (C .part);
-          high = rw same-count (C .high);
-          low = rw e (numbers-low plan a b 0 1 (length plan / 6) (length numbers) (C .three));
+          known = C .fits .known;
+          same = sym same-count;
+          whole = rw (same-count, C .cells) (omega arith);
+          part = rw same-count (omega (arith, C .cells, C .fits .part));
+          high = rw same-count (omega (arith, out-low));
+          low = rw e (numbers-low (k .levels) a b 0 1 (k .count) (length out) few);
         }
 
     -- to the cells
-    pub mapped-both : {out′ : List ℤ} → out′ ≡ coordinates (constellation c) numbers′
-        → out′ ≡ mapped (constellation c) (length out) (streams (levelsOf plan) a b)
-    mapped-both f = f ∙ rw (e, streams-plan plan a b, C .same) (mapped-numbers (constellation c) (length numbers) _)
+    pub mapped-both : {out′ : List ℤ} → out′ ≡ coordinates (constellation (k .constellation)) numbers
+        → out′ ≡ mapped (pointsOf k) (2 * k .cells) (streams (levelsOf k) a b)
+    unfolding pointsOf
+    mapped-both f = f ∙ rw (e, streams-are (C .fits) a b, C .cells) (mapped-numbers (constellation (k .constellation)) (2 * k .cells) _)
 
 -- levels that go to one axis
-module _ {plan : List ℕ} {c n1 : ℕ} {a b coded re im : List ℕ} {out : List ℤ} (C : CodesAxes plan c n1 a b coded re im out) where
-  -- at most six of them
-  three : length plan / 6 / 2 ≤ 3
-  three = omega (arith, C .bits .few)
+module _ {k : Block} {a b : List ℕ} {out : List ℤ} (C : CodesParts k a b out) (one : oneAxis k ≡ true) where
+  axis : k .cells ≡ cond (oneAxis k) (k .cells) (2 * k .cells)
+  axis = rw one
 
-  twice : 2 * (length plan / 6 / 2) ≡ length plan / 6
-  twice = omega (arith, C .pairs)
+  cells-low : k .cells ≤ 12236
+  cells-low = omega (arith, C .fits .most)
 
-  -- those of the real axis can be coded
-  pub codes-real : CodesLevels plan 0 2 (length plan / 6 / 2) a b coded re
-  codes-real =
-      codes-levels (C .bits) 2 0 (length plan / 6 / 2) (omega arith) (omega arith) (omega arith) three (omega (arith, twice)) refl (C .buffer) (C .high)
+  count : k .count ≡ 2 * C .fits .streams
+  count = sym (count-is (C .fits)) ∙ rw one at (C .fits .levels)
 
-  -- and those of the imaginary one
-  pub codes-imaginary : {coded′ : List ℕ} → length coded′ ≡ length coded → CodesLevels plan 1 2 (length plan / 6 / 2) a b coded′ im
-  codes-imaginary e =
-      codes-levels (C .bits) 2 1 (length plan / 6 / 2) (omega arith) (omega arith) (omega arith) three (omega (arith, twice)) (C .both) (rw e (C .buffer)) (C .high)
+  pairs : k .count / 2 ≤ 3
+  pairs = omega (arith, count, three (C .fits))
 
-  module _ {re′ im′ : List ℕ}
-      (e : re′ ≡ table (numberAt (stepped (streamAt plan a b) 0 2 (length plan / 6 / 2))) 0 (length re))
-      (f : im′ ≡ table (numberAt (stepped (streamAt plan a b) 1 2 (length plan / 6 / 2))) 0 (length im)) where
-    real-count : length re′ ≡ length re
-    real-count = rw e (length-table _ 0 (length re))
+  twice : 2 * (k .count / 2) ≡ k .count
+  twice = omega (arith, count)
 
-    imaginary-count : length im′ ≡ length im
-    imaginary-count = rw f (length-table _ 0 (length im))
+  -- those of the real axis can be coded, and those of the imaginary one
+  pub codes-axis : {numbers : List ℕ} (l : ℕ) → l ≤ 1 → length numbers ≡ k .cells → CodesLevels (k .levels) l 2 (k .count / 2) a b numbers
+  codes-axis l h e =
+      codes-levels (C .fits) (C .parts) axis cells-low (C .inputA) (C .inputB) 2 l (k .count / 2) (omega arith) (omega arith) h pairs (omega (arith, twice)) e
+
+  module _ {re im : List ℕ}
+      (e : re ≡ table (numberAt (stepped (streamAt (k .levels) a b) 0 2 (k .count / 2))) 0 (k .cells))
+      (f : im ≡ table (numberAt (stepped (streamAt (k .levels) a b) 1 2 (k .count / 2))) 0 (k .cells)) where
+    real-count : length re ≡ k .cells
+    real-count = rw e (length-table _ 0 (k .cells))
+
+    imaginary-count : length im ≡ k .cells
+    imaginary-count = rw f (length-table _ 0 (k .cells))
 
     -- their numbers can be mapped
-    pub maps-both-axes : MapsAxesParts c n1 re′ im′ out
+    pub maps-both-axes : MapsAxesParts (k .constellation) (k .parta) re im out
     maps-both-axes =
         record {
-          known = C .known;
-          same = rw real-count (C .same);
-          both = imaginary-count ∙ C .both ∙ sym real-count;
-          part = rw real-count (C .part);
-          high = rw real-count (C .high);
-          lowReal = rw e (numbers-low plan a b 0 2 (length plan / 6 / 2) (length re) three);
-          lowImaginary = rw f (numbers-low plan a b 1 2 (length plan / 6 / 2) (length im) three);
+          known = C .fits .known;
+          same = rw real-count (C .cells);
+          both = imaginary-count ∙ sym real-count;
+          part = rw real-count (C .fits .part);
+          high = rw real-count (omega (arith, cells-low));
+          lowReal = rw e (numbers-low (k .levels) a b 0 2 (k .count / 2) (k .cells) pairs);
+          lowImaginary = rw f (numbers-low (k .levels) a b 1 2 (k .count / 2) (k .cells) pairs);
         }
 
     -- to the cells
-    pub mapped-axes : {out′ : List ℤ} → out′ ≡ coordinates (constellation c) (weave re′ im′)
-        → out′ ≡ mapped (constellation c) (length out) (woven (streams (levelsOf plan) a b))
+    pub mapped-axes : {out′ : List ℤ} → out′ ≡ coordinates (constellation (k .constellation)) (weave re im)
+        → out′ ≡ mapped (pointsOf k) (2 * k .cells) (woven (streams (levelsOf k) a b))
+    unfolding pointsOf
     mapped-axes g =
-        let w : weave re′ im′ ≡ table (numberAt (woven (stepped (streamAt plan a b) 0 1 (length plan / 6)))) 0 (2 * length re) =
-        rw (e, f, C .both)
-        (numbers-woven (streamAt plan a b) (length re) (length plan / 6 / 2) (λ i h. length-streamAt (C .bits) i (omega (arith, twice)))
-        ∙ ap (λ m. table (numberAt (woven (stepped (streamAt plan a b) 0 1 m))) 0 (2 * length re)) twice) in
-        g ∙ rw (w, streams-plan plan a b, C .same) (mapped-numbers (constellation c) (2 * length re) _)
-
--- a constellation has at most three level bits
-levels-low : (c : ℕ) → levelCount c ≤ 3
-unfolding levelCount
-levels-low zero = omega arith
-levels-low (suc zero) = omega arith
-levels-low (suc (suc zero)) = omega arith
-levels-low (suc (suc (suc zero))) = omega arith
-levels-low (suc (suc (suc (suc zero)))) = omega arith
-levels-low (suc (suc (suc (suc (suc c))))) = omega arith
-
-pub labels-low : (c m : ℕ) → Labels m (constellation c) → m ≤ 3
-labels-low c m L = go (below-or m 4)
-  where
-    go : (m < 4) ⊎ (4 ≤ m) → m ≤ 3
-    go (inl h) = omega arith
-    go (inr h) =
-        absurd (omega (arith, L .real .size, constellation-labels c .real .size, pow-mono {i = 4} {j = m} h, pow-mono {i = levelCount c} {j = 3} (levels-low c)))
+        let S = streamAt (k .levels) a b in
+        let w : weave re im ≡ table (numberAt (woven (stepped S 0 1 (k .count)))) 0 (2 * k .cells) =
+        rw (e, f)
+        (numbers-woven S (k .cells) (k .count / 2) (λ i h. length-streamAt (C .fits) (C .parts) axis cells-low (C .inputA) (C .inputB) i (omega (arith, twice)))
+        ∙ ap (λ m. table (numberAt (woven (stepped S 0 1 m))) 0 (2 * k .cells)) twice) in
+        g ∙ rw (w, streams-are (C .fits) a b) (mapped-numbers (constellation (k .constellation)) (2 * k .cells) _)
 
 -- the dispersed bits of a block
-module _ {plan : List ℕ} {one : Bool} {c n1 : ℕ} {bits coded numbers imaginary : List ℕ} {out : List ℤ}
-    (C : CodesBits plan one c n1 bits coded numbers imaginary out) where
-  -- those of parts A and B
-  total : length bits ≡ bitsBefore plan 0 (length plan / 6) + bitsBefore plan 1 (length plan / 6)
-  unfolding bitCount
-  total = C .long ∙ ap₂ _+_ (totalA-plan plan) (totalB-plan plan)
+module _ {k : Block} {bits : List ℕ} {out : List ℤ} (C : CodesBits k bits out) {at : ℕ} (e : at ≡ bitsBefore (k .levels) false (k .count)) where
+  -- part A's stand first
+  pub part-a : at ≤ length bits
+  part-a = omega (arith, C .long, all-bits (C .fits))
 
-  -- part A's can be counted
-  pub sums-bits : Sums plan 0 (length plan / 6)
-  sums-bits = record { there = omega arith; known = omega arith; few = omega (arith, C .few); fits = omega (arith, total, C .short) }
-
-  module _ {at : ℕ} (e : at ≡ bitsBefore plan 0 (length plan / 6)) where
-    -- they stand first
-    pub part-a : at ≤ length bits
-    part-a = omega (arith, total)
-
-    levels : {n : ℕ} → LevelsFit n (levelsOf plan) → PlanBits plan n (take (at - 0) bits) (take (length bits - at) (drop at bits))
-    levels F =
-        record {
-          few = C .few;
-          levels = level-ready F (C .known);
-          longA = length-start at bits part-a ∙ e;
-          longB = length-end at bits ∙ omega (arith, total);
-          short = (omega (arith, length-start at bits part-a, part-a, C .short), omega (arith, length-end at bits, C .short));
-          inputA = bits-take (at - 0) (C .input);
-          inputB = bits-take (length bits - at) (bits-drop at (C .input));
-        }
-
-    halves : 2 * (length out / 2) ≡ length out
-    halves = omega (arith, C .whole)
-
-    count : length plan / 6 ≡ cond one (2 * C .fits .streams) (C .fits .streams)
-    count = sym (length-levelsOf plan) ∙ C .fits .levels
-
-    -- levels that go to both axes
-    pub both-axes : one ≡ false
-        → CodesBoth plan c n1 (take (at - 0) bits) (take (length bits - at) (drop at bits)) coded numbers out
-    both-axes f =
-        record {
-          bits = levels (rw (C .same, ← halves) (rw f at (C .fits .fit)));
-          three = omega (arith, rw f at count, labels-low c (C .fits .streams) (C .fits .labels));
-          known = C .points;
-          same = sym (C .same);
-          whole = rw (C .same) (C .whole);
-          part = rw (C .same) (C .part);
-          buffer = rw (C .same) (C .buffer);
-          high = omega (arith, C .same, C .high);
-        }
-
-    -- levels that go to one axis
-    pub one-axis : one ≡ true
-        → CodesAxes plan c n1 (take (at - 0) bits) (take (length bits - at) (drop at bits)) coded (take (length out / 2 - 0) numbers) imaginary out
-    one-axis f =
-        let n : length (take (length out / 2 - 0) numbers) ≡ length out / 2 = length-start (length out / 2) numbers (omega (arith, C .same)) in
-        record {
-          bits = levels (rw n (rw f at (C .fits .fit)));
-          pairs = omega (arith, rw f at count);
-          known = C .points;
-          same = rw n (sym halves);
-          both = C .half ∙ sym n;
-          part = rw n (omega (arith, C .part));
-          buffer = rw n (omega (arith, C .buffer));
-          high = rw n (omega (arith, C .high));
-        }
-
-    -- the streams of the parts are those of the block
-    parts-are : streams (levelsOf plan) (take (at - 0) bits) (take (length bits - at) (drop at bits))
-        ≡ streams (levelsOf plan) (take (totalA (levelsOf plan)) bits) (drop (totalA (levelsOf plan)) bits)
-    parts-are = rw (from-start at, to-end at bits, e, totalA-plan plan)
-
-    -- so that these are its cells
-    pub both-cells : {out′ : List ℤ} → one ≡ false
-        → out′ ≡ mapped (constellation c) (length out) (streams (levelsOf plan) (take (at - 0) bits) (take (length bits - at) (drop at bits)))
-        → out′ ≡ cellsBy (blockOf plan 0 one c (length out / 2)) bits
-    unfolding cellsBy streamsOf
-    both-cells f g = g ∙ rw (parts-are, f, halves)
-
-    pub axis-cells : {out′ : List ℤ} → one ≡ true
-        → out′ ≡ mapped (constellation c) (length out) (woven (streams (levelsOf plan) (take (at - 0) bits) (take (length bits - at) (drop at bits))))
-        → out′ ≡ cellsBy (blockOf plan 0 one c (length out / 2)) bits
-    unfolding cellsBy streamsOf
-    axis-cells f g = g ∙ rw (parts-are, f, halves)
-
--- the bytes of a block
-module _ {plan : List ℕ} {v : ℕ} {one : Bool} {c n1 : ℕ} {bytes bits coded numbers imaginary : List ℕ} {out : List ℤ}
-    (C : CodesBlockIn plan v one c n1 bytes bits coded numbers imaginary out) where
-  -- its bits are there
-  pub unpacks-in : UnpacksParts bytes v bits
-  unfolding bytesFor
-  unpacks-in =
+  -- both parts can be coded
+  pub codes-parts : CodesParts k (take (at - 0) bits) (take (length bits - at) (drop at bits)) out
+  codes-parts =
       record {
-        few = omega (arith, C .block .long, C .block .short);
-        front = rw (C .unpacked) (C .block .fits .front);
-        there = omega (arith, C .block .long, C .unpacked);
+        fits = C .fits;
+        parts = record { longA = length-start at bits part-a ∙ e; longB = length-end at bits ∙ omega (arith, C .long, all-bits (C .fits)) };
+        inputA = bits-take (at - 0) (C .input);
+        inputB = bits-take (length bits - at) (bits-drop at (C .input));
+        cells = C .cells;
       }
 
-  module _ {bits′ : List ℕ} (e : bits′ ≡ dispersedParts v (unpacked (length bits) bytes)) where
-    -- they can be coded
-    pub codes-in : CodesBits plan one c n1 bits′ coded numbers imaginary out
-    codes-in =
-        let n : length bits′ ≡ bitCount (blockOf plan v one c (length out / 2)) =
-        rw e (length-dispersedParts v (unpacked (length bits) bytes)) ∙ length-unpacked (length bits) bytes ∙ C .unpacked in
-        record {
-          vspp = v;
-          fits = C .block .fits;
-          known = C .block .numbers;
-          few = C .block .few;
-          points = C .block .known;
-          whole = C .block .whole;
-          part = C .block .part;
-          high = C .block .high;
-          input = rw e (bits-dispersedParts v (unpacked (length bits) bytes));
-          long = n;
-          short = rw n (C .block .short);
-          buffer = C .buffer;
-          same = C .same;
-          half = C .half;
-        }
+  -- the streams of the parts are those of the block
+  parts-are : streams (levelsOf k) (take (at - 0) bits) (take (length bits - at) (drop at bits)) ≡ streamsOf k bits
+  unfolding streamsOf
+  parts-are = rw (from-start at, to-end at bits, e, total-A (C .fits))
+
+  -- so that these are its cells
+  pub both-cells : {out′ : List ℤ} → oneAxis k ≡ false
+      → out′ ≡ mapped (pointsOf k) (2 * k .cells) (streams (levelsOf k) (take (at - 0) bits) (take (length bits - at) (drop at bits)))
+      → out′ ≡ cellsBy k bits
+  unfolding cellsBy
+  both-cells f g = g ∙ rw (parts-are, f)
+
+  pub axis-cells : {out′ : List ℤ} → oneAxis k ≡ true
+      → out′ ≡ mapped (pointsOf k) (2 * k .cells) (woven (streams (levelsOf k) (take (at - 0) bits) (take (length bits - at) (drop at bits))))
+      → out′ ≡ cellsBy k bits
+  unfolding cellsBy
+  axis-cells f g = g ∙ rw (parts-are, f)
+
+-- the bytes of a block
+module _ {k : Block} {bytes : List ℕ} {out : List ℤ} (C : CodesBlock k bytes out) where
+  -- its bits can be counted, and have room
+  pub total-is : {a b : ℕ} → a ≡ bitsBefore (k .levels) false (k .count) → b ≡ bitsBefore (k .levels) true (k .count) → a + b ≡ bitCount k
+  total-is e f = rw (e, f) (sym (all-bits (C .fits)))
+
+  pub total-low : {n : ℕ} → n ≡ bitCount k → n ≤ 36708
+  total-low e = omega (arith, C .fits .short)
+
+  -- they are there
+  pub unpacks : {bits : List ℕ} → length bits ≡ bitCount k → UnpacksParts bytes (k .vspp) bits
+  unfolding bytesFor
+  unpacks e =
+      record {
+        few = omega (arith, C .long, C .fits .short);
+        front = rw e (C .fits .front);
+        there = omega (arith, C .long, e);
+      }
+
+  module _ {bits : List ℕ} {n : ℕ} (h : n ≡ bitCount k) (e : bits ≡ dispersedParts (k .vspp) (unpacked n bytes)) where
+    pub bits-long : length bits ≡ n
+    bits-long = rw e (length-dispersedParts (k .vspp) (unpacked n bytes)) ∙ length-unpacked n bytes
+
+    -- and can be coded
+    pub codes-bits : CodesBits k bits out
+    codes-bits =
+        record { fits = C .fits; input = rw e (bits-dispersedParts (k .vspp) (unpacked n bytes)); long = bits-long ∙ h; cells = C .cells }
 
     -- to the block's cells
-    pub cells-in : {out′ : List ℤ} → out′ ≡ cellsBy (blockOf plan 0 one c (length out / 2)) bits′
-        → out′ ≡ cellsFrom (blockOf plan v one c (length out / 2)) bytes
-    unfolding cellsBy streamsOf cellsFrom cellsOf
-    cells-in f = f ∙ rw (e, C .unpacked)
+    pub block-cells : {out′ : List ℤ} → out′ ≡ cellsBy k bits → out′ ≡ cellsFrom k bytes
+    unfolding cellsBy cellsFrom cellsOf
+    block-cells f = f ∙ rw (e, h)
 
--- working buffers for the largest block
-module _ {plan : List ℕ} {v : ℕ} {one : Bool} {c n1 : ℕ} {bytes bits coded numbers imaginary : List ℕ} {out : List ℤ}
-    (C : CodesBlockWith plan v one c n1 bytes bits coded numbers imaginary out) where
-  all-bits : bitCount (blockOf plan v one c (length out / 2)) ≡ bitsBefore plan 0 (length plan / 6) + bitsBefore plan 1 (length plan / 6)
-  unfolding bitCount
-  all-bits = ap₂ _+_ (totalA-plan plan) (totalB-plan plan)
+-- a working buffer whose first n elements were written as a table: that many, and those are read again
+module _ (f : ℕ → ℕ) (buffer part : List ℕ) (n : ℕ) (h : n ≤ length buffer) (e : part ≡ table f 0 (length (take (n - 0) buffer))) where
+  pub part-table : part ≡ table f 0 n
+  part-table = e ∙ ap (table f 0) (length-start n buffer h)
 
-  -- its bits can be counted
-  pub sums-a : Sums plan 0 (length plan / 6)
-  sums-a = record { there = omega arith; known = omega arith; few = omega (arith, C .block .few); fits = omega (arith, all-bits, C .block .short) }
+  part-long : length part ≡ n
+  part-long = ap length part-table ∙ length-table f 0 n
 
-  pub sums-b : Sums plan 1 (length plan / 6)
-  sums-b = record { there = omega arith; known = omega arith; few = omega (arith, C .block .few); fits = omega (arith, all-bits, C .block .short) }
+  pub part-room : n ≤ length (part ++ drop (n - 0) buffer)
+  part-room = rw (length-written buffer part n h part-long) h
 
-  module _ {a b : ℕ} (e : a ≡ bitsBefore plan 0 (length plan / 6)) (f : b ≡ bitsBefore plan 1 (length plan / 6)) where
-    -- they fit into the buffer
-    pub bits-with : a + b ≤ length bits
-    bits-with = omega (arith, all-bits, C .block .short, C .unpacked)
+  pub part-again : take (n - 0) (part ++ drop (n - 0) buffer) ≡ table f 0 n
+  part-again = written-front part buffer n part-long ∙ part-table
 
-    -- and the block can be coded with parts of the buffers
-    pub codes-with : CodesBlockIn plan v one c n1 bytes (take (a + b - 0) bits) coded (take (length out - 0) numbers) (take (length out / 2 - 0) imaginary) out
-    codes-with =
-        record {
-          block = C .block;
-          unpacked = length-start (a + b) bits bits-with ∙ omega (arith, all-bits);
-          buffer = omega (arith, C .block .high, C .buffer);
-          same = length-start (length out) numbers (omega (arith, C .block .high, C .cells));
-          half = length-start (length out / 2) imaginary (omega (arith, C .block .high, C .axis));
-        }
+-- the bits unpacked to the front of a buffer
+module _ {k : Block} {bytes : List ℕ} {out : List ℤ} (C : CodesBlock k bytes out) {n : ℕ} (h : n ≡ bitCount k) (buffer : List ℕ) (l : length buffer ≡ 36708) where
+  room : n ≤ length buffer
+  room = omega (arith, total-low C h)
+
+  pub bits-room : length (take (n - 0) buffer) ≡ bitCount k
+  bits-room = length-start n buffer room ∙ h
+
+  pub bits-again : {part : List ℕ} → part ≡ dispersedParts (k .vspp) (unpacked (length (take (n - 0) buffer)) bytes)
+      → (n ≤ length (part ++ drop (n - 0) buffer)) × (take (n - 0) (part ++ drop (n - 0) buffer) ≡ dispersedParts (k .vspp) (unpacked n bytes))
+  bits-again {part} e =
+      let f : part ≡ dispersedParts (k .vspp) (unpacked n bytes) = e ∙ ap (λ m. dispersedParts (k .vspp) (unpacked m bytes)) (length-start n buffer room) in
+      let g : length part ≡ n = bits-long C h f in
+      (rw (length-written buffer part n room g) room, written-front part buffer n g ∙ f)

@@ -14,7 +14,7 @@ use Rattle.lists.proofs.Counting.{below-or}
 use Rattle.lists.proofs.Tables.{length-table, getD-table, table-ext}
 use Rattle.block.specs.Mapping.{Constellation, axis, numberAt, mapped, weave, woven}
 use Rattle.mapping.specs.Numbers.{coordinates}
-use Rattle.block.specs.Plan.{stepped}
+use Rattle.levels.specs.Partition.{stepped}
 use Rattle.mapping.proofs.Coordinates.{weave-even, weave-odd}
 
 -- mapping of streams is that of their numbers

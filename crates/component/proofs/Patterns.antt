@@ -1,15 +1,17 @@
 -- Laws of the patterns' tables, each from a test that is computed over a whole table. Assumes nothing.
-use Prim.Native.Nat.{ℕ, zero, suc, _+_, _-_, _%_, _≤_, _<_}
+use Prim.Native.Nat.{ℕ, zero, suc, _+_, _-_, _%_, _<_}
 use mathlib.Core.Path.{_≡_, refl}
 use mathlib.Core.Bool.{Bool, _&&_}
 use mathlib.Core.List.{List, [], _∷_, _++_, map}
+use native.Mathlib.Nat.{sub-zero}
 use native.Mathlib.Omega.{arith}
 use lib.Dec.{T, eqb, ltb, ltb→lt}
-use lib.ListN.{length, getD, take, drop, replicate, length-append, List·getD-append, List·getD-map}
+use lib.ListN.{length, getD, take, replicate, length-append, List·getD-append, List·getD-map}
 use lib.Seq.{getD-append-add, take-append-seam}
 use Rattle.component.specs.Patterns.{columns, table65, pattern, tail, table66, tailPattern}
-use Rattle.component.specs.Decoding.{patternAt, padded, Sound}
-use Rattle.component.specs.Coding.{Encodes, EncodesWith, Decodes, DecodesWith}
+use Rattle.component.specs.declared.code.Pattern.{Pattern}
+use Rattle.component.specs.Decoding.{patternAt, Sound}
+use Rattle.component.specs.Coding.{padded, patternFrom, patternOf, Held}
 use Rattle.component.proofs.Tests.{both-left, both-right, each, at, equal, less}
 
 -- a pattern has columns, and each keeps b0 and no more than four bits
@@ -57,27 +59,22 @@ getD-map f [] k a b h = absurd (omega arith)
 getD-map f (x ∷ l) zero a b h = refl
 getD-map f (x ∷ l) (suc k) a b h = getD-map f l k a b (omega arith)
 
--- the table of columns has at a pattern's number its columns, filled up to eight
-pub row-at : (k : ℕ) (z : List ℕ) → k < 25 → getD (map padded (table65 ++ table66)) k z ≡ padded (patternAt k)
-unfolding patternAt table65 table66
-row-at k z h = getD-map padded (table65 ++ table66) k [] z h
+-- the code's table of columns and its table of their numbers have at k the pattern of number k
+pub pattern-is : (k : ℕ) (z : List ℕ) → k < 25 → _≡_ {A = Pattern} (record { columns = getD (map padded (table65 ++ table66)) k z; width = getD (map length (table65 ++ table66)) k 0 }) (patternFrom (patternAt k))
+unfolding patternAt patternFrom table65 table66
+pattern-is k z h = λ i. record { columns = getD-map padded (table65 ++ table66) k [] z h i; width = List·getD-map length (table65 ++ table66) k [] i }
 
--- the table of their numbers has how many they are
-pub columns-at : (k : ℕ) → getD (map length (table65 ++ table66)) k 0 ≡ length (patternAt k)
-unfolding patternAt
-columns-at k = List·getD-map length (table65 ++ table66) k []
+-- the pattern that the code holds is the one that it was made from
+pub pattern-from : (p : List ℕ) → patternOf (patternFrom p) ≡ p
+unfolding patternOf patternFrom padded
+pattern-from p = take-append-seam p (replicate (8 - length p) 0)
 
--- the columns of a pattern that was filled up to eight
-pub unpadded : (p : List ℕ) {row : List ℕ} {n : ℕ} → row ≡ padded p → n ≡ length p → (n ≤ length row) × (take (n - 0) (drop 0 row) ≡ p)
-unfolding padded
-unpadded p {row} {n} er en =
-    let zero : n - 0 ≡ length p = omega arith in
-    (rw (er, length-append) (omega arith), rw (er, zero) (take-append-seam p (replicate (8 - length p) 0)))
+-- so a sound pattern is held
+pub held : {p : List ℕ} → Sound p → Held (patternFrom p)
+unfolding patternFrom padded
+held {p} S = record { sound = rw (pattern-from p) S; there = rw length-append (omega arith) }
 
--- what encode requires of a pattern's row of the tables
-pub encodes : {k r at : ℕ} {xs d p : List ℕ} → p ≡ patternAt k → EncodesWith k r xs d at → Encodes p r xs d at
-encodes {k} e R = rw e (record { sound = sound-at k (R .number); seven = R .seven; input = R .input; room = R .room })
-
--- what decode requires of it
-pub decodes : {k r at : ℕ} {coded d p : List ℕ} → p ≡ patternAt k → DecodesWith k r coded at d → Decodes p r coded at d
-decodes {k} e R = rw e (record { sound = sound-at k (R .number); seven = R .seven; room = R .room })
+-- the columns that the code lends on
+pub lent : (p : Pattern) → take (p .width - 0) (p .columns) ≡ patternOf p
+unfolding patternOf
+lent p = rw sub-zero

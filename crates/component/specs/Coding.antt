@@ -1,13 +1,30 @@
 -- What the functions of the component code require and promise: nothing of 01 is stated here.
-use Prim.Native.Nat.{ℕ, _+_, _≤_, _<_}
+use Prim.Native.Nat.{ℕ, _+_, _-_, _≤_, _<_}
 use mathlib.Core.Path.{_≡_}
-use mathlib.Core.List.{List}
-use lib.ListN.{length, drop}
+use mathlib.Core.List.{List, _++_}
+use lib.ListN.{length, take, drop, replicate}
 use lib.Seq.{sets}
 use Rattle.component.specs.Bits.{Bits}
 use Rattle.component.specs.Register.{after}
 use Rattle.component.specs.Codeword.{encode}
-use Rattle.component.specs.Decoding.{patternAt, codedLength, decode, Sound}
+use Rattle.component.specs.declared.code.Pattern.{Pattern}
+use Rattle.component.specs.Decoding.{codedLength, decode, Sound}
+
+-- The columns of a pattern, filled up with zeros to eight.
+unfoldable pub padded : List ℕ → List ℕ
+padded p = p ++ replicate (8 - length p) 0
+
+-- A pattern as the code holds it, and the pattern that it holds.
+unfoldable pub patternFrom : List ℕ → Pattern
+patternFrom p = record { columns = padded p; width = length p }
+
+unfoldable pub patternOf : Pattern → List ℕ
+patternOf p = take (p .width) (p .columns)
+
+-- A sound pattern is held.
+pub record Held (p : Pattern) : Type 0 where
+  pub sound : Sound (patternOf p)
+  pub there : p .width ≤ length (p .columns)
 
 -- encode requires a sound pattern, a register of seven bits, bits to code, and room for the coded ones.
 pub record Encodes (pattern : List ℕ) (register : ℕ) (bits out : List ℕ) (at : ℕ) : Type 0 where
@@ -16,14 +33,7 @@ pub record Encodes (pattern : List ℕ) (register : ℕ) (bits out : List ℕ) (
   pub input : Bits bits
   pub room : at + codedLength pattern 0 (length bits) ≤ length out
 
--- encode_with requires the number of a pattern, and the rest of that.
-pub record EncodesWith (k register : ℕ) (bits out : List ℕ) (at : ℕ) : Type 0 where
-  pub number : k < 25
-  pub seven : register < 128
-  pub input : Bits bits
-  pub room : at + codedLength (patternAt k) 0 (length bits) ≤ length out
-
--- Both promise the register and the place behind the segment, and its coded bits at their place, the rest of the buffer as it was.
+-- It promises the register and the place behind the segment, and its coded bits at their place, the rest of the buffer as it was.
 pub record Encoded (pattern : List ℕ) (register : ℕ) (bits out : List ℕ) (at : ℕ) (register' at' : ℕ) (out' : List ℕ) : Type 0 where
   pub state : register' ≡ after register bits
   pub place : at' ≡ at + length (encode pattern register 0 bits)
@@ -35,13 +45,7 @@ pub record Decodes (pattern : List ℕ) (register : ℕ) (coded : List ℕ) (at 
   pub seven : register < 128
   pub room : at + codedLength pattern 0 (length out) ≤ length coded
 
--- decode_with requires the number of a pattern, and the rest of that.
-pub record DecodesWith (k register : ℕ) (coded : List ℕ) (at : ℕ) (out : List ℕ) : Type 0 where
-  pub number : k < 25
-  pub seven : register < 128
-  pub room : at + codedLength (patternAt k) 0 (length out) ≤ length coded
-
--- Both promise the register and the place behind the segment, and its n bits, which fill the buffer.
+-- It promises the register and the place behind the segment, and its n bits, which fill the buffer.
 pub record Decoded (pattern : List ℕ) (register : ℕ) (coded : List ℕ) (at n : ℕ) (register' at' : ℕ) (out' : List ℕ) : Type 0 where
   pub state : register' ≡ after register (decode pattern register 0 n (drop at coded))
   pub place : at' ≡ at + codedLength pattern 0 n

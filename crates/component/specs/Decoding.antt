@@ -1,8 +1,8 @@
 -- The component code's lengths and its decoding. 01 "Component code"; 001 clause 7.3.2.
-use Prim.Native.Nat.{ℕ, zero, suc, _+_, _-_, _%_, _<_}
+use Prim.Native.Nat.{ℕ, zero, suc, _+_, _%_, _<_}
 use mathlib.Core.Path.{_≡_}
 use mathlib.Core.List.{List, [], _∷_, _++_}
-use lib.ListN.{length, getD, drop, replicate}
+use lib.ListN.{length, getD, drop}
 use lib.Count.{ones}
 use Rattle.component.specs.Register.{next, parity, after}
 use Rattle.component.specs.Patterns.{table65, table66}
@@ -12,10 +12,6 @@ use Rattle.component.specs.Bits.{Bits}
 -- The patterns by number: 0 to 12 are the rates of table 65, 13 to 24 the rows of table 66.
 unfoldable pub patternAt : ℕ → List ℕ
 patternAt k = getD (table65 ++ table66) k []
-
--- The columns of a pattern, filled up with zeros to eight.
-unfoldable pub padded : List ℕ → List ℕ
-padded p = p ++ replicate (8 - length p) 0
 
 -- How many coded bits n input bits give from column i on: a column keeps as many as its number has ones.
 unfoldable pub codedLength : List ℕ → ℕ → ℕ → ℕ

@@ -9,8 +9,8 @@ ghost use lib.Dec.{ltb};
 ghost use lib.Count.{ones};
 ghost use Rattle.component.specs.Register.{next, parity, parities};
 ghost use Rattle.component.specs.Codeword.{kept};
-ghost use Rattle.component.specs.Decoding.{patternAt, padded, codedLength, newest, Sound};
-ghost use Rattle.component.specs.Coding.{Encodes, Encoded, EncodesWith, Decodes, Decoded, DecodesWith};
+ghost use Rattle.component.specs.Decoding.{patternAt, codedLength, newest, Sound};
+ghost use Rattle.component.specs.Coding.{patternOf, patternFrom, Held, Encodes, Encoded, Decodes, Decoded};
 
 // The kept bits of each pattern's columns, filled up with zeros: the rates of table 65 and then the rows of table 66.
 const KEPT: [[u8; 8]; 25] = [
@@ -70,20 +70,21 @@ const COLUMNS: [usize; 25] = [
     6,
 ];
 
-// The columns of the pattern of number k, filled up to eight.
-pub fn row(k: usize) -> [u8; 8]
-    requires { ⌜ k < 25 ⌝ }
-    ensures { λ r. ⌜ r ≡ padded (patternAt k) ⌝ }
-{
-    KEPT[k]
+// A puncturing pattern: the kept bits of its columns, filled up with zeros, and how many columns it has.
+pub struct Pattern {
+    pub columns: [u8; 8],
+    pub width: usize,
 }
 
-// How many columns the pattern of number k has.
-pub fn columns(k: usize) -> usize
+// The pattern of number k: 0 to 12 are the rates of table 65, 13 to 24 the rows of table 66.
+pub fn pattern_at(k: usize) -> Pattern
     requires { ⌜ k < 25 ⌝ }
-    ensures { λ r. ⌜ r ≡ length (patternAt k) ⌝ }
+    ensures { λ r. ⌜ r ≡ patternFrom (patternAt k) ⌝ }
 {
-    COLUMNS[k]
+    Pattern {
+        columns: KEPT[k],
+        width: COLUMNS[k],
+    }
 }
 
 // A coder's register, and the place of the next coded bit.
@@ -141,8 +142,8 @@ fn keep_column(column: u8, register: u32, out: &mut [u8], at: usize) -> usize
     keep(column / 2 / 2 / 2, register, 0o133, out, three)
 }
 
-// The coded bits of a segment, written to out from at on.
-pub fn encode(pattern: &[u8], register: u32, bits: &[u8], out: &mut [u8], at: usize) -> Coder
+// The coded bits of a segment, written to out from at on, by the columns of its pattern.
+fn encode_columns(pattern: &[u8], register: u32, bits: &[u8], out: &mut [u8], at: usize) -> Coder
     requires { ⌜ Encodes (now pattern) register (now bits) (now out) at ⌝ }
     ensures { λ r. ⌜ Encoded (now (pattern .entry)) register (now (bits .entry)) (now (out .entry)) at (r .register) (r .at) (now (out .exit)) ⌝ }
 {
@@ -169,14 +170,14 @@ fn newest(register: u32, first: u8) -> u8
 }
 
 // How many bits a column keeps.
-fn width(column: u8) -> usize
+fn ones(column: u8) -> usize
     ensures { λ r. ⌜ r ≡ ones column ⌝ }
 {
     u32::count_ones(column as u32) as usize
 }
 
-// The bits of a segment from the coded bits that stand from at on: as many as out is long.
-pub fn decode(pattern: &[u8], register: u32, coded: &[u8], at: usize, out: &mut [u8]) -> Coder
+// The bits of a segment from the coded bits that stand from at on, by the columns of its pattern: as many as out is long.
+fn decode_columns(pattern: &[u8], register: u32, coded: &[u8], at: usize, out: &mut [u8]) -> Coder
     requires { ⌜ Decodes (now pattern) register (now coded) at (now out) ⌝ }
     ensures { λ r. ⌜ Decoded (now (pattern .entry)) register (now (coded .entry)) at (length (now (out .entry))) (r .register) (r .at) (now (out .exit)) ⌝ }
 {
@@ -188,34 +189,34 @@ pub fn decode(pattern: &[u8], register: u32, coded: &[u8], at: usize, out: &mut 
         let bit = newest(register, coded[at]);
         out[j] = bit;
         register = next(register, bit);
-        at += width(pattern[i]);
+        at += ones(pattern[i]);
         i = following(pattern.len(), i);
         j += 1;
     }
     Coder { register, at }
 }
 
-// encode with the pattern of number k.
-pub fn encode_with(k: usize, register: u32, bits: &[u8], out: &mut [u8], at: usize) -> Coder
-    requires { ⌜ EncodesWith k register (now bits) (now out) at ⌝ }
-    ensures { λ r. ⌜ Encoded (patternAt k) register (now (bits .entry)) (now (out .entry)) at (r .register) (r .at) (now (out .exit)) ⌝ }
+// The coded bits of a segment, written to out from at on.
+pub fn encode(pattern: Pattern, register: u32, bits: &[u8], out: &mut [u8], at: usize) -> Coder
+    requires { ⌜ Held pattern × Encodes (patternOf pattern) register (now bits) (now out) at ⌝ }
+    ensures { λ r. ⌜ Encoded (patternOf pattern) register (now (bits .entry)) (now (out .entry)) at (r .register) (r .at) (now (out .exit)) ⌝ }
 {
-    let pattern = row(k);
-    let n = columns(k);
-    encode(&pattern[0..n], register, bits, out, at)
+    let columns = pattern.columns;
+    let width = pattern.width;
+    encode_columns(&columns[0..width], register, bits, out, at)
 }
 
-// decode with the pattern of number k.
-pub fn decode_with(k: usize, register: u32, coded: &[u8], at: usize, out: &mut [u8]) -> Coder
-    requires { ⌜ DecodesWith k register (now coded) at (now out) ⌝ }
-    ensures { λ r. ⌜ Decoded (patternAt k) register (now (coded .entry)) at (length (now (out .entry))) (r .register) (r .at) (now (out .exit)) ⌝ }
+// The bits of a segment from the coded bits that stand from at on: as many as out is long.
+pub fn decode(pattern: Pattern, register: u32, coded: &[u8], at: usize, out: &mut [u8]) -> Coder
+    requires { ⌜ Held pattern × Decodes (patternOf pattern) register (now coded) at (now out) ⌝ }
+    ensures { λ r. ⌜ Decoded (patternOf pattern) register (now (coded .entry)) at (length (now (out .entry))) (r .register) (r .at) (now (out .exit)) ⌝ }
 {
-    let pattern = row(k);
-    let n = columns(k);
-    decode(&pattern[0..n], register, coded, at, out)
+    let columns = pattern.columns;
+    let width = pattern.width;
+    decode_columns(&columns[0..width], register, coded, at, out)
 }
 
-// How many coded bits n input bits give with a pattern.
+// How many coded bits n input bits give by the columns of a pattern.
 fn count_coded(pattern: &[u8], n: usize) -> usize
     requires { ⌜ Sound (now pattern) × (codedLength (now pattern) 0 n ≤ 65536) ⌝ }
     ensures { λ r. ⌜ r ≡ codedLength (now (pattern .entry)) 0 n ⌝ }
@@ -224,19 +225,19 @@ fn count_coded(pattern: &[u8], n: usize) -> usize
     let mut i = 0;
     let mut left = n;
     while 0 < left {
-        sum += width(pattern[i]);
+        sum += ones(pattern[i]);
         i = following(pattern.len(), i);
         left -= 1;
     }
     sum
 }
 
-// The same with the pattern of number k.
-pub fn coded_length(k: usize, n: usize) -> usize
-    requires { ⌜ (k < 25) × (codedLength (patternAt k) 0 n ≤ 65536) ⌝ }
-    ensures { λ r. ⌜ r ≡ codedLength (patternAt k) 0 n ⌝ }
+// How many coded bits n input bits give with a pattern.
+pub fn coded_length(pattern: Pattern, n: usize) -> usize
+    requires { ⌜ Held pattern × (codedLength (patternOf pattern) 0 n ≤ 65536) ⌝ }
+    ensures { λ r. ⌜ r ≡ codedLength (patternOf pattern) 0 n ⌝ }
 {
-    let pattern = row(k);
-    let columns = columns(k);
-    count_coded(&pattern[0..columns], n)
+    let columns = pattern.columns;
+    let width = pattern.width;
+    count_coded(&columns[0..width], n)
 }

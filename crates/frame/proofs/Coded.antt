@@ -31,9 +31,10 @@ unfolding remainder
 tail-fits w n rate h =
     tail-sound ((w * n - 12) % RY rate) (omega (arith, mod-lt (w * n - 12) (RY-low rate h .0), RY-low rate h .1))
 
--- t is 0, or one more than a multiple of 4
+-- t is 0, or one more than a multiple of 4, and small
 pub record Step (t : ℕ) : Type 0 where
   pub step : (t ≡ 0) ⊎ (t % 4 ≡ 1)
+  pub small : t < 64
 
 -- so many bits can be interleaved and put back if there are none or at least 5
 pub mixes : {t n : ℕ} → Step t → (n ≡ 0) ⊎ (5 ≤ n) → Mixes t n

@@ -1,7 +1,6 @@
-pub mod Plans
-pub mod PlanLevels
-pub mod PlanNumbers
 pub mod Coded
+pub mod Protected
 pub mod Fac
 pub mod Sdc
 pub mod Msc
+pub mod Made

@@ -2,21 +2,19 @@
 use Prim.Native.Nat.{ℕ, zero, suc, _+_, _*_, _/_, _%_, _≤_, _<_}
 use mathlib.Core.Path.{_≡_, refl, sym, ap, _∙_}
 use mathlib.Core.Logic.{_⊎_, inl, inr}
-use mathlib.Core.Bool.{Bool, true, false, cond, _||_}
-use mathlib.Core.List.{List, [], _∷_, _++_, map}
+use mathlib.Core.Bool.{Bool, true, false, cond, _&&_, _||_}
+use mathlib.Core.List.{List, [], _∷_, _++_}
 use native.Mathlib.Nat.{zero-add, mul-add, mul-zero, mul-mod-left}
 use native.Mathlib.Omega.{arith}
-use lib.ListN.{length, getD, drop}
-use lib.Seq.{getD-drop}
+use lib.ListN.{length, getD}
 use lib.Dec.{T, eqb, ltb, eqb→eq, ltb→lt, lit<}
-use borrow.Author.Tests.{eqb-true}
-use Rattle.lists.specs.Lists.{total}
+use borrow.Author.Tests.{eqb-true, ne-eqb}
 use Rattle.component.specs.Patterns.{RY, pattern}
 use Rattle.component.proofs.Codeword.{coded-none}
-use Rattle.component.proofs.Patterns.{pattern-sound}
+use Rattle.component.proofs.Patterns.{pattern-sound, pattern-from, held}
 use Rattle.settings.specs.declared.Settings.{Settings}
 use Rattle.settings.specs.Rates.{rates, table67, table68, table69, table71, commonDenominator, vsppRate}
-use Rattle.settings.specs.Formulas.{hierarchical, width, bitsA, bitsB, partA, partB, partVspp, cellsA}
+use Rattle.settings.specs.Formulas.{hierarchical, width, partA, partB, partVspp, cellsA}
 use Rattle.settings.specs.Refusal.{topLevel}
 use Rattle.settings.specs.Lengths.{nMux, n1, n2, l1, l2, lVspp}
 use Rattle.settings.specs.Sizes.{frameBits}
@@ -25,89 +23,30 @@ use Rattle.settings.proofs.LookUps.{all, all-at}
 use Rattle.component.proofs.Tests.{both-left, both-right}
 use Rattle.settings.proofs.Parts.{levels, level-at}
 use Rattle.settings.proofs.PartA.{divide, common-divides, times-denominator}
-use Rattle.block.specs.Levels.{Level, totalA, totalB}
-use Rattle.block.specs.Block.{bitCount}
+use Rattle.block.specs.declared.Level.{Level}
+use Rattle.block.specs.Levels.{totalA, totalB}
+use Rattle.block.specs.Mapping.{HMMIX}
+use Rattle.block.specs.Block.{levelsOf, pointsOf, oneAxis, bitCount}
+use Rattle.block.proofs.Blocks.{levels-from, length-six}
 use Rattle.block.specs.Reading.{sizeA, sizeB}
-use Rattle.block.specs.Fits.{plain, LevelFits, LevelsFit, none, more, BlockFits}
+use Rattle.block.specs.Fits.{plain, LevelFits, LevelsFit, more, BlockFits}
 use Rattle.block.proofs.Mapping.{levelCount, constellation-labels}
-use Rattle.frame.specs.Msc.{protectedLevel, protectedLevels, vsppLevel, mscSteps, mscLevels, mscConstellation, mscBlock}
-use Rattle.frame.proofs.Coded.{sizeA-is, sizeB-is, tail-fits, Step, mixes}
-
--- the cells of a level: N1 are whole rounds of every pattern of part A, and none or enough to interleave; N2 have room for the tail
-pub record Cells (w cells1 cells2 : ℕ) (ratesA : List ℕ) : Type 0 where
-  pub whole : (i : ℕ) → i < length ratesA → cells1 % RY (getD ratesA i 0) ≡ 0
-  pub some : (w * cells1 ≡ 0) ⊎ (5 ≤ w * cells1)
-  pub room : 12 ≤ w * cells2
-
-module _ (w cells1 cells2 rateA rateB t : ℕ) where
-  -- part A has w N1 coded bits
-  size-A : rateA < 13 → cells1 % RY rateA ≡ 0 → sizeA (protectedLevel w cells1 cells2 rateA rateB t) ≡ w * cells1
-  unfolding sizeA protectedLevel
-  size-A h e = sizeA-is w cells1 rateA h e
-
-  -- part B has w N2
-  size-B : rateB < 13 → 12 ≤ w * cells2 → sizeB (protectedLevel w cells1 cells2 rateA rateB t) ≡ w * cells2
-  unfolding sizeB protectedLevel
-  size-B h l = sizeB-is w cells2 rateB h l
-
-  protected-level : rateA < 13 → rateB < 13 → Step t → cells1 % RY rateA ≡ 0 → (w * cells1 ≡ 0) ⊎ (5 ≤ w * cells1) → 12 ≤ w * cells2
-      → LevelFits (w * cells1 + w * cells2) (protectedLevel w cells1 cells2 rateA rateB t)
-  unfolding protectedLevel
-  protected-level ha hb S e some room =
-      record {
-        soundA = pattern-sound rateA ha;
-        soundB = pattern-sound rateB hb;
-        soundTail = tail-fits w cells2 rateB hb;
-        mixesA = rw (size-A ha e) (mixes S some);
-        mixesB = rw (size-B hb room) (mixes S (inr (omega arith)));
-        size = rw (size-A ha e, size-B hb room);
-      }
-
--- all levels of the standard protected part, by the lists of their rates
-protected-fit : (w cells1 cells2 : ℕ) (ratesA ratesB ts : List ℕ) → Cells w cells1 cells2 ratesA
-    → ((i : ℕ) → getD ratesA i 0 < 13) → ((i : ℕ) → getD ratesB i 0 < 13) → ((i : ℕ) → Step (getD ts i 0))
-    → LevelsFit (w * cells1 + w * cells2) (protectedLevels w cells1 cells2 ratesA ratesB ts)
-unfolding protectedLevels
-protected-fit w cells1 cells2 [] ratesB ts C A B S = none
-protected-fit w cells1 cells2 (rateA ∷ ratesA) ratesB ts C A B S =
-    more
-    (protected-level w cells1 cells2 rateA (getD ratesB 0 0) (getD ts 0 0) (A 0) (B 0) (S 0) (C .whole 0 (omega arith)) (C .some) (C .room))
-    (protected-fit w cells1 cells2 ratesA (drop 1 ratesB) (drop 1 ts)
-    (record { whole = λ i h. C .whole (suc i) (omega arith); some = C .some; room = C .room })
-    (λ i. A (suc i)) (λ i. rw getD-drop (B (1 + i))) (λ i. rw getD-drop (S (1 + i))))
-
-protected-length : (w cells1 cells2 : ℕ) (ratesA ratesB ts : List ℕ) → length (protectedLevels w cells1 cells2 ratesA ratesB ts) ≡ length ratesA
-unfolding protectedLevels
-protected-length w cells1 cells2 [] ratesB ts = refl
-protected-length w cells1 cells2 (rateA ∷ ratesA) ratesB ts = ap suc (protected-length w cells1 cells2 ratesA (drop 1 ratesB) (drop 1 ts))
-
-protected-totalA : (w cells1 cells2 : ℕ) (ratesA ratesB ts : List ℕ)
-    → totalA (protectedLevels w cells1 cells2 ratesA ratesB ts) ≡ total (map (bitsA w cells1) ratesA)
-unfolding totalA total protectedLevels protectedLevel
-protected-totalA w cells1 cells2 [] ratesB ts = refl
-protected-totalA w cells1 cells2 (rateA ∷ ratesA) ratesB ts =
-    ap (λ m. bitsA w cells1 rateA + m) (protected-totalA w cells1 cells2 ratesA (drop 1 ratesB) (drop 1 ts))
-
-protected-totalB : (w cells1 cells2 : ℕ) (ratesA ratesB ts : List ℕ) → length ratesA ≡ length ratesB
-    → totalB (protectedLevels w cells1 cells2 ratesA ratesB ts) ≡ total (map (bitsB w cells2) ratesB)
-unfolding totalB total protectedLevels protectedLevel
-protected-totalB w cells1 cells2 [] [] ts e = refl
-protected-totalB w cells1 cells2 [] (rateB ∷ ratesB) ts e = absurd (omega arith)
-protected-totalB w cells1 cells2 (rateA ∷ ratesA) [] ts e = absurd (omega arith)
-protected-totalB w cells1 cells2 (rateA ∷ ratesA) (rateB ∷ ratesB) ts e =
-    ap (λ m. bitsB w cells2 rateB + m) (protected-totalB w cells1 cells2 ratesA ratesB (drop 1 ts) (omega arith))
+use Rattle.frame.specs.Msc.{vsppLevel, mscSteps, mscVspp, mscProtected, mscLevels, mscConstellation, mscBlock}
+use Rattle.frame.proofs.Coded.{sizeB-is, tail-fits, Step}
+use Rattle.frame.proofs.Protected.{Cells, protected-fit, protected-length, protected-totalA, protected-totalB}
 
 -- the level of the very strongly protected part has w N coded bits
 vspp-level : (w n rate : ℕ) → rate < 13 → 12 ≤ w * n → LevelFits (w * n) (vsppLevel w n rate)
 unfolding vsppLevel sizeA sizeB
 vspp-level w n rate h l =
     record {
-      soundA = pattern-sound rate h;
-      soundB = pattern-sound rate h;
-      soundTail = tail-fits w n rate h;
+      heldA = held (pattern-sound rate h);
+      heldB = held (pattern-sound rate h);
+      heldTail = held (tail-fits w n rate h);
+      small = lit< tt;
       mixesA = plain refl;
       mixesB = plain refl;
-      size = rw (coded-none (pattern rate) 0, zero-add) (sizeB-is w n rate h l);
+      size = rw (pattern-from, pattern-from, coded-none (pattern rate) 0, zero-add) (sizeB-is w n rate h l);
     }
 
 -- facts of every protection level, each one computed test
@@ -118,12 +57,31 @@ few = level-at (λ m l. all (λ r. ltb r 13) (rates m l)) tt
 rates-low : (msc level : ℕ) → Protection msc level → (i : ℕ) → getD (rates msc level) i 0 < 13
 rates-low msc level P i = ltb→lt _ 13 (all-at (λ r. ltb r 13) (rates msc level) 0 (few msc level P) tt i)
 
--- the number of levels goes by the MSC mode alone, and is that of its constellation
+-- the number of levels goes by the MSC mode alone, is that of its constellation, and at most six
 count-levels : (msc level : ℕ) → Protection msc level
-    → cond (hierarchical msc) 1 0 + length (rates msc level) ≡ cond (eqb msc 1) (2 * levelCount (mscConstellation msc)) (levelCount (mscConstellation msc))
+    → cond (hierarchical msc) 1 0 + length (rates msc level) ≡ cond (eqb (mscConstellation msc) HMMIX) (2 * levelCount (mscConstellation msc)) (levelCount (mscConstellation msc))
 unfolding rates table67 table68 table69 table71 topLevel hierarchical mscConstellation levelCount
 count-levels msc level P =
-    eqb→eq _ _ (level-at (λ m l. eqb (cond (hierarchical m) 1 0 + length (rates m l)) (cond (eqb m 1) (2 * levelCount (mscConstellation m)) (levelCount (mscConstellation m)))) tt msc level P)
+    eqb→eq _ _ (level-at (λ m l. eqb (cond (hierarchical m) 1 0 + length (rates m l)) (cond (eqb (mscConstellation m) HMMIX) (2 * levelCount (mscConstellation m)) (levelCount (mscConstellation m)))) tt msc level P)
+
+few-levels : (msc level : ℕ) → Protection msc level → cond (hierarchical msc) 1 0 + length (rates msc level) ≤ 6
+unfolding rates table67 table68 table69 table71 topLevel hierarchical
+few-levels msc level P =
+    let h : cond (hierarchical msc) 1 0 + length (rates msc level) < 7 = ltb→lt _ 7 (level-at (λ m l. ltb (cond (hierarchical m) 1 0 + length (rates m l)) 7) tt msc level P) in
+    omega arith
+
+-- HMmix is MSC mode 1, and every mode has a constellation
+mix-is : (msc : ℕ) → eqb (mscConstellation msc) HMMIX ≡ eqb msc 1
+unfolding mscConstellation
+mix-is zero = refl
+mix-is (suc zero) = refl
+mix-is (suc (suc zero)) = refl
+mix-is (suc (suc (suc zero))) = refl
+mix-is (suc (suc (suc (suc msc)))) = sym (ne-eqb (suc (suc (suc (suc msc)))) 1 (λ e. omega arith))
+
+constellation-low : (msc : ℕ) → mscConstellation msc < 5
+unfolding mscConstellation
+constellation-low msc = ltb→lt _ 5 (all-at (λ c. ltb c 5) (2 ∷ 4 ∷ 3 ∷ 1 ∷ []) 0 tt tt msc)
 
 vspp-rate-low : (level : ℕ) → vsppRate level < 13
 unfolding vsppRate
@@ -133,13 +91,13 @@ vspp-rate-low (suc (suc zero)) = lit< tt
 vspp-rate-low (suc (suc (suc zero))) = lit< tt
 vspp-rate-low (suc (suc (suc (suc level)))) = lit< tt
 
--- every t is 0 or one more than a multiple of 4
+-- every t is 0 or one more than a multiple of 4, and small
 stepTest : ℕ → Bool
-stepTest t = eqb t 0 || eqb (t % 4) 1
+stepTest t = (eqb t 0 || eqb (t % 4) 1) && ltb t 64
 
 passed : (t : ℕ) → T (stepTest t) → Step t
 unfolding stepTest
-passed t h = record { step = go (eqb t 0) (eqb (t % 4) 1) refl refl h }
+passed t h = record { step = go (eqb t 0) (eqb (t % 4) 1) refl refl (both-left (eqb t 0 || eqb (t % 4) 1) (ltb t 64) h); small = ltb→lt t 64 (both-right (eqb t 0 || eqb (t % 4) 1) (ltb t 64) h) }
   where
     go : (a b : Bool) → eqb t 0 ≡ a → eqb (t % 4) 1 ≡ b → T (a || b) → (t ≡ 0) ⊎ (t % 4 ≡ 1)
     go true b e f h = inl (eqb-true t 0 e)
@@ -174,15 +132,15 @@ module _ (b : Bool) (v : Level) (ls : List Level) where
       go true = omega arith
       go false = omega arith
 
-  front-totalA : totalA (cond b (v ∷ []) [] ++ ls) ≡ cond b (v .bitsA) 0 + totalA ls
+  front-totalA : totalA (cond b (v ∷ []) [] ++ ls) ≡ cond b (v .bitsa) 0 + totalA ls
   unfolding totalA
   front-totalA = go b
     where
-      go : (b : Bool) → totalA (cond b (v ∷ []) [] ++ ls) ≡ cond b (v .bitsA) 0 + totalA ls
+      go : (b : Bool) → totalA (cond b (v ∷ []) [] ++ ls) ≡ cond b (v .bitsa) 0 + totalA ls
       go true = refl
       go false = sym (zero-add (totalA ls))
 
-  front-totalB : v .bitsB ≡ 0 → totalB (cond b (v ∷ []) [] ++ ls) ≡ totalB ls
+  front-totalB : v .bitsb ≡ 0 → totalB (cond b (v ∷ []) [] ++ ls) ≡ totalB ls
   unfolding totalB
   front-totalB e = go b
     where
@@ -225,7 +183,7 @@ module _ {s : Settings} (accepted : Accepted s) where
   B : Protection (s .msc) (s .levelb)
   B = accepted .ranges .partB
 
-  cells : Cells (width (s .msc)) (n1 s) (n2 s) (rates (s .msc) (s .levela))
+  pub cells : Cells (width (s .msc)) (n1 s) (n2 s) (rates (s .msc) (s .levela))
   unfolding n1 cellsA
   cells =
       record {
@@ -234,60 +192,76 @@ module _ {s : Settings} (accepted : Accepted s) where
         room = omega (arith, wide (s .msc) (n2 s), accepted .n2Least);
       }
 
-  first : Level
-  first = vsppLevel (width (s .msc)) (nMux s) (vsppRate (s .vspp))
-
-  rest : List Level
-  rest = protectedLevels (width (s .msc)) (n1 s) (n2 s) (rates (s .msc) (s .levela)) (rates (s .msc) (s .levelb)) (mscSteps (s .msc))
-
   same-count : length (rates (s .msc) (s .levela)) ≡ length (rates (s .msc) (s .levelb))
   same-count = omega (arith, count-levels (s .msc) (s .levela) A, count-levels (s .msc) (s .levelb) B)
 
-  levels-fit : LevelsFit (cond (eqb (s .msc) 1) (nMux s) (2 * nMux s)) (mscLevels s)
-  unfolding mscLevels first rest
+  levels-fit : LevelsFit (cond (eqb (mscConstellation (s .msc)) HMMIX) (nMux s) (2 * nMux s)) (mscLevels s)
+  unfolding mscLevels mscVspp mscProtected
   levels-fit =
       let e : width (s .msc) * n1 s + width (s .msc) * n2 s ≡ width (s .msc) * nMux s = rw (← mul-add, accepted .cells) in
       let F = protected-fit (width (s .msc)) (n1 s) (n2 s) (rates (s .msc) (s .levela)) (rates (s .msc) (s .levelb)) (mscSteps (s .msc)) cells
       (rates-low (s .msc) (s .levela) A) (rates-low (s .msc) (s .levelb) B) (steps (s .msc)) in
-      rw (← both-axes)
-      (front-fit (hierarchical (s .msc)) first rest (width (s .msc) * nMux s)
+      rw (mix-is, ← both-axes)
+      (front-fit (hierarchical (s .msc)) (mscVspp s) (mscProtected s) (width (s .msc) * nMux s)
       (vspp-level (width (s .msc)) (nMux s) (vsppRate (s .vspp)) (vspp-rate-low (s .vspp)) (omega (arith, wide (s .msc) (nMux s), accepted .ranges .muxLeast)))
       (rw e at F))
 
   total-A : totalA (mscLevels s) ≡ lVspp s + l1 s
-  unfolding mscLevels vsppLevel first rest lVspp partVspp l1 partA
+  unfolding mscLevels mscVspp mscProtected vsppLevel lVspp partVspp l1 partA
   total-A =
-      front-totalA (hierarchical (s .msc)) first rest
-      ∙ ap (λ m. cond (hierarchical (s .msc)) (first .bitsA) 0 + m)
+      front-totalA (hierarchical (s .msc)) (mscVspp s) (mscProtected s)
+      ∙ ap (λ m. cond (hierarchical (s .msc)) (mscVspp s .bitsa) 0 + m)
       (protected-totalA (width (s .msc)) (n1 s) (n2 s) (rates (s .msc) (s .levela)) (rates (s .msc) (s .levelb)) (mscSteps (s .msc)))
 
   total-B : totalB (mscLevels s) ≡ l2 s
-  unfolding mscLevels vsppLevel first rest l2 partB
+  unfolding mscLevels mscVspp mscProtected vsppLevel l2 partB
   total-B =
-      front-totalB (hierarchical (s .msc)) first rest refl
+      front-totalB (hierarchical (s .msc)) (mscVspp s) (mscProtected s) refl
       ∙ protected-totalB (width (s .msc)) (n1 s) (n2 s) (rates (s .msc) (s .levela)) (rates (s .msc) (s .levelb)) (mscSteps (s .msc)) same-count
+
+  levels-are : levelsOf (mscBlock s) ≡ mscLevels s
+  unfolding mscBlock
+  levels-are = levels-from _ (mscLevels s) _ _ _
 
   -- a multiplex frame has L_VSPP + L1 + L2 bits
   pub msc-bits : bitCount (mscBlock s) ≡ frameBits s
-  unfolding bitCount mscBlock frameBits
-  msc-bits = rw (total-A, total-B) (omega arith)
+  unfolding bitCount frameBits
+  msc-bits = rw (levels-are, total-A, total-B) (omega arith)
 
-  front-low : lVspp s ≤ bitCount (mscBlock s)
-  unfolding frameBits
-  front-low = rw msc-bits (omega arith)
+-- how many levels a multiplex frame has
+pub length-levels : (s : Settings) → length (mscLevels s) ≡ cond (hierarchical (s .msc)) 1 0 + length (rates (s .msc) (s .levela))
+unfolding mscLevels mscProtected
+length-levels s =
+    front-length (hierarchical (s .msc)) (mscVspp s) (mscProtected s)
+    ∙ ap (λ m. cond (hierarchical (s .msc)) 1 0 + m)
+    (protected-length (width (s .msc)) (n1 s) (n2 s) (rates (s .msc) (s .levela)) (rates (s .msc) (s .levelb)) (mscSteps (s .msc)))
+
+module _ {s : Settings} (accepted : Accepted s) where
+  P : Protection (s .msc) (s .levela)
+  P = accepted .ranges .partA
+
+  -- at most six levels
+  pub few-of : length (mscLevels s) ≤ 6
+  few-of = rw (length-levels s) (few-levels (s .msc) (s .levela) P)
+
+  front-low : mscBlock s .vspp ≤ bitCount (mscBlock s)
+  unfolding frameBits mscBlock
+  front-low = rw (msc-bits accepted) (omega arith)
 
   -- a multiplex frame's levels and constellation allow its bits to be read back
   pub msc-fits : BlockFits (mscBlock s)
-  unfolding mscBlock mscLevels first rest
+  unfolding mscBlock oneAxis pointsOf
   msc-fits =
       record {
         streams = levelCount (mscConstellation (s .msc));
-        levels =
-            front-length (hierarchical (s .msc)) first rest
-            ∙ ap (λ m. cond (hierarchical (s .msc)) 1 0 + m)
-            (protected-length (width (s .msc)) (n1 s) (n2 s) (rates (s .msc) (s .levela)) (rates (s .msc) (s .levelb)) (mscSteps (s .msc)))
-            ∙ count-levels (s .msc) (s .levela) A;
-        fit = levels-fit;
+        levels = ap length (levels-are accepted) ∙ length-levels s ∙ count-levels (s .msc) (s .levela) P;
+        fit = rw (levels-are accepted) (levels-fit accepted);
         labels = constellation-labels (mscConstellation (s .msc));
         front = front-low;
+        few = few-of;
+        room = length-six (mscLevels s);
+        known = constellation-low (s .msc);
+        part = omega (arith, accepted .n1Most);
+        most = accepted .ranges .muxMost;
+        short = rw (msc-bits accepted) (omega (arith, accepted .frameMost, accepted .ranges .muxMost));
       }

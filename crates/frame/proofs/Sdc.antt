@@ -1,72 +1,45 @@
 -- An SDC block can be read back. Assumes nothing.
-use Prim.Native.Nat.{ℕ, zero, suc, _+_, _-_, _*_, _≤_, _<_}
-use mathlib.Core.Path.{_≡_, refl, ap}
+use Prim.Native.Nat.{ℕ, zero, suc, _+_, _*_, _≤_, _<_}
+use mathlib.Core.Path.{_≡_, refl, ap, _∙_}
 use mathlib.Core.Logic.{inl, inr}
+use mathlib.Core.Bool.{cond}
 use mathlib.Core.List.{List, [], _∷_, map}
-use native.Mathlib.Nat.{zero-add}
+use native.Mathlib.Nat.{zero-add, mul-zero, zero-mul, zero-div, zero-mod}
 use native.Mathlib.Omega.{arith}
-use lib.ListN.{length, getD, drop}
-use lib.Seq.{getD-drop}
-use lib.Dec.{lit<}
+use lib.ListN.{length, getD}
+use lib.Dec.{eqb, lit<}
 use Rattle.lists.specs.Lists.{total}
-use Rattle.component.proofs.Codeword.{coded-none}
-use Rattle.component.specs.Patterns.{pattern}
-use Rattle.component.proofs.Patterns.{pattern-sound}
 use Rattle.settings.specs.declared.Settings.{Settings}
 use Rattle.settings.specs.Rates.{sdcRates}
-use Rattle.settings.specs.Formulas.{bitsB, sdcBits}
+use Rattle.settings.specs.Formulas.{bitsA, sdcBits}
 use Rattle.settings.specs.Lengths.{nSdc, lSdc}
 use Rattle.settings.specs.Accepted.{Accepted}
-use Rattle.block.specs.Levels.{totalA, totalB}
-use Rattle.block.specs.Block.{bitCount}
-use Rattle.block.specs.Reading.{sizeA, sizeB}
-use Rattle.block.specs.Fits.{empty, LevelFits, LevelsFit, none, more, BlockFits}
+use Rattle.block.specs.Mapping.{HMMIX}
+use Rattle.block.specs.Block.{levelsOf, pointsOf, oneAxis, bitCount}
+use Rattle.block.specs.Fits.{BlockFits}
 use Rattle.block.proofs.Mapping.{levelCount, constellation-labels}
-use Rattle.frame.specs.Sdc.{sdcLevel, sdcLevels, sdcSteps, sdcBlock}
-use Rattle.frame.proofs.Coded.{sizeB-is, tail-fits, Step, mixes}
+use Rattle.block.proofs.Blocks.{levels-from, length-six}
+use Rattle.frame.specs.Sdc.{sdcLevels, sdcSteps, sdcConstellation, sdcBlock}
+use Rattle.frame.proofs.Coded.{Step}
+use Rattle.frame.proofs.Protected.{protected-fit, protected-length, protected-totalA, protected-totalB}
 
--- a level of n cells
-size-A : (n rate t : ℕ) → sizeA (sdcLevel n rate t) ≡ 0
-unfolding sizeA sdcLevel
-size-A n rate t = coded-none (pattern rate) 0
+-- no cells of part A have no bits
+none-A : (rs : List ℕ) → total (map (bitsA 2 0) rs) ≡ 0
+unfolding total bitsA
+none-A [] = refl
+none-A (rate ∷ rs) = rw (mul-zero, zero-mul, zero-div, none-A rs)
 
-size-B : (n rate t : ℕ) → rate < 13 → 6 ≤ n → sizeB (sdcLevel n rate t) ≡ 2 * n
-unfolding sizeB sdcLevel
-size-B n rate t h l = sizeB-is 2 n rate h (omega arith)
-
-sdc-level : (n rate t : ℕ) → rate < 13 → 6 ≤ n → Step t → LevelFits (2 * n) (sdcLevel n rate t)
-unfolding sdcLevel
-sdc-level n rate t h l S =
-    record {
-      soundA = pattern-sound rate h;
-      soundB = pattern-sound rate h;
-      soundTail = tail-fits 2 n rate h;
-      mixesA = empty (size-A n rate t);
-      mixesB = rw (size-B n rate t h l) (mixes S (inr (omega arith)));
-      size = rw (size-A n rate t, size-B n rate t h l, zero-add);
-    }
-
--- levels by a list of rates
-sdc-levels : (n : ℕ) (rs ts : List ℕ) → 6 ≤ n → ((i : ℕ) → getD rs i 0 < 13) → ((i : ℕ) → Step (getD ts i 0)) → LevelsFit (2 * n) (sdcLevels n rs ts)
-unfolding sdcLevels
-sdc-levels n [] ts l R S = none
-sdc-levels n (rate ∷ rs) ts l R S =
-    more (sdc-level n rate (getD ts 0 0) (R 0) l (S 0)) (sdc-levels n rs (drop 1 ts) l (λ i. R (suc i)) (λ i. rw getD-drop (S (1 + i))))
-
-sdc-totalA : (n : ℕ) (rs ts : List ℕ) → totalA (sdcLevels n rs ts) ≡ 0
-unfolding totalA sdcLevels sdcLevel
-sdc-totalA n [] ts = refl
-sdc-totalA n (rate ∷ rs) ts = rw (zero-add, sdc-totalA n rs (drop 1 ts))
-
-sdc-totalB : (n : ℕ) (rs ts : List ℕ) → totalB (sdcLevels n rs ts) ≡ total (map (bitsB 2 n) rs)
-unfolding totalB total sdcLevels sdcLevel
-sdc-totalB n [] ts = refl
-sdc-totalB n (rate ∷ rs) ts = ap (λ m. bitsB 2 n rate + m) (sdc-totalB n rs (drop 1 ts))
+levels-are : (s : Settings) → levelsOf (sdcBlock s) ≡ sdcLevels s
+unfolding sdcBlock
+levels-are s = levels-from 0 (sdcLevels s) _ _ _
 
 -- as many bits as the formula says
 pub sdc-bits : (s : Settings) → bitCount (sdcBlock s) ≡ lSdc s
-unfolding bitCount sdcBlock lSdc sdcBits
-sdc-bits s = rw (sdc-totalA, sdc-totalB, zero-add)
+unfolding bitCount lSdc sdcBits sdcLevels
+sdc-bits s =
+    let rs = sdcRates (s .sdc) in
+    let ts = sdcSteps (s .sdc) in
+    rw (levels-are s, protected-totalA 2 0 (nSdc s) rs rs ts, none-A rs, protected-totalB 2 0 (nSdc s) rs rs ts refl, zero-add)
 
 -- the rates, steps and constellation of both SDC modes
 rates-low : (sdc : ℕ) → sdc ≤ 1 → (i : ℕ) → getD (sdcRates sdc) i 0 < 13
@@ -80,28 +53,50 @@ rates-low (suc (suc sdc)) h i = absurd (omega arith)
 
 steps : (sdc : ℕ) → sdc ≤ 1 → (i : ℕ) → Step (getD (sdcSteps sdc) i 0)
 unfolding sdcSteps
-steps zero h zero = record { step = inr refl }
-steps zero h (suc zero) = record { step = inr refl }
-steps zero h (suc (suc i)) = record { step = inl refl }
-steps (suc zero) h zero = record { step = inr refl }
-steps (suc zero) h (suc i) = record { step = inl refl }
+steps zero h zero = record { step = inr refl; small = lit< tt }
+steps zero h (suc zero) = record { step = inr refl; small = lit< tt }
+steps zero h (suc (suc i)) = record { step = inl refl; small = lit< tt }
+steps (suc zero) h zero = record { step = inr refl; small = lit< tt }
+steps (suc zero) h (suc i) = record { step = inl refl; small = lit< tt }
 steps (suc (suc sdc)) h i = absurd (omega arith)
 
-count-levels : (n sdc : ℕ) → sdc ≤ 1 → length (sdcLevels n (sdcRates sdc) (sdcSteps sdc)) ≡ levelCount (1 - sdc)
-unfolding sdcLevels sdcRates levelCount
-count-levels n zero h = refl
-count-levels n (suc zero) h = refl
-count-levels n (suc (suc sdc)) h = absurd (omega arith)
+pub length-levels : (s : Settings) → length (sdcLevels s) ≡ length (sdcRates (s .sdc))
+unfolding sdcLevels
+length-levels s = protected-length 2 0 (nSdc s) (sdcRates (s .sdc)) (sdcRates (s .sdc)) (sdcSteps (s .sdc))
+
+-- two levels in 16-QAM, one in 4-QAM
+record Counted (sdc : ℕ) : Type 0 where
+  levels : length (sdcRates sdc) ≡ cond (eqb (sdcConstellation sdc) HMMIX) (2 * levelCount (sdcConstellation sdc)) (levelCount (sdcConstellation sdc))
+  few : length (sdcRates sdc) ≤ 6
+  known : sdcConstellation sdc < 5
+  both : (n : ℕ) → 2 * 0 + 2 * n ≡ cond (eqb (sdcConstellation sdc) HMMIX) n (2 * n)
+
+counted : (sdc : ℕ) → sdc ≤ 1 → Counted sdc
+unfolding sdcRates levelCount sdcConstellation
+counted zero h = record { levels = refl; few = omega arith; known = lit< tt; both = λ n. omega arith }
+counted (suc zero) h = record { levels = refl; few = omega arith; known = lit< tt; both = λ n. omega arith }
+counted (suc (suc sdc)) h = absurd (omega arith)
 
 -- an SDC block's levels and constellation allow its bits to be read back
 pub sdc-fits : {s : Settings} → Accepted s → BlockFits (sdcBlock s)
-unfolding sdcBlock
+unfolding sdcBlock sdcLevels oneAxis pointsOf
 sdc-fits {s} A =
     let h : s .sdc ≤ 1 = A .ranges .sdc in
+    let rs = sdcRates (s .sdc) in
+    let C = counted (s .sdc) h in
+    let F = protected-fit 2 0 (nSdc s) rs rs (sdcSteps (s .sdc))
+    (record { whole = λ i x. zero-mod _; some = inl (mul-zero 2); room = omega (arith, A .ranges .sdcLeast) })
+    (rates-low (s .sdc) h) (rates-low (s .sdc) h) (steps (s .sdc) h) in
     record {
-      streams = levelCount (1 - s .sdc);
-      levels = count-levels (nSdc s) (s .sdc) h;
-      fit = sdc-levels (nSdc s) (sdcRates (s .sdc)) (sdcSteps (s .sdc)) (omega (arith, A .ranges .sdcLeast)) (rates-low (s .sdc) h) (steps (s .sdc) h);
-      labels = constellation-labels (1 - s .sdc);
+      streams = levelCount (sdcConstellation (s .sdc));
+      levels = ap length (levels-are s) ∙ length-levels s ∙ C .levels;
+      fit = rw (levels-are s, ← C .both (nSdc s)) F;
+      labels = constellation-labels (sdcConstellation (s .sdc));
       front = omega arith;
+      few = rw (length-levels s) (C .few);
+      room = length-six (sdcLevels s);
+      known = C .known;
+      part = omega arith;
+      most = omega (arith, A .ranges .sdcMost);
+      short = rw (sdc-bits s) (omega (arith, A .sdcBitsMost));
     }

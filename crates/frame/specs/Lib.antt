@@ -1,5 +1,6 @@
+pub mod Protected
 pub mod Fac
 pub mod Sdc
 pub mod Msc
-pub mod Plans
+pub mod Contracts
 pub mod Cases

@@ -1,5 +1,5 @@
-// FAC blocks, SDC blocks and multiplex frames as blocks, and their tables of levels.
-pub mod plan;
+// FAC blocks, SDC blocks and multiplex frames as blocks.
+pub mod blocks;
 
 ghost use Rattle.frame.specs.Cases.{Cases};
 

@@ -1,4 +1,7 @@
 pub mod Parts
 pub mod OneLevel
-pub mod Planning
+pub mod Partition
+pub mod Totals
 pub mod Summing
+pub mod OneRead
+pub mod LevelsRead

@@ -8,22 +8,22 @@ use lib.ListN.{length, getD, take, drop, length-take, length-drop, List·getD-eq
 use lib.Seq.{sets, sets-eq, length-sets, getD-take, getD-drop, take-at}
 use borrow.Author.Tests.{ne-eqb}
 use Rattle.component.specs.Codeword.{encode, tailBits}
-use Rattle.component.specs.Decoding.{patternAt, codedLength, segment}
-use Rattle.component.specs.Coding.{EncodesWith, Encoded}
+use Rattle.component.specs.declared.code.Pattern.{Pattern}
+use Rattle.component.specs.Decoding.{codedLength, segment}
+use Rattle.component.specs.Coding.{patternOf, Held, Encodes, Encoded}
+use Rattle.block.specs.declared.Level.{Level}
 use Rattle.interleaver.specs.Interleaving.{interleaved}
-use Rattle.interleaver.specs.Deinterleaving.{Cycles, deinterleaved}
-use Rattle.interleaver.specs.Weights.{Adds, Takes}
+use Rattle.interleaver.specs.Deinterleaving.{Cycles}
+use Rattle.interleaver.specs.Weights.{Adds}
 use Rattle.lists.proofs.Counting.{below-or}
 use Rattle.component.proofs.Sets.{sets-append}
 use Rattle.component.proofs.Register.{after-low}
-use Rattle.component.proofs.Patterns.{sound-at}
 use Rattle.component.proofs.Codeword.{length-encode, codeword-two, length-tail, bits-tail}
 use Rattle.lists.proofs.Tables.{Filled}
 use Rattle.interleaver.proofs.Weights.{weighed-le}
 use Rattle.block.specs.Levels.{mixed}
-use Rattle.block.specs.Reading.{unmixed}
 use Rattle.block.specs.Fits.{Mixes, plain, empty, cycle}
-use Rattle.levels.specs.LevelCalls.{codedWithTail, Room, AddsPart, EncodesB, TakesPart}
+use Rattle.levels.specs.LevelCalls.{codedWithTail, Room, AddsPart, EncodesB}
 
 -- the next sum stays below 256
 pub sum-fits : {t w : ℕ} {bits d : List ℕ} {f : ℕ → ℕ} {out : List ℕ} {i : ℕ} → AddsPart t w bits d → Filled 0 f d out i
@@ -31,7 +31,7 @@ pub sum-fits : {t w : ℕ} {bits d : List ℕ} {f : ℕ → ℕ} {out : List ℕ
 sum-fits {t} {w} {bits} {d} {f} {out} {i} R F = omega (arith, weighed-le w (getD bits i 0) (R .input .bit i), R .room .sums i, F .rest i (omega arith))
 
 -- bits that are interleaved and not none have a cycle
-cycles : {t n : ℕ} → Mixes t n → (t ≡ 0 → ⊥) → (n ≡ 0 → ⊥) → Cycles t n
+pub cycles : {t n : ℕ} → Mixes t n → (t ≡ 0 → ⊥) → (n ≡ 0 → ⊥) → Cycles t n
 cycles (plain e) p q = absurd (p e)
 cycles (empty e) p q = absurd (q e)
 cycles (cycle c) p q = c
@@ -52,14 +52,6 @@ adds R p q =
       room = R .room .sums;
     }
 
--- what taking them out requires
-pub takes : {t w : ℕ} {numbers out : List ℕ} → TakesPart t w numbers out → (t ≡ 0 → ⊥) → (length numbers ≡ 0 → ⊥) → Takes t w numbers out
-takes R p q =
-    record {
-      lends = record { fits = record { cycles = cycles (R .mixes) p q; high = R .high; small = R .small }; same = R .same };
-      weighs = R .weighs;
-    }
-
 module _ (t : ℕ) (v : List ℕ) where
   -- a part's bits where t is 0, and where it is not
   pub mixed-plain : t ≡ 0 → mixed t v ≡ v
@@ -69,14 +61,6 @@ module _ (t : ℕ) (v : List ℕ) where
   pub mixed-cycle : (t ≡ 0 → ⊥) → mixed t v ≡ interleaved 0 t v
   unfolding mixed
   mixed-cycle p = rw (ne-eqb t 0 p)
-
-  pub unmixed-plain : t ≡ 0 → unmixed t v ≡ v
-  unfolding unmixed
-  unmixed-plain e = rw e
-
-  pub unmixed-cycle : (t ≡ 0 → ⊥) → unmixed t v ≡ deinterleaved 0 t v
-  unfolding unmixed
-  unmixed-cycle p = rw (ne-eqb t 0 p)
 
 -- there is room in the first numbers, and in those after them
 pub room-take : {t w : ℕ} {d : List ℕ} (n : ℕ) → Room t w d → Room t w (take n d)
@@ -94,22 +78,28 @@ pub front : (x d : List ℕ) (n : ℕ) → length x ≡ n → n ≤ length d →
 front x d n e h = rw (sets-eq x d 0 (omega arith)) (take-at x (drop (0 + length x) d) n e)
 
 -- how many coded bits a pattern gives
-pub length-with : (k r : ℕ) (bits : List ℕ) → k < 25 → length (encode (patternAt k) r 0 bits) ≡ codedLength (patternAt k) 0 (length bits)
-length-with k r bits h = let S = sound-at k h in length-encode S r 0 bits (S .some)
+pub length-by : {p : Pattern} → Held p → (r : ℕ) (bits : List ℕ) → length (encode (patternOf p) r 0 bits) ≡ codedLength (patternOf p) 0 (length bits)
+length-by H r bits = length-encode (H .sound) r 0 bits (H .sound .some)
 
-module _ {pb tail r : ℕ} {bits out : List ℕ} (R : EncodesB pb tail r bits out)
-    {r′ at : ℕ} {out′ : List ℕ} (E : Encoded (patternAt pb) r bits out 0 r′ at out′) where
-  -- the tail can be coded behind part B
-  pub tail-encodes : EncodesWith tail r′ tailBits out′ at
-  tail-encodes =
+module _ {l : Level} {r : ℕ} {bits out : List ℕ} (R : EncodesB l r bits out) where
+  -- part B can be coded
+  pub b-encodes : Held (l .patternb) × Encodes (patternOf (l .patternb)) r bits out 0
+  b-encodes = (R .held, record { sound = R .held .sound; seven = R .seven; input = R .input; room = omega (arith, R .room) })
+
+  module _ {r′ at : ℕ} {out′ : List ℕ} (E : Encoded (patternOf (l .patternb)) r bits out 0 r′ at out′) where
+    -- the tail can be coded behind it
+    pub tail-encodes : Held (l .tail) × Encodes (patternOf (l .tail)) r′ tailBits out′ at
+    tail-encodes = (
+      R .heldTail,
       record {
-        number = R .numberTail;
+        sound = R .heldTail .sound;
         seven = rw (E .state) (after-low (R .seven) (R .input));
         input = bits-tail;
-        room = rw (E .written, length-tail) (omega (arith, R .room, length-with pb r bits (R .number), length-sets out 0 (encode (patternAt pb) r 0 bits)));
-      }
+        room = rw (E .written, length-tail) (omega (arith, R .room, E .place, length-by (R .held) r bits, length-sets out 0 (encode (patternOf (l .patternb)) r 0 bits)));
+      },
+    )
 
-  -- both then stand at the front
-  pub tail-encoded : {r″ at′ : ℕ} {out″ : List ℕ} → Encoded (patternAt tail) r′ tailBits out′ at r″ at′ out″
-      → out″ ≡ sets out 0 (codedWithTail r pb tail bits)
-  tail-encoded F = rw (codeword-two r (segment (patternAt pb) bits) (segment (patternAt tail) tailBits), sets-append, F .written, E .written, E .place, E .state)
+    -- both then stand at the front
+    pub tail-encoded : {r″ at′ : ℕ} {out″ : List ℕ} → Encoded (patternOf (l .tail)) r′ tailBits out′ at r″ at′ out″
+        → out″ ≡ sets out 0 (codedWithTail l r bits)
+    tail-encoded F = rw (codeword-two r (segment (patternOf (l .patternb)) bits) (segment (patternOf (l .tail)) tailBits), sets-append, F .written, E .written, E .place, E .state)

@@ -1,2 +1,3 @@
-pub mod Requirements
+pub mod Partition
 pub mod LevelCalls
+pub mod Reads

@@ -1,3 +1,4 @@
-// Levels of a block: coded into numbers and read from them, one level and a table of levels.
-pub mod level;
-pub mod plan;
+// Levels of a block: coded into numbers and read from them.
+pub mod code;
+pub mod places;
+pub mod read;

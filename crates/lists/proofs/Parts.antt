@@ -55,3 +55,7 @@ pub getD-any : {A : Type 0} (l : List A) (i : ℕ) (y z : A) → i < length l �
 getD-any [] i y z h = absurd (omega arith)
 getD-any (a ∷ l) zero y z h = refl
 getD-any (a ∷ l) (suc i) y z h = getD-any l i y z (omega arith)
+
+-- the front of a buffer that was written whole, and how long the buffer is then
+pub written-front : {A : Type 0} (part buffer : List A) (n : ℕ) → length part ≡ n → take (n - 0) (part ++ drop (n - 0) buffer) ≡ part
+written-front part buffer n e = rw (from-start n) (take-at part (drop n buffer) n e)

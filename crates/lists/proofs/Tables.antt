@@ -6,8 +6,8 @@ use Prim.Native.Nat.{ℕ, zero, suc, _+_, _≤_, _<_}
 use native.Mathlib.Nat.{add-zero, zero-add, add-suc, suc-add, eq-or-lt-of-le, le-of-suc-le-suc}
 use native.Mathlib.Numerals.{add-one}
 use native.Mathlib.Omega.{arith}
-use lib.ListN.{length, getD, set, length-set, replicate}
-use lib.Seq.{ext-getD, getD-set-same, getD-set-other}
+use lib.ListN.{length, getD, set, take, length-set, length-take, replicate}
+use lib.Seq.{ext-getD, getD-set-same, getD-set-other, getD-take}
 use Rattle.lists.specs.Lists.{table, total}
 
 -- a table has as many elements as it says
@@ -105,3 +105,8 @@ module _ {A : Type 0} (z : A) (f : ℕ → A) (d : List A) where
   filled-end out n e w =
       ext-getD z out (table f 0 n) (w .long ∙ e ∙ sym (length-table f 0 n))
       (λ k h. let l : k < n = omega (arith, w .long) in w .done k l ∙ sym (getD-table z f n k l))
+
+-- the first elements of a list are a table
+pub take-table : {A : Type 0} (d : A) (l : List A) (n : ℕ) → n ≤ length l → table (λ i. getD l i d) 0 n ≡ take n l
+take-table d l n h =
+    table-is (λ i. getD l i d) d n (take n l) (rw length-take (omega arith)) (λ i b. sym (getD-take n l i d b))

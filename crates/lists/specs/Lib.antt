@@ -1,3 +1,4 @@
 pub mod Same
 pub mod Lists
 pub mod Bytes
+pub mod Buffers

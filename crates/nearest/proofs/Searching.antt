@@ -1,5 +1,5 @@
 -- The search with its buffers: values four a bit, choices, and the bits found. Assumes nothing.
-use Prim.Native.Nat.{ℕ, _+_, _-_, _*_, _/_, _≤_}
+use Prim.Native.Nat.{ℕ, _+_, _-_, _*_, _/_, _≤_, _<_}
 use mathlib.Core.Path.{_≡_, sym, ap, _∙_}
 use mathlib.Core.List.{List, _++_}
 use native.Mathlib.Omega.{arith}
@@ -7,6 +7,9 @@ use lib.ListN.{length, take, drop, length-append}
 use Rattle.lists.proofs.Parts.{length-start, length-written, front-written}
 use Rattle.component.specs.Decoding.{patternAt}
 use Rattle.component.proofs.Patterns.{sound-at}
+use Rattle.component.specs.declared.code.Pattern.{Pattern}
+use Rattle.component.specs.Coding.{patternOf, patternFrom}
+use Rattle.component.proofs.Patterns.{pattern-from, held, lent}
 use Rattle.nearest.specs.Nearest.{nearest}
 use Rattle.nearest.specs.Coded.{coded}
 use Rattle.nearest.specs.Contracts.{restored, led, Restores, Chooses, Chosen, Follows, Searches, SearchesWith, Found, Long}
@@ -94,3 +97,7 @@ searches-with {k} {l} ep et R =
 pub found-with : (k l : ℕ) {p t flips received out : List ℕ} {count : ℕ} → p ≡ patternAt k → t ≡ patternAt l → Found p t flips received out count
     → Found (patternAt k) (patternAt l) flips received out count
 found-with k l ep et F = rw (ep, et) at F
+
+-- A pattern of the table as the code lends it.
+pub lent-pattern : (p : Pattern) (k : ℕ) → p ≡ patternFrom (patternAt k) → k < 25 → (p .width ≤ length (p .columns)) × (take (p .width - 0) (p .columns) ≡ patternAt k)
+lent-pattern p k e h = (rw e (held (sound-at k h) .there), lent p ∙ ap patternOf e ∙ pattern-from (patternAt k))

@@ -17,6 +17,9 @@ use Rattle.block.specs.Block.{streamsOf}
 use Rattle.block.proofs.Dispersal.{length-dispersed}
 use Rattle.frame.specs.Fac.{facLevel, facBlock}
 use Rattle.nearest.specs.Nearest.{disagreement, better, cheapest, nearest}
+use Rattle.component.specs.Patterns.{columns, table65, pattern}
+use Rattle.component.specs.Coding.{padded, patternOf, patternFrom}
+use Rattle.block.specs.Block.{levelsOf, six}
 use Rattle.nearest.specs.Coded.{added, coded, facFlips, facCoded, facSent}
 use Rattle.nearest.specs.Fac.{facNearest}
 use Rattle.nearest.proofs.Cheapest.{cheapest-same}
@@ -30,7 +33,7 @@ dispersed-added k (b ∷ bits) = ap (λ l. ((b + p k) % 2) ∷ l) (dispersed-add
 
 -- the FAC's one level has no part A
 pub fac-mapped : (bits : List ℕ) → length bits ≡ 72 → streamsOf facBlock (dispersedParts 0 bits) ≡ facSent bits ∷ []
-unfolding streamsOf streams stream codedA codedB mixed totalA totalB dispersedParts dispersed facBlock facLevel facSent facCoded coded facFlips facBits facRate codeword encode after
+unfolding streamsOf streams stream codedA codedB mixed totalA totalB dispersedParts dispersed facBlock facLevel facSent facCoded coded facFlips facBits facRate codeword encode after levelsOf six patternOf patternFrom padded pattern table65 columns
 fac-mapped bits e =
     let d : take 72 (dispersed 0 bits) ≡ added (table p 0 72) bits =
     take-all 72 (dispersed 0 bits) (rw (length-dispersed, e) (omega arith)) ∙ dispersed-added 0 bits ∙ ap (λ n. added (table p 0 n) bits) e in

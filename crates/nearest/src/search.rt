@@ -1,9 +1,8 @@
 // The search: the least disagreement from the end for each register, with a choice for each, and then forward by the choices. 02, S-9.
 use crate::values::restore;
-use component::code::columns;
 use component::code::next;
 use component::code::parity;
-use component::code::row;
+use component::code::pattern_at;
 ghost use mathlib.Core.Path.{_≡_};
 ghost use Prim.Native.Nat.{_+_, _/_, _^_, _%_, _≤_, _<_, min};
 ghost use mathlib.Core.List.{[]};
@@ -224,9 +223,11 @@ pub fn search_with(k: usize, l: usize, flips: &[u8], received: &[u8], out: &mut 
     requires { ⌜ SearchesWith k l (now flips) (now out) ⌝ }
     ensures { λ r. ⌜ Found (patternAt k) (patternAt l) (now (flips .entry)) (now (received .entry)) (now (out .exit)) r ⌝ }
 {
-    let pattern = row(k);
-    let n = columns(k);
-    let tail = row(l);
-    let m = columns(l);
+    let first = pattern_at(k);
+    let pattern = first.columns;
+    let n = first.width;
+    let second = pattern_at(l);
+    let tail = second.columns;
+    let m = second.width;
     search(&pattern[0..n], &tail[0..m], flips, received, out)
 }

@@ -2,7 +2,7 @@
 use mathlib.Core.Path.{_≡_, refl, sym, ap, ap₂, _∙_}
 use mathlib.Core.Bool.{Bool, true, false, cond, not, _&&_}
 use mathlib.Core.List.{List, [], _∷_}
-use Prim.Native.Nat.{ℕ, suc, _+_, _-_, _*_, _≤_, _<_, _^_, min}
+use Prim.Native.Nat.{ℕ, zero, suc, _+_, _-_, _*_, _≤_, _<_, _^_, min}
 use native.Mathlib.Nat.{sub-zero, zero-add}
 use native.Mathlib.Numerals.{add-one}
 use native.Mathlib.Omega.{arith}
@@ -20,9 +20,10 @@ use Rattle.settings.specs.Sizes.{depth}
 use Rattle.lists.specs.Same.{sameNumber, sameNumbers}
 use Rattle.block.specs.Points.{every, arePoints}
 use Rattle.block.specs.Mapping.{constellation}
+use Rattle.block.specs.Block.{pointsOf}
 use Rattle.lists.proofs.Same.{sameNumber-refl, sameNumber-true}
 use Rattle.frame.specs.Fac.{facBlock}
-use Rattle.frame.specs.Sdc.{sdcBlock}
+use Rattle.frame.specs.Sdc.{sdcConstellation, sdcBlock}
 use Rattle.superframe.specs.Memory.{slotSize}
 use Rattle.superframe.specs.Interleaving.{fillers}
 use Rattle.superframe.specs.Call.{part, parts}
@@ -138,15 +139,22 @@ unfolding countAt slotSize
 row-test-is s D n top seen count i msc b e f g h k =
     k ∙ rw (part-is (2 * n) i msc, h, g, e, f) (all-wanted s (min (count + i) (depth s - 1)) (part (2 * nMux s) msc i))
 
+-- The constellation of an SDC block by its number.
+sdc-points : (sdc : ℕ) → 1 - sdc ≡ sdcConstellation sdc
+unfolding sdcConstellation
+sdc-points zero = refl
+sdc-points (suc zero) = refl
+sdc-points (suc (suc sdc)) = omega arith
+
 -- The test of a block, case by case.
 module _ (s : Settings) (count : ℕ) (fac sdc msc : List ℤ) (i : ℕ) (b : Bool) where
   pub test-fac : i < 3 → b ≡ arePoints (constellation 0) (take (130 * i + 130 - 130 * i) (drop (130 * i) fac)) → b ≡ pointTest s count fac sdc msc i
-  unfolding pointTest facBlock
+  unfolding pointTest facBlock pointsOf
   test-fac h e = e ∙ rw (lt-ltb i 3 h, part-is 130 i fac)
 
   pub test-sdc : i ≡ 3 → b ≡ arePoints (constellation (1 - s .sdc)) sdc → b ≡ pointTest s count fac sdc msc i
-  unfolding pointTest sdcBlock
-  test-sdc h e = e ∙ rw h
+  unfolding pointTest sdcBlock pointsOf
+  test-sdc h e = e ∙ rw (h, sdc-points (s .sdc))
 
   pub test-row : 3 ≤ i → (i ≡ 3 → ⊥) → i < 7 → b ≡ rowPoints s (countAt s count (i - 4)) (part (slotSize s) msc (i - 4)) → b ≡ pointTest s count fac sdc msc i
   unfolding pointTest

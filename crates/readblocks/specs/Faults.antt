@@ -12,6 +12,7 @@ use Rattle.settings.specs.Lengths.{nSdc, nSfa}
 use Rattle.settings.specs.Sizes.{depth}
 use Rattle.block.specs.Points.{arePoints}
 use Rattle.lists.specs.Same.{sameNumbers}
+use Rattle.block.specs.Block.{pointsOf}
 use Rattle.frame.specs.Fac.{facBlock}
 use Rattle.frame.specs.Sdc.{sdcBlock}
 use Rattle.superframe.specs.Memory.{slotSize}
@@ -22,8 +23,8 @@ use Rattle.superframe.specs.Read.{rowPoints, countAt, fillersOf}
 -- The test of block i: 0 to 2 FAC, 3 SDC, 4 to 6 the sent rows, 7 the fillers.
 unfoldable pub pointTest : Settings → ℕ → List ℤ → List ℤ → List ℤ → ℕ → Bool
 pointTest s count fac sdc msc i =
-    cond (ltb i 3) (arePoints (facBlock .points) (part 130 fac i))
-    (cond (eqb i 3) (arePoints (sdcBlock s .points) sdc)
+    cond (ltb i 3) (arePoints (pointsOf facBlock) (part 130 fac i))
+    (cond (eqb i 3) (arePoints (pointsOf (sdcBlock s)) sdc)
     (cond (ltb i 7) (rowPoints s (countAt s count (i - 4)) (part (slotSize s) msc (i - 4))) (sameNumbers (fillersOf s msc) (fillers s))))
 
 -- The cells of a super frame, and a count in order.

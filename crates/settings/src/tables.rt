@@ -103,6 +103,10 @@ pub const R3_5: usize = 6;
 pub const R2_3: usize = 7;
 
 // An FAC block: 72 bits and 65 cells.
+pub const FAC_BITS: usize = 72;
+
+pub const FAC_CELLS: usize = 65;
+
 pub const FAC_BYTES: usize = 9;
 
 pub const FAC_NUMBERS: usize = 130;

@@ -10,10 +10,11 @@ use Rattle.settings.specs.Sizes.{frameBytes, sdcBytes}
 use Rattle.settings.specs.Accepted.{Accepted}
 use Rattle.settings.proofs.Bounds.{accepted-of}
 use Rattle.block.specs.Packing.{packed}
-use Rattle.block.specs.Block.{Block, bitCount, cellsFrom}
+use Rattle.block.specs.declared.Block.{Block}
+use Rattle.block.specs.Block.{bitCount, cellsFrom}
 use Rattle.block.specs.Reading.{bytesRead}
 use Rattle.block.specs.Fits.{BlockFits}
-use Rattle.block.proofs.Block.{candidate-cells, points-cells, bytes-block, unpacked-block}
+use Rattle.block.proofs.Blocks.{candidate-cells, points-cells, bytes-block, unpacked-block}
 use Rattle.block.proofs.Reader.{reads-bytes}
 use Rattle.frame.specs.Fac.{facBlock}
 use Rattle.frame.specs.Sdc.{sdcBlock}

@@ -16,7 +16,8 @@ use Rattle.lists.proofs.Tables.{length-table, table-at, table-ext, table-from, 
 use Rattle.settings.specs.declared.Settings.{Settings}
 use Rattle.settings.specs.Refusal.{first, refusal}
 use Rattle.settings.specs.Sizes.{frameBytes}
-use Rattle.block.specs.Block.{Block, cellsOf, cellsFrom}
+use Rattle.block.specs.declared.Block.{Block}
+use Rattle.block.specs.Block.{cellsOf, cellsFrom}
 use Rattle.block.specs.Points.{every}
 use Rattle.frame.specs.Fac.{facBlock}
 use Rattle.frame.specs.Sdc.{sdcBlock}
@@ -29,7 +30,7 @@ use Rattle.superframe.specs.Facts.{Fits, Ordered}
 use Rattle.superframe.specs.Runs.{Bits, noBits, bitsOf, codes, brought, sent, refusals}
 use Rattle.superframe.specs.Standard.{standardRow, superFrame}
 use Rattle.superframe.specs.Demand3.{runNumber}
-use Rattle.block.proofs.Block.{bits-block}
+use Rattle.block.proofs.Blocks.{bits-block}
 use Rattle.superframe.proofs.Lists.{both}
 use Rattle.block.specs.Fits.{BlockBits}
 use Rattle.superframe.proofs.Coding.{AllBits, none, more, all-at, all-append, Coding}

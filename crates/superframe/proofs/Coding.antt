@@ -13,7 +13,8 @@ use Rattle.settings.specs.Cells.{facCells}
 use Rattle.settings.specs.Lengths.{nMux, nSfa, nSdc, lSdc}
 use Rattle.settings.specs.Sizes.{depth, frameBits, frameBytes, sdcBytes}
 use Rattle.block.specs.Mapping.{Constellation, axis}
-use Rattle.block.specs.Block.{Block, bitCount, cellsOf}
+use Rattle.block.specs.declared.Block.{Block}
+use Rattle.block.specs.Block.{bitCount, cellsOf, pointsOf}
 use Rattle.block.specs.Points.{onAxis, isPoint, arePoints}
 use Rattle.block.specs.Reading.{given, bytesRead}
 use Rattle.frame.specs.Fac.{facBlock}
@@ -23,7 +24,7 @@ use Rattle.superframe.specs.Memory.{slotSize}
 use Rattle.superframe.specs.Runs.{bitsOf}
 use Rattle.block.specs.Fits.{BlockBits}
 use Rattle.block.specs.Reads.{ReadsBytes}
-use Rattle.block.proofs.Block.{length-cells}
+use Rattle.block.proofs.Blocks.{length-cells}
 use Rattle.lists.proofs.Tables.{table-at}
 use Rattle.superframe.proofs.Lists.{both, every-at}
 
@@ -43,7 +44,7 @@ all-append (more b a) c = more b (all-append a c)
 
 -- Reading undoes coding: the cells of a block's bits are points, are given by bits, and give those bits again; what is read are so many bytes.
 pub record Recovers (k : Block) (bytes : ℕ) : Type 0 where
-  pub points : (x : List ℕ) → BlockBits k x → arePoints (k .points) (cellsOf k x) ≡ true
+  pub points : (x : List ℕ) → BlockBits k x → arePoints (pointsOf k) (cellsOf k x) ≡ true
   pub gives : (x : List ℕ) → BlockBits k x → given k (cellsOf k x) ≡ true
   pub back : (x : List ℕ) → BlockBits k x → bitsOf k (bytesRead k (cellsOf k x)) ≡ x
   pub reads : ReadsBytes k

@@ -13,14 +13,15 @@ use lib.IntN.{ℤ}
 use lib.Dec.{eqb, ltb}
 use borrow.Author.Tests.{eqb-true, ltb-true}
 use Rattle.lists.specs.Lists.{table}
-use Rattle.lists.proofs.Tables.{length-table, map-table}
+use Rattle.lists.proofs.Tables.{length-table, map-table, take-table}
 use Rattle.settings.specs.declared.Settings.{Settings}
 use Rattle.settings.specs.Refusal.{refusal}
 use Rattle.settings.specs.Cells.{facCells}
 use Rattle.settings.specs.Lengths.{nMux, nSdc, nSfa, lSdc}
 use Rattle.settings.specs.Sizes.{depth, frameBits, frameBytes}
 use Rattle.block.specs.Packing.{spareZero}
-use Rattle.block.specs.Block.{Block, bitCount, cellsFrom}
+use Rattle.block.specs.declared.Block.{Block}
+use Rattle.block.specs.Block.{bitCount, cellsFrom}
 use Rattle.block.specs.Points.{every}
 use Rattle.block.specs.Reading.{given, bytesRead}
 use Rattle.frame.specs.Fac.{facBlock}
@@ -37,7 +38,7 @@ use Rattle.superframe.specs.Read.{ReadCall, rowsOf, fillersOf, pointTest
 use Rattle.superframe.specs.Facts.{ReadFits}
 use Rattle.superframe.specs.Demand2.{NoPoint, Lowest, Thirteen, finishedOf, HandsOut, Sends, RefusedBy, FinishedWith, countBefore, Demand2}
 use Rattle.superframe.proofs.Coding.{Recovers, Coding, fac-long, sdc-long}
-use Rattle.superframe.proofs.Lists.{every-at, take-table, part-joined, after-joined, length-joined, three-part, three-length}
+use Rattle.superframe.proofs.Lists.{every-at, part-joined, after-joined, length-joined, three-part, three-length}
 use Rattle.superframe.proofs.ReadCalls.{fillers-long}
 use Rattle.superframe.proofs.Calls.{code-accepts, code-fits, read-fits, answer-order, read-accepts}
 use Rattle.lists.proofs.Bools.{never-both}

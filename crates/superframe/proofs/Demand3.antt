@@ -9,6 +9,7 @@ use native.Mathlib.Decide.{ℕ-discrete}
 use native.Mathlib.Omega.{arith}
 use lib.ListN.{length, getD, take, drop, replicate, take-append-drop, length-drop, length-replicate}
 use lib.Seq.{take-all, take-take, take-add}
+use Rattle.lists.proofs.Tables.{take-table}
 use Rattle.lists.specs.Lists.{table}
 use Rattle.settings.specs.declared.Settings.{Settings}
 use Rattle.settings.specs.Refusal.{refusal}
@@ -23,7 +24,6 @@ use Rattle.superframe.specs.Read.{ReadCall}
 use Rattle.superframe.specs.Runs.{Begun, stateAt, memoryAt, Bits, brought, sent, refusals, Closed, readCount, handed, Fed, Accepts, Run, bits, cells}
 use Rattle.superframe.specs.Standard.{superFrame, standard}
 use Rattle.superframe.specs.Demand3.{standardCells, firstBits, allBits, runNumber, Demand3}
-use Rattle.superframe.proofs.Lists.{take-table}
 use Rattle.superframe.proofs.Coding.{Coding, depth-low, depth-high}
 use Rattle.superframe.proofs.History.{Keeps, keeps-start}
 use Rattle.superframe.proofs.Coder.{storedAge}

@@ -19,13 +19,14 @@ use Rattle.settings.specs.Cells.{facCells}
 use Rattle.settings.specs.Lengths.{nMux, nSdc}
 use Rattle.settings.specs.Sizes.{depth}
 use Rattle.block.specs.Mapping.{Constellation, axis}
-use Rattle.block.specs.Block.{Block, cellsOf, cellsFrom}
+use Rattle.block.specs.declared.Block.{Block}
+use Rattle.block.specs.Block.{cellsOf, cellsFrom, pointsOf}
 use Rattle.block.specs.Points.{onAxis, isPoint, arePoints, every}
 use Rattle.lists.specs.Same.{sameNumbers}
 use Rattle.block.specs.Reading.{given, bytesRead}
 use Rattle.block.specs.Fits.{BlockBits}
 use Rattle.block.specs.Reads.{NoBits}
-use Rattle.block.proofs.Block.{bits-block}
+use Rattle.block.proofs.Blocks.{bits-block}
 use Rattle.lists.proofs.Same.{sameNumbers-refl, sameNumbers-true}
 use Rattle.frame.specs.Fac.{facBlock}
 use Rattle.frame.specs.Sdc.{sdcBlock}
@@ -94,7 +95,7 @@ or-false false b h = (refl, h)
 
 -- A row fails by a cell that is not ignored and is no point.
 rows-fail : (s : Settings) (count : ℕ) (row : List ℤ) → rowPoints s count row ≡ false
-    → (j : ℕ) × (j < nMux s) × (delay (depth s) (2 * j) ≤ count) × (cellIsPoint (mscBlock s .points) row j ≡ false)
+    → (j : ℕ) × (j < nMux s) × (delay (depth s) (2 * j) ≤ count) × (cellIsPoint (pointsOf (mscBlock s)) row j ≡ false)
 unfolding rowPoints rowCell cellIsPoint
 rows-fail s count row h =
     let r = fails-at (rowCell s count row) 0 (nMux s) h in
@@ -102,7 +103,7 @@ rows-fail s count row h =
     let o = or-false (not (leb (delay (depth s) (2 * r .0)) count)) _ (r .3) in
     (r .0, omega arith, leb-true _ _ (not-false _ (o .0)), o .1)
 
-fail-rows : (s : Settings) (count : ℕ) (row : List ℤ) (j : ℕ) → j < nMux s → delay (depth s) (2 * j) ≤ count → cellIsPoint (mscBlock s .points) row j ≡ false → rowPoints s count row ≡ false
+fail-rows : (s : Settings) (count : ℕ) (row : List ℤ) (j : ℕ) → j < nMux s → delay (depth s) (2 * j) ≤ count → cellIsPoint (pointsOf (mscBlock s)) row j ≡ false → rowPoints s count row ≡ false
 unfolding rowPoints rowCell cellIsPoint
 fail-rows s count row j h d f = go (holds-or (rowPoints s count row))
   where
@@ -117,14 +118,14 @@ fail-rows s count row j h d f = go (holds-or (rowPoints s count row))
 
 -- 13 by block.
 module _ (s : Settings) (count : ℕ) (c : ReadCall) (fits : CellsFit s (c .faccells) (c .sdccells) (c .msccells)) where
-  test-fac : (b : ℕ) → b < 3 → getD (pointTests s count c) b true ≡ arePoints (facBlock .points) (part (2 * facCells) (c .faccells) b)
+  test-fac : (b : ℕ) → b < 3 → getD (pointTests s count c) b true ≡ arePoints (pointsOf facBlock) (part (2 * facCells) (c .faccells) b)
   unfolding pointTests parts table
   test-fac zero h = refl
   test-fac (suc zero) h = refl
   test-fac (suc (suc zero)) h = refl
   test-fac (suc (suc (suc b))) h = absurd (omega arith)
 
-  test-sdc : getD (pointTests s count c) 3 true ≡ arePoints (sdcBlock s .points) (c .sdccells)
+  test-sdc : getD (pointTests s count c) 3 true ≡ arePoints (pointsOf (sdcBlock s)) (c .sdccells)
   unfolding pointTests parts table
   test-sdc = refl
 
@@ -151,11 +152,11 @@ module _ (s : Settings) (count : ℕ) (c : ReadCall) (fits : CellsFit s (c .facc
     where
       go : (b < 3) ⊎ (3 ≤ b) → (b < 4) ⊎ (4 ≤ b) → (b < 7) ⊎ (7 ≤ b) → (b < 8) ⊎ (8 ≤ b) → NoPoint s count c b
       go (inl x) y z w =
-          let r = cells-fail (facBlock .points) (part (2 * facCells) (c .faccells) b) facCells (fac-room b x) (sym (test-fac b x) ∙ h) in
+          let r = cells-fail (pointsOf facBlock) (part (2 * facCells) (c .faccells) b) facCells (fac-room b x) (sym (test-fac b x) ∙ h) in
           inFac (r .0) x (r .1) (r .2)
       go (inr x) (inl y) z w =
           let e : b ≡ 3 = omega arith in
-          let r = cells-fail (sdcBlock s .points) (c .sdccells) (nSdc s) (fits .sdclong) (sym test-sdc ∙ rw e at h) in
+          let r = cells-fail (pointsOf (sdcBlock s)) (c .sdccells) (nSdc s) (fits .sdclong) (sym test-sdc ∙ rw e at h) in
           inSdc (r .0) e (r .1) (r .2)
       go (inr x) (inr y) (inl z) w =
           let i = b - 4 in
@@ -170,8 +171,8 @@ module _ (s : Settings) (count : ℕ) (c : ReadCall) (fits : CellsFit s (c .facc
       go (inr x) (inr y) (inr z) (inr w) = absurd (never-both _ (test-out b w) h)
 
   point-fails : (b : ℕ) → NoPoint s count c b → getD (pointTests s count c) b true ≡ false
-  point-fails b (inFac j l h f) = test-fac b l ∙ fail-cells (facBlock .points) (part (2 * facCells) (c .faccells) b) facCells (fac-room b l) j h f
-  point-fails b (inSdc j e h f) = rw e (test-sdc ∙ fail-cells (sdcBlock s .points) (c .sdccells) (nSdc s) (fits .sdclong) j h f)
+  point-fails b (inFac j l h f) = test-fac b l ∙ fail-cells (pointsOf facBlock) (part (2 * facCells) (c .faccells) b) facCells (fac-room b l) j h f
+  point-fails b (inSdc j e h f) = rw e (test-sdc ∙ fail-cells (pointsOf (sdcBlock s)) (c .sdccells) (nSdc s) (fits .sdclong) j h f)
   point-fails b (inRow i j e l h d f) = rw e (test-row i l ∙ fail-rows s (countAt s count i) (part (slotSize s) (c .msccells) i) j h d f)
   point-fails b (inFillers e f) = rw e (test-filler ∙ go (holds-or (sameNumbers (fillersOf s (c .msccells)) (fillers s))))
     where

@@ -14,7 +14,7 @@ use Rattle.lists.proofs.Counting.{below-or}
 use Rattle.settings.specs.declared.Settings.{Settings}
 use Rattle.settings.specs.Lengths.{nMux}
 use Rattle.settings.specs.Sizes.{depth}
-use Rattle.block.specs.Block.{cellsOf}
+use Rattle.block.specs.Block.{cellsOf, pointsOf}
 use Rattle.block.specs.Points.{isPoint, every}
 use Rattle.lists.specs.Same.{sameNumber}
 use Rattle.frame.specs.Msc.{mscBlock}
@@ -135,7 +135,7 @@ keeps-start s c F a =
 
 -- A frame that memory may hold: each of its cells is (0, 0) or an MSC point.
 unfoldable pub goodCell : Settings → ℤ → ℤ → Bool
-goodCell s re im = isStart re im || isPoint (mscBlock s .points) re im
+goodCell s re im = isStart re im || isPoint (pointsOf (mscBlock s)) re im
 
 pub record Good (s : Settings) (l : List ℤ) : Type 0 where
   pub cell : (j : ℕ) → j < nMux s → goodCell s (getD l (2 * j) (pos 0)) (getD l (2 * j + 1) (pos 0)) ≡ true
@@ -154,14 +154,14 @@ or-right : (a b : Bool) → b ≡ true → (a || b) ≡ true
 or-right true b h = refl
 or-right false b h = h
 
-pub good-point : (s : Settings) (re im : ℤ) → isPoint (mscBlock s .points) re im ≡ true → goodCell s re im ≡ true
+pub good-point : (s : Settings) (re im : ℤ) → isPoint (pointsOf (mscBlock s)) re im ≡ true → goodCell s re im ≡ true
 unfolding goodCell
-good-point s re im h = or-right (isStart re im) (isPoint (mscBlock s .points) re im) h
+good-point s re im h = or-right (isStart re im) (isPoint (pointsOf (mscBlock s)) re im) h
 
 pub bits-good : (s : Settings) (c : Coding s) (x : List ℕ) → BlockBits (mscBlock s) x → Good s (cellsOf (mscBlock s) x)
 bits-good s c x b =
     record {
-      cell = λ j h. good-point s _ _ (point-at (mscBlock s .points) (cellsOf (mscBlock s) x) (c .msc .points x b) j (rw (msc-long s x) (twice s j h)));
+      cell = λ j h. good-point s _ _ (point-at (pointsOf (mscBlock s)) (cellsOf (mscBlock s) x) (c .msc .points x b) j (rw (msc-long s x) (twice s j h)));
     }
 
 module _ (s : Settings) (c : Coding s) (F : List (List ℕ)) where

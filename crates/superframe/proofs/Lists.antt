@@ -5,18 +5,13 @@ use mathlib.Core.Bool.{Bool, true, false, _&&_}
 use mathlib.Core.List.{List, [], _∷_, _++_, append-assoc, append-nil}
 use native.Mathlib.Nat.{add-zero, zero-add, add-suc, suc-add, mul-zero, mul-suc, zero-mul}
 use native.Mathlib.Omega.{arith}
-use lib.ListN.{length, getD, take, drop, length-append, length-take}
-use lib.Seq.{getD-take, take-at, drop-append-add}
+use lib.ListN.{length, getD, take, drop, length-append}
+use lib.Seq.{take-at, drop-append-add}
 use Rattle.lists.proofs.Bools.{and-left, and-right}
 use Rattle.lists.specs.Lists.{table}
 use Rattle.block.specs.Points.{every}
-use Rattle.lists.proofs.Tables.{table-is, table-ext, table-from}
+use Rattle.lists.proofs.Tables.{table-ext, table-from}
 use Rattle.superframe.specs.Call.{part, parts, joined}
-
--- The first of a list's elements.
-pub take-table : {A : Type 0} (d : A) (l : List A) (n : ℕ) → n ≤ length l → table (λ i. getD l i d) 0 n ≡ take n l
-take-table d l n h =
-    table-is (λ i. getD l i d) d n (take n l) (rw length-take (omega arith)) (λ i b. sym (getD-take n l i d b))
 
 -- The first values of a table.
 pub take-of-table : {A : Type 0} (f : ℕ → A) (k n m : ℕ) → m ≤ n → take m (table f k n) ≡ table f k m

@@ -18,7 +18,8 @@ use Rattle.settings.specs.Refusal.{refusal}
 use Rattle.settings.specs.Cells.{facCells}
 use Rattle.settings.specs.Lengths.{nMux, nSfa}
 use Rattle.settings.specs.Sizes.{depth, frameBytes}
-use Rattle.block.specs.Block.{Block, cellsOf}
+use Rattle.block.specs.declared.Block.{Block}
+use Rattle.block.specs.Block.{cellsOf, pointsOf}
 use Rattle.lists.specs.Same.{sameNumbers}
 use Rattle.block.specs.Points.{isPoint, arePoints, every}
 use Rattle.block.specs.Reading.{given, bytesRead}
@@ -54,10 +55,10 @@ fillers-long s c = rw length-take (omega (arith, c .few))
 
 -- The cells of a row that are not ignored are points.
 module _ (s : Settings) (c : Coding s) (F : List (List ℕ)) (f : ℕ) (ok : (i : ℕ) → i ≤ f → BlockBits (mscBlock s) (getD F i [])) where
-  frame-point : (i j : ℕ) → i ≤ f → j < nMux s → isPoint (mscBlock s .points) (getD (frameAt s F i) (2 * j) (pos 0)) (getD (frameAt s F i) (2 * j + 1) (pos 0)) ≡ true
+  frame-point : (i j : ℕ) → i ≤ f → j < nMux s → isPoint (pointsOf (mscBlock s)) (getD (frameAt s F i) (2 * j) (pos 0)) (getD (frameAt s F i) (2 * j + 1) (pos 0)) ≡ true
   unfolding frameAt
   frame-point i j h b =
-      point-at (mscBlock s .points) (cellsOf (mscBlock s) (getD F i [])) (c .msc .points _ (ok i h)) j (rw (msc-long s (getD F i [])) (twice s j b))
+      point-at (pointsOf (mscBlock s)) (cellsOf (mscBlock s) (getD F i [])) (c .msc .points _ (ok i h)) j (rw (msc-long s (getD F i [])) (twice s j b))
 
   row-cell : (count i : ℕ) → count ≤ f → i < nMux s → rowCell s count (standardRow s F f) i ≡ true
   unfolding rowCell
@@ -176,12 +177,12 @@ module _ (s : Settings) (c : Coding s) (B : Bits) (w : Whole s B) (m : ℕ) (low
       sum n a h = omega arith
 
   -- None of its cells that a reader at a count does not ignore, and none of its fillers, falls under 13.
-  fac-points : every (map (arePoints (facBlock .points)) (parts (2 * facCells) (superFrame s B m .fac))) ≡ true
+  fac-points : every (map (arePoints (pointsOf facBlock)) (parts (2 * facCells) (superFrame s B m .fac))) ≡ true
   fac-points =
-      rw (fac-parts, map-table (arePoints (facBlock .points)) (λ i. cellsOf facBlock (getD (B .fac) (3 * m + i) [])) 0 3)
+      rw (fac-parts, map-table (arePoints (pointsOf facBlock)) (λ i. cellsOf facBlock (getD (B .fac) (3 * m + i) [])) 0 3)
       (every-table _ 0 3 (λ i x y. c .fac .points _ (fac-at i (omega arith))))
 
-  sdc-points : arePoints (sdcBlock s .points) (superFrame s B m .sdc) ≡ true
+  sdc-points : arePoints (pointsOf (sdcBlock s)) (superFrame s B m .sdc) ≡ true
   sdc-points = rw sdc-part (c .sdc .points _ sdc-at)
 
   rows-points : (count : ℕ) → count ≤ 3 * m → every (table (λ i. rowPoints s (countAt s count i) (part (slotSize s) (superFrame s B m .msc) i)) 0 3) ≡ true

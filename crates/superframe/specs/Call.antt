@@ -11,6 +11,7 @@ use Rattle.settings.specs.Lengths.{nMux}
 use Rattle.settings.specs.Sizes.{depth}
 use Rattle.lists.specs.Same.{sameNumber}
 use Rattle.block.specs.Points.{isPoint, every}
+use Rattle.block.specs.Block.{pointsOf}
 use Rattle.frame.specs.Msc.{mscBlock}
 use Rattle.superframe.specs.declared.State.{State}
 use Rattle.superframe.specs.Memory.{slotSize}
@@ -40,7 +41,7 @@ isStart re im = sameNumber (pos 0) re && sameNumber (pos 0) im
 unfoldable pub memoryCell : Settings → List ℤ → ℕ → Bool
 memoryCell s memory i =
     isStart (getD memory (2 * i) (pos 0)) (getD memory (2 * i + 1) (pos 0))
-    || isPoint (mscBlock s .points) (getD memory (2 * i) (pos 0)) (getD memory (2 * i + 1) (pos 0))
+    || isPoint (pointsOf (mscBlock s)) (getD memory (2 * i) (pos 0)) (getD memory (2 * i + 1) (pos 0))
 
 unfoldable pub inOrder : State → List ℤ → Bool
 inOrder state memory =

@@ -13,7 +13,7 @@ use Rattle.settings.specs.Lengths.{nMux, nSdc, lSdc}
 use Rattle.settings.specs.Sizes.{depth, frameBits, frameBytes}
 use Rattle.block.specs.Packing.{spareZero}
 use Rattle.block.specs.Mapping.{Constellation}
-use Rattle.block.specs.Block.{cellsFrom}
+use Rattle.block.specs.Block.{cellsFrom, pointsOf}
 use Rattle.block.specs.Points.{isPoint}
 use Rattle.block.specs.Reads.{NoBits, ReadsBytes}
 use Rattle.frame.specs.Fac.{facBlock}
@@ -35,10 +35,10 @@ cellIsPoint k cells j = isPoint k (getD cells (2 * j) (pos 0)) (getD cells (2 * 
 
 -- 13 of block b: a cell not ignored is no point of its constellation, or a filler is wrong. 0 to 2 FAC, 3 SDC, 4 to 6 the sent rows, 7 the fillers.
 pub data NoPoint (s : Settings) (count : ℕ) (c : ReadCall) (b : ℕ) : Type 0 where
-  inFac : (j : ℕ) → b < 3 → j < facCells → cellIsPoint (facBlock .points) (part (2 * facCells) (c .faccells) b) j ≡ false → NoPoint s count c b
-  inSdc : (j : ℕ) → b ≡ 3 → j < nSdc s → cellIsPoint (sdcBlock s .points) (c .sdccells) j ≡ false → NoPoint s count c b
+  inFac : (j : ℕ) → b < 3 → j < facCells → cellIsPoint (pointsOf facBlock) (part (2 * facCells) (c .faccells) b) j ≡ false → NoPoint s count c b
+  inSdc : (j : ℕ) → b ≡ 3 → j < nSdc s → cellIsPoint (pointsOf (sdcBlock s)) (c .sdccells) j ≡ false → NoPoint s count c b
   inRow : (i j : ℕ) → b ≡ 4 + i → i < 3 → j < nMux s → delay (depth s) (2 * j) ≤ countAt s count i
-      → cellIsPoint (mscBlock s .points) (part (slotSize s) (c .msccells) i) j ≡ false → NoPoint s count c b
+      → cellIsPoint (pointsOf (mscBlock s)) (part (slotSize s) (c .msccells) i) j ≡ false → NoPoint s count c b
   inFillers : b ≡ 7 → (fillersOf s (c .msccells) ≡ fillers s → ⊥) → NoPoint s count c b
 
 -- 14 of block b: no bits give it. 0 to 2 FAC, 3 SDC, then the finished frames.

@@ -14,6 +14,7 @@ use Rattle.settings.specs.Sizes.{depth, frameBytes}
 use Rattle.block.specs.Points.{isPoint, arePoints, every}
 use Rattle.lists.specs.Same.{sameNumbers}
 use Rattle.block.specs.Reading.{given, bytesRead}
+use Rattle.block.specs.Block.{pointsOf}
 use Rattle.frame.specs.Fac.{facBlock}
 use Rattle.frame.specs.Sdc.{sdcBlock}
 use Rattle.frame.specs.Msc.{mscBlock}
@@ -67,7 +68,7 @@ fillersOf s msccells = drop (3 * slotSize s) msccells
 unfoldable pub rowCell : Settings → ℕ → List ℤ → ℕ → Bool
 rowCell s count row i =
     not (leb (delay (depth s) (2 * i)) count)
-    || isPoint (mscBlock s .points) (getD row (2 * i) (pos 0)) (getD row (2 * i + 1) (pos 0))
+    || isPoint (pointsOf (mscBlock s)) (getD row (2 * i) (pos 0)) (getD row (2 * i + 1) (pos 0))
 
 unfoldable pub rowPoints : Settings → ℕ → List ℤ → Bool
 rowPoints s count row = every (table (rowCell s count row) 0 (nMux s))
@@ -79,8 +80,8 @@ countAt s count i = Prim.Native.Nat.min (count + i) (depth s - 1)
 -- 13 by block: 0 to 2 FAC, 3 SDC, 4 to 6 the sent rows, 7 the fillers.
 unfoldable pub pointTests : Settings → ℕ → ReadCall → List Bool
 pointTests s count c =
-    map (arePoints (facBlock .points)) (parts (2 * facCells) (c .faccells))
-    ++ (arePoints (sdcBlock s .points) (c .sdccells)
+    map (arePoints (pointsOf facBlock)) (parts (2 * facCells) (c .faccells))
+    ++ (arePoints (pointsOf (sdcBlock s)) (c .sdccells)
     ∷ (table (λ i. rowPoints s (countAt s count i) (part (slotSize s) (c .msccells) i)) 0 3
     ++ (sameNumbers (fillersOf s (c .msccells)) (fillers s) ∷ [])))
 

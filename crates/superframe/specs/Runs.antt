@@ -10,7 +10,8 @@ use lib.Dec.{eqb}
 use Rattle.settings.specs.declared.Settings.{Settings}
 use Rattle.settings.specs.Sizes.{frameBytes}
 use Rattle.block.specs.Packing.{unpacked}
-use Rattle.block.specs.Block.{Block, bitCount}
+use Rattle.block.specs.declared.Block.{Block}
+use Rattle.block.specs.Block.{bitCount}
 use Rattle.frame.specs.Fac.{facBlock}
 use Rattle.frame.specs.Sdc.{sdcBlock}
 use Rattle.frame.specs.Msc.{mscBlock}

@@ -1,23 +1,53 @@
 -- `read_both` meets its contract. Assumes nothing.
+use mathlib.Core.Path.{_∙_}
+use native.Mathlib.Omega.{arith}
 use borrow.Author.Needs.{needs}
-use Rattle.candidate.proofs.CellsRead.{relent, read-both}
+use lib.ListN.{length}
+use Rattle.lists.proofs.Parts.{length-start}
+use Rattle.candidate.proofs.CellsRead.{unmaps, cells-low, reads-both, part-long, part-room, part-again, read-both}
 use Rattle.candidate.proofs.bits.read_both.Statement.{statement}
 use Rattle.candidate.proofs.bits.read_both.Tie as tie
 
-read-levels-requires : tie.Need-read-levels-requires
-read-levels-requires c κs = let k = c .before .before .before .before .before .before .unmap-cells .kept .1 .1 .0 in relent (c .before .before .before .before .before .before .before .before .before .before .before .before .before .pre .levels) k k
+unmap-cells-requires : tie.Need-unmap-cells-requires
+unmap-cells-requires c κs = let p = c .before .before .before .before .pre .0 in unmaps p (length-start _ _ (omega (arith, cells-low p, c .before .cell-buffer .ensures .long)))
+
+part-end : tie.Need-part-read-numbers-end
+part-end c =
+    let u = c .before .before .unmap-cells in
+    part-room (c .before .before .before .before .cell-buffer .result) (u .last .1 .1 .0) _ (omega (arith, cells-low (c .before .before .before .before .before .before .before .pre .0), c .before .before .before .before .cell-buffer .ensures .long)) (u .kept .1 .1 .0)
+
+read-numbers-requires : tie.Need-read-numbers-requires
+read-numbers-requires c κs =
+    let p = c .before .before .before .before .before .before .before .before .before .before .pre in
+    let n = length (c .before .before .before .before .before .before .before .before .before .before .args .cells .now) in
+    let u = c .before .before .before .before .before .unmap-cells in
+    let buffer = c .before .before .before .before .before .before .before .cell-buffer .result in
+    reads-both (p .0) (p .1)
+    (part-again buffer (u .last .1 .1 .0) n (omega (arith, cells-low (p .0), c .before .before .before .before .before .before .before .cell-buffer .ensures .long)) (u .kept .1 .1 .0))
+    (part-long buffer (u .last .1 .1 .0) n (omega (arith, cells-low (p .0), c .before .before .before .before .before .before .before .cell-buffer .ensures .long)) (u .kept .1 .1 .0))
 
 returns : tie.Need-returns
-returns c = read-both (c .before .before .before .before .before .before .before .before .before .before .before .before .before .unmap-cells .ensures) (c .before .before .before .before .before .before .read-levels .ensures)
+returns c =
+    let p = c .before .before .before .before .before .before .before .before .before .before .before .before .before .before .before .pre in
+    let n = length (c .before .before .before .before .before .before .before .before .before .before .before .before .before .before .before .args .cells .now) in
+    let u = c .before .before .before .before .before .before .before .before .before .before .unmap-cells in
+    read-both (p .0) (p .1)
+    (part-again (c .before .before .before .before .before .before .before .before .before .before .before .before .cell-buffer .result) (u .last .1 .1 .0) n (omega (arith, cells-low (p .0), c .before .before .before .before .before .before .before .before .before .before .before .before .cell-buffer .ensures .long)) (u .kept .1 .1 .0) ∙ u .ensures)
+    (c .before .before .before .before .read-numbers .ensures .0) (c .before .before .before .before .read-numbers .ensures .1)
 
 pub read-both-spec : {M : Type 1} → statement M
 read-both-spec =
     tie.close
     (tie.spec
     (λ c κs. search needs)
-    read-levels-requires
     (λ c. search needs)
     (λ c. search needs)
+    (λ c. omega (arith, cells-low (c .before .before .before .pre .0), c .cell-buffer .ensures .long))
+    unmap-cells-requires
+    (λ c. search needs)
+    (λ c. search needs)
+    part-end
+    read-numbers-requires
     (λ c. search needs)
     (λ c. search needs)
     returns)

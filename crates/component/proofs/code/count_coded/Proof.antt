@@ -20,7 +20,7 @@ abbrev μ-loop : tie.MeasureT-loop
 add-sum : tie.Need-add-sum Inv-loop μ-loop
 add-sum c =
     let l = c .before .before .before in
-    omega (arith, c .width .ensures, codedLength-more (l .before .before .args .pattern .now) (l .loop .i) (l .loop .left) (search needs), l .loop .inv .1, l .before .before .pre .1)
+    omega (arith, c .ones .ensures, codedLength-more (l .before .before .args .pattern .now) (l .loop .i) (l .loop .left) (search needs), l .loop .inv .1, l .before .before .pre .1)
 
 loop-again : tie.Need-loop-again Inv-loop μ-loop
 unfolding following
@@ -29,7 +29,7 @@ loop-again c =
     let p = l .before .before .args .pattern .now in
     let f = c .following .ensures in (
       rw f (following-low (l .before .before .pre .0) (l .loop .i)),
-      rw f (omega (arith, c .before .width .ensures, codedLength-more p (l .loop .i) (l .loop .left) (search needs), l .loop .inv .1)),
+      rw f (omega (arith, c .before .ones .ensures, codedLength-more p (l .loop .i) (l .loop .left) (search needs), l .loop .inv .1)),
     )
 
 returns : tie.Need-returns Inv-loop μ-loop

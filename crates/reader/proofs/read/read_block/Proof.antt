@@ -1,20 +1,77 @@
 -- `read_block` meets its contract. Assumes nothing.
+use mathlib.Core.Path.{sym, _∙_}
+use native.Mathlib.Omega.{arith}
 use borrow.Author.Needs.{needs}
+use Rattle.lists.proofs.Parts.{length-start}
+use Rattle.levels.proofs.Totals.{sums-front, sums-rest}
+use Rattle.coder.proofs.Blocks.{total-is, total-low}
+use Rattle.reader.proofs.Blocks.{part-room, part-again, bits-in, bytes-in, cells-in, reads-candidate, packs, codes-again, block-read}
 use Rattle.reader.proofs.read.read_block.Statement.{statement}
 use Rattle.reader.proofs.read.read_block.Tie as tie
 
-read-block-with-requires : tie.Need-read-block-with-requires
-read-block-with-requires c κs =
+add-total : tie.Need-add-total
+add-total c = let C = c .before .before .before .before .before .before .pre in omega (arith, total-low C (total-is C (c .before .bits-before .ensures) (c .bits-before2 .ensures)))
+
+part-bits-end : tie.Need-part-bits-end
+part-bits-end c = let C = c .before .before .before .before .before .before .pre in bits-in C (total-is C (c .before .bits-before .ensures) (c .bits-before2 .ensures)) (c .before .before .before .before .bit-buffer .ensures)
+
+candidate-bits-requires : tie.Need-candidate-bits-requires
+candidate-bits-requires c κs =
+    let C = c .before .before .before .before .before .before .before .pre in
+    let e = total-is C (c .before .before .bits-before .ensures) (c .before .bits-before2 .ensures) in
+    reads-candidate C (length-start _ _ (bits-in C e (c .before .before .before .before .before .bit-buffer .ensures)) ∙ e)
+
+part-pack-end : tie.Need-part-pack-end
+part-pack-end c =
+    let C = c .before .before .before .before .before .before .before .before .before .before .pre in
+    let e = total-is C (c .before .before .before .before .before .bits-before .ensures) (c .before .before .before .before .bits-before2 .ensures) in
+    part-room (c .before .before .before .before .before .before .before .before .bit-buffer .result) (c .before .before .candidate-bits .last .1 .1 .0) _ (bits-in C e (c .before .before .before .before .before .before .before .before .bit-buffer .ensures)) (c .before .before .candidate-bits .kept .1 .1 .0)
+
+part-packed-end : tie.Need-part-packed-end
+part-packed-end c = bytes-in (c .before .before .before .before .before .before .before .before .before .before .before .pre) (c .before .before .before .before .before .before .before .before .byte-buffer .ensures)
+
+pack-requires : tie.Need-pack-requires
+pack-requires c κs =
+    let C = c .before .before .before .before .before .before .before .before .before .before .before .before .pre in
+    let e = total-is C (c .before .before .before .before .before .before .before .bits-before .ensures) (c .before .before .before .before .before .before .bits-before2 .ensures) in
+    packs C (part-again (c .before .before .before .before .before .before .before .before .before .before .bit-buffer .result) (c .before .before .before .before .candidate-bits .last .1 .1 .0) _ (bits-in C e (c .before .before .before .before .before .before .before .before .before .before .bit-buffer .ensures)) (c .before .before .before .before .candidate-bits .kept .1 .1 .0) ∙ c .before .before .before .before .candidate-bits .ensures)
+    (length-start _ _ (bytes-in C (c .before .before .before .before .before .before .before .before .before .byte-buffer .ensures)))
+
+part-code-block-end : tie.Need-part-code-block-end
+part-code-block-end c = part-room (c .before .before .before .before .before .before .before .before .before .before .before .before .byte-buffer .result) (c .before .before .pack .last .1 .0) _ (bytes-in (c .before .before .before .before .before .before .before .before .before .before .before .before .before .before .before .pre) (c .before .before .before .before .before .before .before .before .before .before .before .before .byte-buffer .ensures)) (c .before .before .pack .kept .1 .0)
+
+part-again-end : tie.Need-part-again-end
+part-again-end c = cells-in (c .before .before .before .before .before .before .before .before .before .before .before .before .before .before .before .before .pre) (c .before .before .before .before .before .before .before .before .before .before .before .before .coordinate-buffer .ensures)
+
+code-block-requires : tie.Need-code-block-requires
+code-block-requires c κs =
+    let C = c .before .before .before .before .before .before .before .before .before .before .before .before .before .before .before .before .before .pre in
+    codes-again C (length-start _ _ (part-room (c .before .before .before .before .before .before .before .before .before .before .before .before .before .before .byte-buffer .result) (c .before .before .before .before .pack .last .1 .0) _ (bytes-in C (c .before .before .before .before .before .before .before .before .before .before .before .before .before .before .byte-buffer .ensures)) (c .before .before .before .before .pack .kept .1 .0)))
+    (length-start _ _ (cells-in C (c .before .before .before .before .before .before .before .before .before .before .before .before .before .coordinate-buffer .ensures)))
+
+part-hand-out-end : tie.Need-part-hand-out-end
+part-hand-out-end c = part-room (c .before .before .before .before .before .before .before .before .before .before .before .before .before .before .before .before .before .byte-buffer .result) (c .before .before .before .before .before .before .before .pack .last .1 .0) _ (bytes-in (c .before .before .before .before .before .before .before .before .before .before .before .before .before .before .before .before .before .before .before .before .pre) (c .before .before .before .before .before .before .before .before .before .before .before .before .before .before .before .before .before .byte-buffer .ensures)) (c .before .before .before .before .before .before .before .pack .kept .1 .0)
+
+part-hand-out-end-2 : tie.Need-part-hand-out-end-2
+part-hand-out-end-2 c = part-room (c .before .before .before .before .before .before .before .before .before .before .before .before .before .before .before .before .before .before .coordinate-buffer .result) (c .before .before .before .before .code-block .last .1 .1 .0) _ (cells-in (c .before .before .before .before .before .before .before .before .before .before .before .before .before .before .before .before .before .before .before .before .before .before .pre) (c .before .before .before .before .before .before .before .before .before .before .before .before .before .before .before .before .before .before .coordinate-buffer .ensures)) (c .before .before .before .before .code-block .kept .1 .1 .0)
+
+hand-out-requires : tie.Need-hand-out-requires
+hand-out-requires c κs =
+    let C = c .before .before .before .before .before .before .before .before .before .before .before .before .before .before .before .before .before .before .before .before .before .before .before .before .pre in
     record {
-      block = c .before .before .before .before .before .before .before .before .before .before .before .before .before .before .before .before .before .pre;
-      real = search needs;
-      imaginary = search needs;
-      buffer = search needs;
-      partB = search needs;
-      both = search needs;
-      room = search needs;
-      all = search needs;
+      bytes-long = sym (length-start _ _ (part-room (c .before .before .before .before .before .before .before .before .before .before .before .before .before .before .before .before .before .before .before .before .before .byte-buffer .result) (c .before .before .before .before .before .before .before .before .before .before .before .pack .last .1 .0) _ (bytes-in C (c .before .before .before .before .before .before .before .before .before .before .before .before .before .before .before .before .before .before .before .before .before .byte-buffer .ensures)) (c .before .before .before .before .before .before .before .before .before .before .before .pack .kept .1 .0)));
+      cells-long = length-start _ _ (part-room (c .before .before .before .before .before .before .before .before .before .before .before .before .before .before .before .before .before .before .before .before .coordinate-buffer .result) (c .before .before .before .before .before .before .code-block .last .1 .1 .0) _ (cells-in C (c .before .before .before .before .before .before .before .before .before .before .before .before .before .before .before .before .before .before .before .before .coordinate-buffer .ensures)) (c .before .before .before .before .before .before .code-block .kept .1 .1 .0));
     }
+
+returns : tie.Need-returns
+returns c =
+    let C = c .before .before .before .before .before .before .before .before .before .before .before .before .before .before .before .before .before .before .before .before .before .before .before .before .before .before .before .pre in
+    let e = total-is C (c .before .before .before .before .before .before .before .before .before .before .before .before .before .before .before .before .before .before .before .before .before .before .bits-before .ensures) (c .before .before .before .before .before .before .before .before .before .before .before .before .before .before .before .before .before .before .before .before .before .bits-before2 .ensures) in
+    block-read C
+    (part-again (c .before .before .before .before .before .before .before .before .before .before .before .before .before .before .before .before .before .before .before .before .before .before .before .before .before .bit-buffer .result) (c .before .before .before .before .before .before .before .before .before .before .before .before .before .before .before .before .before .before .before .candidate-bits .last .1 .1 .0) _ (bits-in C e (c .before .before .before .before .before .before .before .before .before .before .before .before .before .before .before .before .before .before .before .before .before .before .before .before .before .bit-buffer .ensures)) (c .before .before .before .before .before .before .before .before .before .before .before .before .before .before .before .before .before .before .before .candidate-bits .kept .1 .1 .0) ∙ c .before .before .before .before .before .before .before .before .before .before .before .before .before .before .before .before .before .before .before .candidate-bits .ensures)
+    (part-again (c .before .before .before .before .before .before .before .before .before .before .before .before .before .before .before .before .before .before .before .before .before .before .before .before .byte-buffer .result) (c .before .before .before .before .before .before .before .before .before .before .before .before .before .before .pack .last .1 .0) _ (bytes-in C (c .before .before .before .before .before .before .before .before .before .before .before .before .before .before .before .before .before .before .before .before .before .before .before .before .byte-buffer .ensures)) (c .before .before .before .before .before .before .before .before .before .before .before .before .before .before .pack .kept .1 .0) ∙ c .before .before .before .before .before .before .before .before .before .before .before .before .before .before .pack .ensures)
+    (part-again (c .before .before .before .before .before .before .before .before .before .before .before .before .before .before .before .before .before .before .before .before .before .before .before .coordinate-buffer .result) (c .before .before .before .before .before .before .before .before .before .code-block .last .1 .1 .0) _ (cells-in C (c .before .before .before .before .before .before .before .before .before .before .before .before .before .before .before .before .before .before .before .before .before .before .before .coordinate-buffer .ensures)) (c .before .before .before .before .before .before .before .before .before .code-block .kept .1 .1 .0) ∙ c .before .before .before .before .before .before .before .before .before .code-block .ensures)
+    (c .before .before .hand-out .ensures)
 
 pub read-block-spec : {M : Type 1} → statement M
 read-block-spec =
@@ -23,17 +80,33 @@ read-block-spec =
     (λ c κs. search needs)
     (λ c κs. search needs)
     (λ c κs. search needs)
-    (λ c κs. search needs)
-    (λ c κs. search needs)
-    (λ c κs. search needs)
-    (λ c κs. search needs)
+    (λ c κs. sums-front (c .before .before .before .before .pre .fits))
+    (λ c κs. sums-rest (c .before .before .before .before .before .pre .fits))
+    add-total
     (λ c. search needs)
     (λ c. search needs)
+    part-bits-end
+    candidate-bits-requires
     (λ c. search needs)
     (λ c. search needs)
+    part-pack-end
     (λ c. search needs)
     (λ c. search needs)
+    part-packed-end
+    pack-requires
     (λ c. search needs)
-    read-block-with-requires
     (λ c. search needs)
-    (λ c. search needs))
+    part-code-block-end
+    (λ c. search needs)
+    (λ c. search needs)
+    part-again-end
+    code-block-requires
+    (λ c. search needs)
+    (λ c. search needs)
+    part-hand-out-end
+    (λ c. search needs)
+    (λ c. search needs)
+    part-hand-out-end-2
+    hand-out-requires
+    (λ c. search needs)
+    returns)

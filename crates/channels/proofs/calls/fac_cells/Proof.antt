@@ -1,0 +1,20 @@
+-- `fac_cells` meets its contract. Assumes nothing.
+use borrow.Author.Needs.{needs}
+use Rattle.channels.proofs.Codes.{fac-codes}
+use Rattle.channels.proofs.calls.fac_cells.Statement.{statement}
+use Rattle.channels.proofs.calls.fac_cells.Tie as tie
+
+code-block-requires : tie.Need-code-block-requires
+code-block-requires c κs = rw (c .before .fac-block .ensures) (fac-codes (c .before .before .before .pre))
+
+returns : tie.Need-returns
+returns c = rw (c .before .before .before .fac-block .ensures) at (c .before .code-block .ensures)
+
+pub fac-cells-spec : {M : Type 1} → statement M
+fac-cells-spec =
+    tie.close
+    (tie.spec
+    (λ c κs. search needs)
+    code-block-requires
+    (λ c. search needs)
+    returns)
