@@ -176,11 +176,34 @@ def part(program, words, data, cells, cell_bytes):
     print("  a write that comes short after a part: " + "; then ".join(said.splitlines()))
 
 
+def nearest(program):
+    """Received bits of FAC blocks that `desk code` makes: cell 1 stands for bit 0, -1 for bit 1, of each cell the real axis first."""
+    settings, sdc, frame, _, _ = EXAMPLES[0]
+    frames = make(sdc, frame, 2)
+    _, cells, _ = run([program, "code", settings], b"".join(b"".join(blocks) for blocks in frames))
+    bits = "".join("0" if cells[2 * i] == 1 else "1" for i in range(130))
+    block = frames[0][0][:9].hex().upper()
+    wrong = "".join("10"[int(bits[0])] if i == 0 else "?" if i % 7 == 3 else b for i, b in enumerate(bits))
+    good = f"{bits}\n{'?' * 130}\n{wrong}\n".encode()
+    answer = f"{block} 0\n{'0' * 18} 0\n{block} 1\n".encode()
+    words = ["nearest"]
+    both(program, words, good, "nearest: undamaged, unknown and damaged bits", answer, "", True)
+    both(program, words, b"", "nearest: no line", b"", "", True)
+    for what, line in [("empty", ""), ("129 bits", bits[1:]), ("131 bits", bits + "0"), ("a 2", "2" + bits[1:]), ("a blank", bits + " "), ("1000 characters", "0" * 1000)]:
+        both(program, words, f"{line}\n".encode() + good, "nearest: a line, " + what, answer, "line 1: bad line\n", False)
+    both(program, words, good + bits.encode(), "nearest: a line without its feed", answer, "line 4: the input ends inside it\n", False)
+    with open("/dev/full", "wb") as full:
+        both(program, words, good, "nearest: output to a full device", b"", "line 1: not written: the output failed\n", False, stdout=full)
+    folder = os.open("/", os.O_RDONLY)
+    both(program, words, b"", "nearest: input from a directory", b"", "line 1: not read: the input failed\n", False, stdin=folder)
+    os.close(folder)
+
+
 def arguments(program):
     settings = EXAMPLES[0][0]
     status, out, usage = run([program], b"")
-    must(status == 0 and out == b"" and usage.startswith("usage: desk JOB SETTINGS\n"), f"no argument: {usage!r}")
-    must("code" in usage and "read" in usage, "the usage names the jobs")
+    must(status == 0 and out == b"" and usage.startswith("usage: desk JOB [SETTINGS]\n"), f"no argument: {usage!r}")
+    must(all(job in usage for job in ("code", "read", "nearest")), "the usage names the jobs")
     for what, words in [
         ("no argument", []),
         ("a job alone", ["code"]),
@@ -198,6 +221,7 @@ def arguments(program):
         ("settings in lower case", ["code", settings.lower()]),
         ("settings with a line feed", ["code", settings[:-1] + "\n"]),
         ("empty settings", ["read", ""]),
+        ("settings for a job that has none", ["nearest", settings]),
     ]:
         both(program, words, b"", what, b"", usage, False)
     for number, words, bad in [
@@ -218,6 +242,7 @@ def main():
     program = os.path.join(sys.argv[1], "desk")
     for one in EXAMPLES:
         example(program, *one)
+    nearest(program)
     arguments(program)
     print("all as it must be")
 

@@ -14,9 +14,10 @@ use Rattle.line.specs.Written.{decimal}
 use Rattle.line.proofs.Text.{digits-decimal}
 use Rattle.io.specs.Digits.{digits}
 use Rattle.console.specs.declared.End.{End}
+use Rattle.console.specs.declared.Counted.{Counted}
 use Rattle.console.specs.Contracts.{Put}
 use Rattle.console.specs.Words.{bytesIn}
-use Rattle.console.specs.Report.{why, failed, endLine}
+use Rattle.console.specs.Report.{why, failed, unitWord, endLine}
 
 pub put-more : {a b : ℕ} {x y out o₁ o₂ : List ℕ} {at r₁ r₂ : ℕ} → Put a x out at r₁ o₁ → Put b y o₁ r₁ r₂ o₂ → Put (a + b) (x ++ y) out at r₂ o₂
 put-more {a} {b} {x} {y} {out} {o₁} {o₂} {at} {r₁} {r₂} p q =
@@ -58,11 +59,11 @@ pub decimal-fits : (n k : ℕ) (buffer : List ℕ) → n < 2 ^ 64 → (1 ≤ k) 
 decimal-fits n k buffer h f e = rw (sub-zero k, ← e) (few-digits n k h (f .2))
 
 -- The line of an end.
-pub whole-line : (end : End) (index : ℕ) → failed end ≡ false → endLine end index ≡ []
+pub whole-line : (unit : Counted) (end : End) (index : ℕ) → failed end ≡ false → endLine unit end index ≡ []
 unfolding endLine
-whole-line end index e = rw e
+whole-line unit end index e = rw e
 
-pub failed-line : (end : End) (index : ℕ) → failed end ≡ true
-    → bytesIn "super frame " ++ decimal index ++ bytesIn ": " ++ why end ++ bytesIn "\n" ≡ endLine end index
+pub failed-line : (unit : Counted) (end : End) (index : ℕ) → failed end ≡ true
+    → unitWord unit ++ decimal index ++ bytesIn ": " ++ why end ++ bytesIn "\n" ≡ endLine unit end index
 unfolding endLine
-failed-line end index e = rw e
+failed-line unit end index e = rw e

@@ -3,8 +3,8 @@ use Prim.Native.Nat.{ℕ}
 use mathlib.Core.Path.{_≡_}
 use mathlib.Core.Bool.{Bool, cond}
 use Rattle.console.specs.declared.Outcome.{Outcome}
-use Rattle.console.specs.declared.Outcome.the-variants.{Through, Refused}
-use Rattle.console.specs.declared.End.the-variants.{Unwritten, Stopped}
+use Rattle.console.specs.declared.Outcome.the-variants.{Through, Refused, Bad}
+use Rattle.console.specs.declared.End.the-variants.{Unwritten, Stopped, BadLine}
 use Rattle.console.specs.declared.Next.the-variants.{On, Over}
 use Rattle.console.specs.Turn.{afterWrite}
 
@@ -15,3 +15,7 @@ write-refused o written number block e = rw e
 pub write-through : (o : Outcome) (written b : Bool) → o ≡ Through → written ≡ b → cond b On (Over Unwritten) ≡ afterWrite o written
 unfolding afterWrite
 write-through o written b e f = rw (e, f)
+
+pub write-bad : (o : Outcome) (written : Bool) → o ≡ Bad → Over BadLine ≡ afterWrite o written
+unfolding afterWrite
+write-bad o written e = rw e

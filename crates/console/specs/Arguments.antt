@@ -12,8 +12,10 @@ use Rattle.line.specs.Read.{parseOf}
 use Rattle.line.specs.Written.{lineEnd}
 use Rattle.console.specs.declared.Job.{Job}
 use Rattle.console.specs.declared.Job.the-variants.{Code, Read}
+use Rattle.console.specs.declared.LineJob.{LineJob}
+use Rattle.console.specs.declared.LineJob.the-variants.{Nearest}
 use Rattle.console.specs.declared.Start.{Start}
-use Rattle.console.specs.declared.Start.the-variants.{Usage, Refused, Begin}
+use Rattle.console.specs.declared.Start.the-variants.{Usage, Refused, Begin, Lines}
 use Rattle.console.specs.Words.{bytesIn}
 
 -- Two words are equal.
@@ -39,8 +41,13 @@ begunBy job Bad = Usage
 unfoldable pub begun : Job → ℕ → List ℕ → Start
 begun job count digits = cond (eqb count 3) (begunBy job (settingsWord digits)) Usage
 
+-- A job without settings asks for its own name alone.
+unfoldable pub begunLines : LineJob → ℕ → Start
+begunLines job count = cond (eqb count 2) (Lines job) Usage
+
 -- The job by its name; anything else is answered with the usage.
 unfoldable pub startOf : ℕ → List ℕ → List ℕ → Start
 startOf count word digits =
     cond (sameBytes word (bytesIn "code")) (begun Code count digits)
-    (cond (sameBytes word (bytesIn "read")) (begun Read count digits) Usage)
+    (cond (sameBytes word (bytesIn "read")) (begun Read count digits)
+    (cond (sameBytes word (bytesIn "nearest")) (begunLines Nearest count) Usage))

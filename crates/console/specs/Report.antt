@@ -5,7 +5,9 @@ use mathlib.Core.List.{List, [], _++_}
 use lib.Dec.{eqb}
 use Rattle.line.specs.Written.{decimal}
 use Rattle.console.specs.declared.End.{End}
-use Rattle.console.specs.declared.End.the-variants.{Whole, Inside, Unread, Unwritten, Stopped}
+use Rattle.console.specs.declared.End.the-variants.{Whole, Inside, Unread, Unwritten, Stopped, BadLine}
+use Rattle.console.specs.declared.Counted.{Counted}
+use Rattle.console.specs.declared.Counted.the-variants.{SuperFrame, Line}
 use Rattle.console.specs.Words.{bytesIn, refusalWords, blockWords}
 
 -- The block of a refusal and its words; refusals other than 13 and 14 name none.
@@ -25,6 +27,7 @@ why Inside = bytesIn "the input ends inside it"
 why Unread = bytesIn "not read: the input failed"
 why Unwritten = bytesIn "not written: the output failed"
 why (Stopped number block) = refusedPart number block
+why BadLine = bytesIn "bad line"
 
 -- Whether a run ended otherwise than after a whole super frame.
 unfoldable pub failed : End → Bool
@@ -33,15 +36,21 @@ failed Inside = true
 failed Unread = true
 failed Unwritten = true
 failed (Stopped number block) = true
+failed BadLine = true
 
--- A line of what ended a run at a super frame, counted from 0; none where the input ended after a whole one.
-unfoldable pub endLine : End → ℕ → List ℕ
-endLine end index =
-    cond (failed end) (bytesIn "super frame " ++ decimal index ++ bytesIn ": " ++ why end ++ bytesIn "\n") []
+-- What a run is counted by.
+unfoldable pub unitWord : Counted → List ℕ
+unitWord SuperFrame = bytesIn "super frame "
+unitWord Line = bytesIn "line "
+
+-- What ended a run at a super frame, counted from 0, or what is wrong with a line, counted from 1; nothing where the input ended after a whole one.
+unfoldable pub endLine : Counted → End → ℕ → List ℕ
+endLine unit end index =
+    cond (failed end) (unitWord unit ++ decimal index ++ bytesIn ": " ++ why end ++ bytesIn "\n") []
 
 -- A run: the line of what ended it, and the closing line with the super frames that went through.
 unfoldable pub reportOf : End → ℕ → List ℕ
-reportOf end count = endLine end count ++ bytesIn "super frames: " ++ decimal count ++ bytesIn "\n"
+reportOf end count = endLine SuperFrame end count ++ bytesIn "super frames: " ++ decimal count ++ bytesIn "\n"
 
 -- Settings that are refused.
 unfoldable pub settingsLine : ℕ → List ℕ
@@ -50,7 +59,8 @@ settingsLine number = bytesIn "settings: " ++ refusedPart number 0 ++ bytesIn "\
 -- Anything else than a job and its settings.
 unfoldable pub usage : List ℕ
 usage =
-    bytesIn "usage: desk JOB SETTINGS\n"
-    ++ bytesIn "jobs: code, super frames of bytes to super frames of cells;\n"
-    ++ bytesIn "      read, super frames of cells to super frames of bytes\n"
-    ++ bytesIn "settings: twenty hexadecimal digits, 0 to 9 and A to F\n"
+    bytesIn "usage: desk JOB [SETTINGS]\n"
+    ++ bytesIn "  code SETTINGS  super frames of bytes to super frames of cells\n"
+    ++ bytesIn "  read SETTINGS  super frames of cells to super frames of bytes\n"
+    ++ bytesIn "  nearest        lines of 130 received bits, 0, 1 or ?, to FAC blocks\n"
+    ++ bytesIn "SETTINGS: twenty hexadecimal digits, 0 to 9 and A to F\n"

@@ -1,5 +1,6 @@
 // What the arguments ask for: a job, and settings in twenty hexadecimal digits.
 use crate::Job;
+use crate::LineJob;
 use crate::Start;
 use crate::bytes::put_bytes;
 use crate::bytes::same_bytes;
@@ -7,7 +8,7 @@ use line::Parsed;
 use settings::Settings;
 use settings::refusals::refusal;
 ghost use mathlib.Core.Path.{_≡_};
-ghost use Rattle.console.specs.Arguments.{settingsWord, begunWith, begun, startOf};
+ghost use Rattle.console.specs.Arguments.{settingsWord, begunWith, begun, begunLines, startOf};
 
 // The settings of a word of twenty digits.
 fn settings_word(digits: &[u8]) -> Parsed
@@ -46,6 +47,16 @@ fn begin(job: Job, count: usize, digits: &[u8]) -> Start
     }
 }
 
+// A job on lines that has no settings.
+fn begin_lines(job: LineJob, count: usize) -> Start
+    ensures { λ r. ⌜ r ≡ begunLines job count ⌝ }
+{
+    if count != 2 {
+        return Start::Usage;
+    }
+    Start::Lines(job)
+}
+
 // What so many arguments ask for, of which the first word is the job's and the second the settings'.
 pub fn start(count: usize, word: &[u8], digits: &[u8]) -> Start
     ensures { λ r. ⌜ r ≡ startOf count (now (word .entry)) (now (digits .entry)) ⌝ }
@@ -55,6 +66,9 @@ pub fn start(count: usize, word: &[u8], digits: &[u8]) -> Start
     }
     if same_bytes(word, b"read") {
         return begin(Job::Read, count, digits);
+    }
+    if same_bytes(word, b"nearest") {
+        return begin_lines(LineJob::Nearest, count);
     }
     Start::Usage
 }

@@ -1,4 +1,5 @@
 // What is said on standard error, written into a buffer.
+use crate::Counted;
 use crate::End;
 use crate::bytes::put_bytes;
 use crate::words::block_words;
@@ -8,10 +9,10 @@ ghost use Prim.Native.Nat.{_+_, _≤_};
 ghost use lib.ListN.{length};
 ghost use Rattle.line.specs.Written.{decimal};
 ghost use Rattle.console.specs.Contracts.{Put};
-ghost use Rattle.console.specs.Report.{blockPart, refusedPart, why, failed, endLine, reportOf, settingsLine, usage};
+ghost use Rattle.console.specs.Report.{blockPart, refusedPart, why, failed, unitWord, endLine, reportOf, settingsLine, usage};
 
 // A text from a place of a buffer on, and where it ends.
-fn put(text: &[u8], out: &mut [u8], at: usize) -> usize
+pub fn put(text: &[u8], out: &mut [u8], at: usize) -> usize
     requires { ⌜ at + length (now text) ≤ length (now out) ⌝ }
     ensures { λ r. ⌜ Put (length (now (text .entry))) (now (text .entry)) (now (out .entry)) at r (now (out .exit)) ⌝ }
 {
@@ -66,6 +67,7 @@ fn put_why(end: End, out: &mut [u8], at: usize) -> usize
         End::Unread => put(b"not read: the input failed", out, at),
         End::Unwritten => put(b"not written: the output failed", out, at),
         End::Stopped(number, block) => put_refused(number, block, out, at),
+        End::BadLine => put(b"bad line", out, at),
     }
 }
 
@@ -79,18 +81,30 @@ fn failed(end: End) -> bool
         End::Unread => true,
         End::Unwritten => true,
         End::Stopped(_, _) => true,
+        End::BadLine => true,
+    }
+}
+
+// What a run is counted by.
+fn put_unit(unit: Counted, out: &mut [u8]) -> usize
+    requires { ⌜ 16 ≤ length (now out) ⌝ }
+    ensures { λ r. ⌜ Put 16 (unitWord unit) (now (out .entry)) 0 r (now (out .exit)) ⌝ }
+{
+    match unit {
+        Counted::SuperFrame => put(b"super frame ", out, 0),
+        Counted::Line => put(b"line ", out, 0),
     }
 }
 
 // The line of what ended a run at a super frame, if anything did but the end of the input.
-fn put_end(end: End, index: u64, out: &mut [u8]) -> usize
+fn put_end(unit: Counted, end: End, index: u64, out: &mut [u8]) -> usize
     requires { ⌜ 256 ≤ length (now out) ⌝ }
-    ensures { λ r. ⌜ Put 256 (endLine end index) (now (out .entry)) 0 r (now (out .exit)) ⌝ }
+    ensures { λ r. ⌜ Put 256 (endLine unit end index) (now (out .entry)) 0 r (now (out .exit)) ⌝ }
 {
     if !failed(end) {
         return 0;
     }
-    let a = put(b"super frame ", out, 0);
+    let a = put_unit(unit, out);
     let b = put_decimal(index, out, a);
     let c = put(b": ", out, b);
     let d = put_why(end, out, c);
@@ -101,10 +115,17 @@ fn put_end(end: End, index: u64, out: &mut [u8]) -> usize
 pub fn report(end: End, count: u64, out: &mut [u8; 512]) -> usize
     ensures { λ r. ⌜ Put 512 (reportOf end count) (now (out .entry)) 0 r (now (out .exit)) ⌝ }
 {
-    let a = put_end(end, count, out);
+    let a = put_end(Counted::SuperFrame, end, count, out);
     let b = put(b"super frames: ", out, a);
     let c = put_decimal(count, out, b);
     put(b"\n", out, c)
+}
+
+// What is said of a line.
+pub fn line_said(end: End, index: u64, out: &mut [u8; 512]) -> usize
+    ensures { λ r. ⌜ Put 512 (endLine Counted.Line end index) (now (out .entry)) 0 r (now (out .exit)) ⌝ }
+{
+    put_end(Counted::Line, end, index, out)
 }
 
 // What is said of settings that are refused.
@@ -121,10 +142,11 @@ pub fn put_usage(out: &mut [u8; 512]) -> usize
     ensures { λ r. ⌜ Put 512 usage (now (out .entry)) 0 r (now (out .exit)) ⌝ }
 {
     put(
-        b"usage: desk JOB SETTINGS\n\
-        jobs: code, super frames of bytes to super frames of cells;\n\
-        \x20     read, super frames of cells to super frames of bytes\n\
-        settings: twenty hexadecimal digits, 0 to 9 and A to F\n",
+        b"usage: desk JOB [SETTINGS]\n\
+        \x20 code SETTINGS  super frames of bytes to super frames of cells\n\
+        \x20 read SETTINGS  super frames of cells to super frames of bytes\n\
+        \x20 nearest        lines of 130 received bits, 0, 1 or ?, to FAC blocks\n\
+        SETTINGS: twenty hexadecimal digits, 0 to 9 and A to F\n",
         out,
         0,
     )

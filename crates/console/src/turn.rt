@@ -21,12 +21,13 @@ pub fn after_read(got: usize, wanted: usize, ended: bool) -> Next
     Next::Over(End::Inside)
 }
 
-// After a super frame, and a write of its bytes.
+// After a super frame or a line, and a write of what it gave.
 pub fn after_write(outcome: Outcome, written: bool) -> Next
     ensures { λ r. ⌜ r ≡ afterWrite outcome written ⌝ }
 {
     match outcome {
         Outcome::Refused(number, block) => Next::Over(End::Stopped(number, block)),
+        Outcome::Bad => Next::Over(End::BadLine),
         Outcome::Through => {
             if written {
                 Next::On

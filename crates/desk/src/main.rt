@@ -1,10 +1,13 @@
-// The desk's program: it reads, calls the jobs and writes. What is decided and what is said stands in the library `jobs`.
+// The desk's program: it reads, calls the jobs and writes. What is decided and what is said stands in `console`, `jobs` and `linejobs`.
 use codecall::reset::reset;
 use console::End;
 use console::Job;
+use console::LineJob;
 use console::Next;
+use console::Seen;
 use console::Start;
 use console::arguments;
+use console::input;
 use console::report;
 use console::turn;
 use jobs::buffers;
@@ -13,6 +16,7 @@ use jobs::superframes;
 use libc::STDERR_FILENO;
 use libc::STDIN_FILENO;
 use libc::STDOUT_FILENO;
+use linejobs::steps;
 use settings::Settings;
 use superframe::State;
 ghost use Prim.Native.Nat.{_≤_};
@@ -46,6 +50,12 @@ fn say_settings(number: u8) {
 fn say_run(end: End, count: u64) {
     let mut text = [0u8; 512];
     let n = report::report(end, count, &mut text);
+    say(&text, n);
+}
+
+fn say_line(end: End, index: u64) {
+    let mut text = [0u8; 512];
+    let n = report::line_said(end, index, &mut text);
     say(&text, n);
 }
 
@@ -122,6 +132,132 @@ fn begin(job: Job, s: Settings) {
     run_settings(job, s, &mut bytes[0..n], &mut memory[0..m], &mut out);
 }
 
+// A line, of which so many bytes count, and what ended it.
+struct Gathered {
+    count: usize,
+    seen: Seen,
+}
+
+// One byte of the input into the line.
+fn gather_byte(line: &mut [u8; 256], count: usize) -> Gathered
+    requires { ⌜ count ≤ 256 ⌝ }
+    ensures { λ r. ⌜ r .count ≤ 256 ⌝ }
+{
+    let mut one = [0u8; 1];
+    let last = libc::read(STDIN_FILENO, &mut one);
+    let got = io::count(last, &one);
+    let byte = one[0];
+    let seen = input::seen(got, last == 0, byte);
+    match seen {
+        Seen::Byte => Gathered {
+            count: input::gather(byte, line, count),
+            seen: Seen::Byte,
+        },
+        Seen::Feed => Gathered {
+            count,
+            seen: Seen::Feed,
+        },
+        Seen::Ended => Gathered {
+            count,
+            seen: Seen::Ended,
+        },
+        Seen::Failed => Gathered {
+            count,
+            seen: Seen::Failed,
+        },
+    }
+}
+
+// A line up to its feed, the end of the input or a failure. A loop that is proved to end counts its turns.
+fn read_line(line: &mut [u8; 256]) -> Gathered
+    ensures { λ r. ⌜ r .count ≤ 256 ⌝ }
+{
+    let mut count = 0;
+    let mut turns: u64 = 0;
+    while turns < u64::MAX {
+        let gathered = gather_byte(line, count);
+        let seen = gathered.seen;
+        count = gathered.count;
+        match seen {
+            Seen::Byte => turns += 1,
+            Seen::Feed => {
+                return Gathered {
+                    count,
+                    seen: Seen::Feed,
+                };
+            }
+            Seen::Ended => {
+                return Gathered {
+                    count,
+                    seen: Seen::Ended,
+                };
+            }
+            Seen::Failed => {
+                return Gathered {
+                    count,
+                    seen: Seen::Failed,
+                };
+            }
+        }
+    }
+    Gathered {
+        count,
+        seen: Seen::Failed,
+    }
+}
+
+// Whether the first n bytes of an answer were written.
+fn write_answer(text: &[u8; 512], n: usize) -> bool
+    requires { ⌜ n ≤ 512 ⌝ }
+{
+    let all = &text[..];
+    io::write_all(STDOUT_FILENO, &all[0..n])
+}
+
+// A line that has come.
+fn pass_line(job: LineJob, line: &[u8]) -> Next {
+    let mut out = [0u8; 512];
+    let step = steps::line_step(job, line, &mut out);
+    let written = write_answer(&out, step.length);
+    let outcome = step.outcome;
+    turn::after_write(outcome, written)
+}
+
+// The same with the first n bytes of a buffer.
+fn pass_front(job: LineJob, line: &[u8; 256], n: usize) -> Next
+    requires { ⌜ n ≤ 256 ⌝ }
+{
+    let all = &line[..];
+    pass_line(job, &all[0..n])
+}
+
+// The next line.
+fn take_line(job: LineJob) -> Next {
+    let mut line = [0u8; 256];
+    let gathered = read_line(&mut line);
+    let seen = gathered.seen;
+    let next = input::after_line(gathered.count, seen);
+    match next {
+        Next::On => pass_front(job, &line, gathered.count),
+        Next::Over(end) => Next::Over(end),
+    }
+}
+
+// Lines up to the first end; what is wrong with a line is said with its number, counted from 1.
+fn run_lines(job: LineJob) {
+    let mut index: u64 = 1;
+    while index < u64::MAX {
+        let next = take_line(job);
+        if let Next::Over(end) = next {
+            say_line(end, index);
+            if input::line_over(end) {
+                return;
+            }
+        }
+        index += 1;
+    }
+}
+
 fn main() {
     let mut word = [0u8; 32];
     let mut digits = [0u8; 32];
@@ -132,5 +268,6 @@ fn main() {
         Start::Usage => say_usage(),
         Start::Refused(number) => say_settings(number),
         Start::Begin(job, s) => begin(job, s),
+        Start::Lines(job) => run_lines(job),
     }
 }

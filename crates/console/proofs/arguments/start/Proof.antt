@@ -16,7 +16,22 @@ returns-2 c = c .begin2 .ensures ∙ rw (sym (c .before .before .before .before 
 
 returns-3 : tie.Need-returns-3
 unfolding startOf bytesIn table
-returns-3 c = rw (sym (c .before .before .before .before .same-bytes .ensures) ∙ c .before .before .before .if1 .left, sym (c .before .same-bytes2 .ensures) ∙ c .if2 .left)
+returns-3 c =
+    c .begin-lines .ensures
+    ∙ rw (
+      sym (c .before .before .before .before .before .before .before .before .same-bytes .ensures) ∙ c .before .before .before .before .before .before .before .if1 .left,
+      sym (c .before .before .before .before .before .same-bytes2 .ensures) ∙ c .before .before .before .before .if2 .left,
+      sym (c .before .before .same-bytes3 .ensures) ∙ c .before .if3 .taken,
+    )
+
+returns-4 : tie.Need-returns-4
+unfolding startOf bytesIn table
+returns-4 c =
+    rw (
+      sym (c .before .before .before .before .before .before .before .same-bytes .ensures) ∙ c .before .before .before .before .before .before .if1 .left,
+      sym (c .before .before .before .before .same-bytes2 .ensures) ∙ c .before .before .before .if2 .left,
+      sym (c .before .same-bytes3 .ensures) ∙ c .if3 .left,
+    )
 
 pub start-spec : {M : Type 1} → statement M
-start-spec = tie.close (tie.spec (λ c. search needs) (λ c κs. search needs) (λ c κs. search needs) returns (λ c. search needs) (λ c κs. search needs) (λ c κs. search needs) returns-2 returns-3)
+start-spec = tie.close (tie.spec (λ c. search needs) (λ c κs. search needs) (λ c κs. search needs) returns (λ c. search needs) (λ c κs. search needs) (λ c κs. search needs) returns-2 (λ c. search needs) (λ c κs. search needs) (λ c κs. search needs) returns-3 returns-4)

@@ -1,0 +1,23 @@
+-- Digits and values one by one.
+use Prim.Native.Nat.{ℕ, _*_, _/_, _%_, _<_}
+use mathlib.Core.Path.{_≡_, sym, _∙_}
+use mathlib.Core.List.{List}
+use lib.ListN.{length, getD}
+use Rattle.lists.proofs.Tables.{length-table, getD-table}
+use Rattle.linejobs.specs.Lines.{hexDigit, hexDigits, valueOf, valuesIn}
+
+pub digits-long : (bytes : List ℕ) → length (hexDigits bytes) ≡ 2 * length bytes
+unfolding hexDigits
+digits-long bytes = length-table (λ k. hexDigit (getD bytes (k / 2) 0) (k % 2)) 0 (2 * length bytes)
+
+pub digit-there : (bytes : List ℕ) (k v : ℕ) → k < 2 * length bytes → v ≡ hexDigit (getD bytes (k / 2) 0) (k % 2) → v ≡ getD (hexDigits bytes) k 0
+unfolding hexDigits
+digit-there bytes k v h e = e ∙ sym (getD-table 0 (λ k. hexDigit (getD bytes (k / 2) 0) (k % 2)) (2 * length bytes) k h)
+
+pub values-long : (line : List ℕ) → length (valuesIn line) ≡ length line
+unfolding valuesIn
+values-long line = length-table (λ i. valueOf (getD line i 0)) 0 (length line)
+
+pub value-there : (line : List ℕ) (i v : ℕ) → i < length line → v ≡ valueOf (getD line i 0) → v ≡ getD (valuesIn line) i 0
+unfolding valuesIn
+value-there line i v h e = e ∙ sym (getD-table 0 (λ i. valueOf (getD line i 0)) (length line) i h)
