@@ -176,6 +176,28 @@ def part(program, words, data, cells, cell_bytes):
     print("  a write that comes short after a part: " + "; then ".join(said.splitlines()))
 
 
+def lines(program, words, good, answer, wrong):
+    """A job on lines: good ones in odd chunks; wrong ones in front of them, each with what is said of it; inputs and outputs that fail."""
+    job = words[0]
+    for chunk in (1009, 7, 1):
+        both(program, words, good, f"{job}: good lines, {chunk} bytes at a time", answer, "", True, chunk=chunk)
+    both(program, words, b"", job + ": no line", b"", "", True)
+    for what, line, said in wrong:
+        both(program, words, line.encode() + b"\n" + good, f"{job}: a line, {what}", answer, f"line 1: {said}\n", False)
+    every = b"".join(line.encode() + b"\n" for _, line, _ in wrong)
+    heard = "".join(f"line {i}: {said}\n" for i, (_, _, said) in enumerate(wrong, 1))
+    both(program, words, every + good, job + ": all of them", answer, heard, False, chunk=13)
+    first, count = good.split(b"\n")[0], good.count(b"\n")
+    inside = f"line {count + 1}: the input ends inside it\n"
+    both(program, words, good + first, job + ": a line without its feed", answer, inside, False)
+    both(program, words, good + first[:1], job + ": a byte after the last line", answer, inside, False)
+    with open("/dev/full", "wb") as full:
+        both(program, words, good, job + ": output to a full device", b"", "line 1: not written: the output failed\n", False, stdout=full)
+    folder = os.open("/", os.O_RDONLY)
+    both(program, words, b"", job + ": input from a directory", b"", "line 1: not read: the input failed\n", False, stdin=folder)
+    os.close(folder)
+
+
 def nearest(program):
     """Received bits of FAC blocks that `desk code` makes: cell 1 stands for bit 0, -1 for bit 1, of each cell the real axis first."""
     settings, sdc, frame, _, _ = EXAMPLES[0]
@@ -186,24 +208,81 @@ def nearest(program):
     wrong = "".join("10"[int(bits[0])] if i == 0 else "?" if i % 7 == 3 else b for i, b in enumerate(bits))
     good = f"{bits}\n{'?' * 130}\n{wrong}\n".encode()
     answer = f"{block} 0\n{'0' * 18} 0\n{block} 1\n".encode()
-    words = ["nearest"]
-    both(program, words, good, "nearest: undamaged, unknown and damaged bits", answer, "", True)
-    both(program, words, b"", "nearest: no line", b"", "", True)
-    for what, line in [("empty", ""), ("129 bits", bits[1:]), ("131 bits", bits + "0"), ("a 2", "2" + bits[1:]), ("a blank", bits + " "), ("1000 characters", "0" * 1000)]:
-        both(program, words, f"{line}\n".encode() + good, "nearest: a line, " + what, answer, "line 1: bad line\n", False)
-    both(program, words, good + bits.encode(), "nearest: a line without its feed", answer, "line 4: the input ends inside it\n", False)
-    with open("/dev/full", "wb") as full:
-        both(program, words, good, "nearest: output to a full device", b"", "line 1: not written: the output failed\n", False, stdout=full)
-    folder = os.open("/", os.O_RDONLY)
-    both(program, words, b"", "nearest: input from a directory", b"", "line 1: not read: the input failed\n", False, stdin=folder)
-    os.close(folder)
+    bad = [("empty", ""), ("129 bits", bits[1:]), ("131 bits", bits + "0"), ("a 2", "2" + bits[1:]), ("a blank", bits + " "), ("1000 characters", "0" * 1000)]
+    lines(program, ["nearest"], good, answer, [(what, line, "bad line") for what, line in bad])
+
+
+# bits of the fields of an FAC block, the two reserved ones among them with no value: 001 clauses 6.3.3 and 6.3.4
+WIDTHS = [1, 2, 4, 1, 2, 1, 4, 3, None, 24, 2, 1, 4, 1, 5, None]
+RESERVED = {8: 2, 15: 7}
+
+
+def crc8(word):
+    """Annex D with x^8 + x^4 + x^3 + x^2 + 1 over 64 bits: ones at the start, the complement at the end."""
+    register = 255
+    for i in range(63, -1, -1):
+        top = register >> 7 ^ word >> i & 1
+        register = register << 1 & 255 ^ (0x1D if top else 0)
+    return register ^ 255
+
+
+def fac_block(fields, reserved=0):
+    """The eighteen digits of a block; `reserved` stands in its Rfa bits."""
+    word, rest = 0, list(fields)
+    for k, width in enumerate(WIDTHS):
+        value = rest.pop(0) if width else reserved if k == 15 else 0
+        word = word << (width or RESERVED[k]) | value
+    return f"{word:016X}{crc8(word):02X}"
+
+
+def fac_fields(program):
+    """Lines of FAC fields to blocks and back. The settings of both examples have other numbers in the four fields that must agree."""
+    too_large = "refused: 15, a field too large for its bits or against the settings"
+    wrong_crc = "refused: 16, a wrong CRC"
+    for (settings, *_), agreed in zip(EXAMPLES, ([3, 0, 0, 0], [5, 1, 1, 1])):
+        least = [0, 0, *agreed, 0, 0, 0, 0, 0, 0, 0, 0]
+        most = [1, 3, *agreed, 15, 7, 0xFFFFFF, 3, 1, 15, 1, 31]
+        some = [1, 2, *agreed, 4, 5, 0xE1C2A3, 1, 0, 9, 1, 17]
+        as_line = lambda fields: " ".join(map(str, fields))
+        good = "".join(as_line(fields) + "\n" for fields in (least, most, some)).encode()
+        blocks = "".join(fac_block(fields) + "\n" for fields in (least, most, some)).encode()
+        line = as_line(some)
+        wrong = [(what, text, "bad line") for what, text in [
+            ("empty", ""), ("thirteen numbers", as_line(some[1:])), ("fifteen numbers", line + " 0"), ("two spaces", line.replace(" ", "  ", 1)),
+            ("a space in front", " " + line), ("a space behind", line + " "), ("a tab", line.replace(" ", "\t", 1)), ("a comma", line.replace(" ", ", ", 1)),
+            ("a minus sign", "-" + line), ("a plus sign", "+" + line), ("a fraction", line + ".0"), ("a letter", line[:-1] + "A"), ("a carriage return", line + "\r"),
+            ("a slash, the byte before 0", line + "/"), ("a colon, the byte after 9", line + ":"), ("no digit at all", " " * 13),
+            ("256 characters, a part of a longer one perhaps", "0" * (256 - len(line)) + line), ("1000 characters", "0" * 1000),
+        ]]
+        for k in range(14):
+            larger = list(some)
+            larger[k] = most[k] + 1 if k not in (2, 3, 4, 5) else 2 ** [4, 1, 2, 1][k - 2] + agreed[k - 2]
+            wrong.append((f"field {k} too large", as_line(larger), too_large))
+            for beyond in (2 ** 32, 2 ** 64, 10 ** 30):
+                wrong.append((f"field {k} beyond {beyond}", as_line(some[:k] + [some[k] + beyond] + some[k + 1:]), too_large))
+        for k in range(2, 6):
+            wrong.append((f"field {k} against the settings", as_line(some[:k] + [some[k] ^ 1] + some[k + 1:]), too_large))
+        zeros = "0" * (255 - len(line)) + line
+        lines(program, ["fac-build", settings], good + zeros.encode() + b"\n", blocks + fac_block(some).encode() + b"\n", wrong)
+        block = fac_block(some)
+        spare = fac_block(some, reserved=0x55)
+        other = fac_block(some[:2] + [some[2] ^ 1] + some[3:])
+        flipped = lambda digits, bit: f"{int(digits, 16) ^ 1 << (71 - bit):018X}"
+        wrong = [(what, text, "bad line") for what, text in [
+            ("empty", ""), ("seventeen digits", block[1:]), ("nineteen digits", block + "0"), ("lower case", block.replace("E", "e")), ("a G", "G" + block[1:]),
+            ("a space behind", block + " "), ("two spaces for digits", "  " + block[2:]), ("a carriage return", block[:17] + "\r"), ("1000 characters", "0" * 1000),
+        ]]
+        # bits 3 to 10 hold the four fields that must agree: occupancy, interleaving, MSC mode, SDC mode
+        wrong += [(f"bit {i} wrong", flipped(block, i), too_large if 3 <= i < 11 else wrong_crc) for i in range(72)]
+        wrong += [("against the settings with the right CRC", other, too_large), ("against the settings with a wrong CRC", flipped(other, 71), too_large)]
+        lines(program, ["fac-read", settings], blocks + spare.encode() + b"\n", good + line.encode() + b"\n", wrong)
 
 
 def arguments(program):
     settings = EXAMPLES[0][0]
     status, out, usage = run([program], b"")
     must(status == 0 and out == b"" and usage.startswith("usage: desk JOB [SETTINGS]\n"), f"no argument: {usage!r}")
-    must(all(job in usage for job in ("code", "read", "nearest")), "the usage names the jobs")
+    must(all(job in usage for job in ("code", "read", "fac-build", "fac-read", "nearest")), "the usage names the jobs")
     for what, words in [
         ("no argument", []),
         ("a job alone", ["code"]),
@@ -222,6 +301,11 @@ def arguments(program):
         ("settings with a line feed", ["code", settings[:-1] + "\n"]),
         ("empty settings", ["read", ""]),
         ("settings for a job that has none", ["nearest", settings]),
+        ("a job on lines without its settings", ["fac-build"]),
+        ("the other", ["fac-read"]),
+        ("such a job with an argument too many", ["fac-build", settings, settings]),
+        ("such a job with short settings", ["fac-read", "0003"]),
+        ("a part of such a job", ["fac", settings]),
     ]:
         both(program, words, b"", what, b"", usage, False)
     for number, words, bad in [
@@ -233,7 +317,7 @@ def arguments(program):
         (6, "SDC mode or interleaving not 0 or 1", "00030000010000000200"),
         (7, "too many bytes in part A", "000300000100FFFF0000"),
     ]:
-        for job in ("code", "read"):
+        for job in ("code", "read", "fac-build", "fac-read"):
             both(program, [job, bad], b"", "settings refused", b"", f"settings: refused: {number}, {words}\n", False)
 
 
@@ -243,6 +327,7 @@ def main():
     for one in EXAMPLES:
         example(program, *one)
     nearest(program)
+    fac_fields(program)
     arguments(program)
     print("all as it must be")
 

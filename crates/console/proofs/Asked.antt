@@ -1,6 +1,6 @@
 -- What the arguments ask for.
 use Prim.Native.Nat.{ℕ, suc, _+_, _<_, _≤_}
-use mathlib.Core.Path.{_≡_, refl, ap, _∙_}
+use mathlib.Core.Path.{_≡_, refl, sym, ap, _∙_}
 use mathlib.Core.Bool.{Bool, true, false, _&&_}
 use mathlib.Core.List.{List, [], _∷_, _++_}
 use native.Mathlib.Numerals.{add-one}
@@ -15,10 +15,11 @@ use Rattle.line.specs.declared.Parsed.{Parsed}
 use Rattle.line.specs.declared.Parsed.the-variants.{Line, Bad}
 use Rattle.line.specs.Read.{parseOf}
 use Rattle.line.specs.Written.{lineEnd}
-use Rattle.console.specs.declared.Job.{Job}
+use Rattle.console.specs.declared.SettingsJob.{SettingsJob}
+use Rattle.console.specs.declared.Named.{Named}
 use Rattle.console.specs.declared.Start.{Start}
-use Rattle.console.specs.declared.Start.the-variants.{Usage, Refused, Begin}
-use Rattle.console.specs.Arguments.{sameBytes, settingsWord, begunWith, begunBy, begun}
+use Rattle.console.specs.declared.Start.the-variants.{Usage, Refused}
+use Rattle.console.specs.Arguments.{sameBytes, settingsWord, started, begunWith, begunBy, begun, named, startBy, startOf}
 
 -- Words from a place on: equal there, unequal there, at the end.
 module _ (x y : List ℕ) (i : ℕ) (h : i < length x) (k : length x ≡ length y) where
@@ -62,23 +63,28 @@ unfolding settingsWord
 word-bad digits h = rw (ne-eqb (length digits) 20 h)
 
 -- A job on settings.
-pub with-refused : (job : Job) (s : Settings) (n : ℕ) → n ≡ refusal s → (n ≡ 0 → ⊥) → Refused n ≡ begunWith job s
+pub with-refused : (job : SettingsJob) (s : Settings) (n : ℕ) → n ≡ refusal s → (n ≡ 0 → ⊥) → Refused n ≡ begunWith job s
 unfolding begunWith
 with-refused job s n e h = rw (← e, ne-eqb n 0 h)
 
-pub with-begun : (job : Job) (s : Settings) (n : ℕ) → n ≡ refusal s → n ≡ 0 → Begin job s ≡ begunWith job s
+pub with-begun : (job : SettingsJob) (s : Settings) (n : ℕ) → n ≡ refusal s → n ≡ 0 → started job s ≡ begunWith job s
 unfolding begunWith
 with-begun job s n e h = rw (← e, eq-eqb n 0 h)
 
-pub begun-wrong : (job : Job) (count : ℕ) (digits : List ℕ) → (count ≡ 3 → ⊥) → Usage ≡ begun job count digits
+pub begun-wrong : (job : SettingsJob) (count : ℕ) (digits : List ℕ) → (count ≡ 3 → ⊥) → Usage ≡ begun job count digits
 unfolding begun
 begun-wrong job count digits h = rw (ne-eqb count 3 h)
 
-pub begun-line : (job : Job) (count : ℕ) (digits : List ℕ) (p : Parsed) (s : Settings) (r : Start) → count ≡ 3 → p ≡ settingsWord digits → p ≡ Line s → r ≡ begunWith job s
+pub begun-line : (job : SettingsJob) (count : ℕ) (digits : List ℕ) (p : Parsed) (s : Settings) (r : Start) → count ≡ 3 → p ≡ settingsWord digits → p ≡ Line s → r ≡ begunWith job s
     → r ≡ begun job count digits
 unfolding begun begunBy
 begun-line job count digits p s r h e g f = f ∙ rw (eq-eqb count 3 h, ← e, g)
 
-pub begun-bad : (job : Job) (count : ℕ) (digits : List ℕ) (p : Parsed) → count ≡ 3 → p ≡ settingsWord digits → p ≡ Bad → Usage ≡ begun job count digits
+pub begun-bad : (job : SettingsJob) (count : ℕ) (digits : List ℕ) (p : Parsed) → count ≡ 3 → p ≡ settingsWord digits → p ≡ Bad → Usage ≡ begun job count digits
 unfolding begun begunBy
 begun-bad job count digits p h e g = rw (eq-eqb count 3 h, ← e, g)
+
+-- The job by its name.
+pub start-by : (word digits : List ℕ) (count : ℕ) (job : Named) {was : Named} → was ≡ named word → was ≡ job → startBy job count digits ≡ startOf count word digits
+unfolding startOf
+start-by word digits count job e f = ap (λ n. startBy n count digits) (sym f ∙ e)

@@ -60,7 +60,9 @@ settingsLine number = bytesIn "settings: " ++ refusedPart number 0 ++ bytesIn "\
 unfoldable pub usage : List ℕ
 usage =
     bytesIn "usage: desk JOB [SETTINGS]\n"
-    ++ bytesIn "  code SETTINGS  super frames of bytes to super frames of cells\n"
-    ++ bytesIn "  read SETTINGS  super frames of cells to super frames of bytes\n"
-    ++ bytesIn "  nearest        lines of 130 received bits, 0, 1 or ?, to FAC blocks\n"
+    ++ bytesIn "  code SETTINGS       super frames of bytes to super frames of cells\n"
+    ++ bytesIn "  read SETTINGS       super frames of cells to super frames of bytes\n"
+    ++ bytesIn "  fac-build SETTINGS  lines of fourteen fields in decimal to FAC blocks\n"
+    ++ bytesIn "  fac-read SETTINGS   lines of FAC blocks to their fourteen fields\n"
+    ++ bytesIn "  nearest             lines of 130 received bits, 0, 1 or ?, to FAC blocks\n"
     ++ bytesIn "SETTINGS: twenty hexadecimal digits, 0 to 9 and A to F\n"

@@ -1,6 +1,8 @@
 // What the arguments ask for: a job, and settings in twenty hexadecimal digits.
 use crate::Job;
 use crate::LineJob;
+use crate::Named;
+use crate::SettingsJob;
 use crate::Start;
 use crate::bytes::put_bytes;
 use crate::bytes::same_bytes;
@@ -8,7 +10,8 @@ use line::Parsed;
 use settings::Settings;
 use settings::refusals::refusal;
 ghost use mathlib.Core.Path.{_≡_};
-ghost use Rattle.console.specs.Arguments.{settingsWord, begunWith, begun, begunLines, startOf};
+ghost use Rattle.console.specs.Arguments.{settingsWord, started, begunWith, begun, begunLines, named, startOf};
+ghost use mathlib.Core.Bool.{cond};
 
 // The settings of a word of twenty digits.
 fn settings_word(digits: &[u8]) -> Parsed
@@ -22,19 +25,30 @@ fn settings_word(digits: &[u8]) -> Parsed
     line::read::parse(&line)
 }
 
-// A job on settings, if nothing refuses them.
-fn begin_with(job: Job, s: Settings) -> Start
+// A job with its settings.
+fn started(job: SettingsJob, s: Settings) -> Start
+    ensures { λ r. ⌜ r ≡ started job s ⌝ }
+{
+    match job {
+        SettingsJob::Frames(frames) => Start::Begin(frames, s),
+        SettingsJob::FacBuild => Start::Lines(LineJob::FacBuild(s)),
+        SettingsJob::FacRead => Start::Lines(LineJob::FacRead(s)),
+    }
+}
+
+// The same, if nothing refuses the settings.
+fn begin_with(job: SettingsJob, s: Settings) -> Start
     ensures { λ r. ⌜ r ≡ begunWith job s ⌝ }
 {
     let number = refusal(s);
     if number != 0 {
         return Start::Refused(number);
     }
-    Start::Begin(job, s)
+    started(job, s)
 }
 
 // A job with so many arguments, the program's name and the job's among them.
-fn begin(job: Job, count: usize, digits: &[u8]) -> Start
+fn begin(job: SettingsJob, count: usize, digits: &[u8]) -> Start
     ensures { λ r. ⌜ r ≡ begun job count (now (digits .entry)) ⌝ }
 {
     if count != 3 {
@@ -57,18 +71,51 @@ fn begin_lines(job: LineJob, count: usize) -> Start
     Start::Lines(job)
 }
 
+// What a word names, if it is the name, and otherwise what else it names.
+fn either(is: bool, one: Named, other: Named) -> Named
+    ensures { λ r. ⌜ r ≡ cond is one other ⌝ }
+{
+    if is {
+        return one;
+    }
+    other
+}
+
+// The job that a word names.
+fn named(word: &[u8]) -> Named
+    ensures { λ r. ⌜ r ≡ named (now (word .entry)) ⌝ }
+{
+    let nearest = either(same_bytes(word, b"nearest"), Named::Nearest, Named::Unknown);
+    let reading = either(
+        same_bytes(word, b"fac-read"),
+        Named::Has(SettingsJob::FacRead),
+        nearest,
+    );
+    let building = either(
+        same_bytes(word, b"fac-build"),
+        Named::Has(SettingsJob::FacBuild),
+        reading,
+    );
+    let read = either(
+        same_bytes(word, b"read"),
+        Named::Has(SettingsJob::Frames(Job::Read)),
+        building,
+    );
+    either(
+        same_bytes(word, b"code"),
+        Named::Has(SettingsJob::Frames(Job::Code)),
+        read,
+    )
+}
+
 // What so many arguments ask for, of which the first word is the job's and the second the settings'.
 pub fn start(count: usize, word: &[u8], digits: &[u8]) -> Start
     ensures { λ r. ⌜ r ≡ startOf count (now (word .entry)) (now (digits .entry)) ⌝ }
 {
-    if same_bytes(word, b"code") {
-        return begin(Job::Code, count, digits);
+    let job = named(word);
+    match job {
+        Named::Has(with) => begin(with, count, digits),
+        Named::Nearest => begin_lines(LineJob::Nearest, count),
+        Named::Unknown => Start::Usage,
     }
-    if same_bytes(word, b"read") {
-        return begin(Job::Read, count, digits);
-    }
-    if same_bytes(word, b"nearest") {
-        return begin_lines(LineJob::Nearest, count);
-    }
-    Start::Usage
 }

@@ -17,6 +17,22 @@ pub enum Job {
 // A job on lines, with its settings where it has any.
 pub enum LineJob {
     Nearest,
+    FacBuild(Settings),
+    FacRead(Settings),
+}
+
+// A job that has settings.
+pub enum SettingsJob {
+    Frames(Job),
+    FacBuild,
+    FacRead,
+}
+
+// What a job's name names.
+pub enum Named {
+    Has(SettingsJob),
+    Nearest,
+    Unknown,
 }
 
 // What the arguments ask for.

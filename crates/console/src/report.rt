@@ -112,8 +112,8 @@ fn put_end(unit: Counted, end: End, index: u64, out: &mut [u8]) -> usize
 }
 
 // What is said at the end of a run.
-pub fn report(end: End, count: u64, out: &mut [u8; 512]) -> usize
-    ensures { λ r. ⌜ Put 512 (reportOf end count) (now (out .entry)) 0 r (now (out .exit)) ⌝ }
+pub fn report(end: End, count: u64, out: &mut [u8; 1024]) -> usize
+    ensures { λ r. ⌜ Put 1024 (reportOf end count) (now (out .entry)) 0 r (now (out .exit)) ⌝ }
 {
     let a = put_end(Counted::SuperFrame, end, count, out);
     let b = put(b"super frames: ", out, a);
@@ -122,15 +122,15 @@ pub fn report(end: End, count: u64, out: &mut [u8; 512]) -> usize
 }
 
 // What is said of a line.
-pub fn line_said(end: End, index: u64, out: &mut [u8; 512]) -> usize
-    ensures { λ r. ⌜ Put 512 (endLine Counted.Line end index) (now (out .entry)) 0 r (now (out .exit)) ⌝ }
+pub fn line_said(end: End, index: u64, out: &mut [u8; 1024]) -> usize
+    ensures { λ r. ⌜ Put 1024 (endLine Counted.Line end index) (now (out .entry)) 0 r (now (out .exit)) ⌝ }
 {
     put_end(Counted::Line, end, index, out)
 }
 
 // What is said of settings that are refused.
-pub fn settings_refused(number: u8, out: &mut [u8; 512]) -> usize
-    ensures { λ r. ⌜ Put 512 (settingsLine number) (now (out .entry)) 0 r (now (out .exit)) ⌝ }
+pub fn settings_refused(number: u8, out: &mut [u8; 1024]) -> usize
+    ensures { λ r. ⌜ Put 1024 (settingsLine number) (now (out .entry)) 0 r (now (out .exit)) ⌝ }
 {
     let a = put(b"settings: ", out, 0);
     let b = put_refused(number, 0, out, a);
@@ -138,14 +138,16 @@ pub fn settings_refused(number: u8, out: &mut [u8; 512]) -> usize
 }
 
 // What is said where the arguments are no job with settings.
-pub fn put_usage(out: &mut [u8; 512]) -> usize
-    ensures { λ r. ⌜ Put 512 usage (now (out .entry)) 0 r (now (out .exit)) ⌝ }
+pub fn put_usage(out: &mut [u8; 1024]) -> usize
+    ensures { λ r. ⌜ Put 1024 usage (now (out .entry)) 0 r (now (out .exit)) ⌝ }
 {
     put(
         b"usage: desk JOB [SETTINGS]\n\
-        \x20 code SETTINGS  super frames of bytes to super frames of cells\n\
-        \x20 read SETTINGS  super frames of cells to super frames of bytes\n\
-        \x20 nearest        lines of 130 received bits, 0, 1 or ?, to FAC blocks\n\
+        \x20 code SETTINGS       super frames of bytes to super frames of cells\n\
+        \x20 read SETTINGS       super frames of cells to super frames of bytes\n\
+        \x20 fac-build SETTINGS  lines of fourteen fields in decimal to FAC blocks\n\
+        \x20 fac-read SETTINGS   lines of FAC blocks to their fourteen fields\n\
+        \x20 nearest             lines of 130 received bits, 0, 1 or ?, to FAC blocks\n\
         SETTINGS: twenty hexadecimal digits, 0 to 9 and A to F\n",
         out,
         0,

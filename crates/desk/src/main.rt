@@ -27,36 +27,36 @@ struct Turn {
     state: State,
 }
 
-// A text from a function that says how much of it counts.
-fn say(text: &[u8; 512], n: usize)
-    requires { ⌜ n ≤ 512 ⌝ }
+// Whether the first n bytes of a text were written to a descriptor.
+fn write_front(to: i32, text: &[u8; 1024], n: usize) -> bool
+    requires { ⌜ n ≤ 1024 ⌝ }
 {
     let all = &text[..];
-    io::write_all(STDERR_FILENO, &all[0..n]);
+    io::write_all(to, &all[0..n])
 }
 
 fn say_usage() {
-    let mut text = [0u8; 512];
+    let mut text = [0u8; 1024];
     let n = report::put_usage(&mut text);
-    say(&text, n);
+    write_front(STDERR_FILENO, &text, n);
 }
 
 fn say_settings(number: u8) {
-    let mut text = [0u8; 512];
+    let mut text = [0u8; 1024];
     let n = report::settings_refused(number, &mut text);
-    say(&text, n);
+    write_front(STDERR_FILENO, &text, n);
 }
 
 fn say_run(end: End, count: u64) {
-    let mut text = [0u8; 512];
+    let mut text = [0u8; 1024];
     let n = report::report(end, count, &mut text);
-    say(&text, n);
+    write_front(STDERR_FILENO, &text, n);
 }
 
 fn say_line(end: End, index: u64) {
-    let mut text = [0u8; 512];
+    let mut text = [0u8; 1024];
     let n = report::line_said(end, index, &mut text);
-    say(&text, n);
+    write_front(STDERR_FILENO, &text, n);
 }
 
 // Fills a buffer; a read after that tells the end of the input from a read that failed.
@@ -206,19 +206,11 @@ fn read_line(line: &mut [u8; 256]) -> Gathered
     }
 }
 
-// Whether the first n bytes of an answer were written.
-fn write_answer(text: &[u8; 512], n: usize) -> bool
-    requires { ⌜ n ≤ 512 ⌝ }
-{
-    let all = &text[..];
-    io::write_all(STDOUT_FILENO, &all[0..n])
-}
-
 // A line that has come.
 fn pass_line(job: LineJob, line: &[u8]) -> Next {
-    let mut out = [0u8; 512];
+    let mut out = [0u8; 1024];
     let step = steps::line_step(job, line, &mut out);
-    let written = write_answer(&out, step.length);
+    let written = write_front(STDOUT_FILENO, &out, step.length);
     let outcome = step.outcome;
     turn::after_write(outcome, written)
 }

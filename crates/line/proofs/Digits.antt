@@ -3,7 +3,7 @@ use mathlib.Core.Path.{_≡_, _∙_, sym, ap}
 use mathlib.Core.Bool.{true, false, _&&_}
 use mathlib.Core.List.{List}
 use Prim.Native.Nat.{ℕ, zero, suc, _+_, _-_, _*_, _<_, _≤_}
-use native.Mathlib.Nat.{add-zero, add-suc, suc-add, zero-add, not-suc-le-zero, le-of-suc-le-suc}
+use native.Mathlib.Nat.{sub-zero, add-zero, add-suc, suc-add, zero-add, not-suc-le-zero, le-of-suc-le-suc}
 use native.Mathlib.Numerals.{add-one}
 use native.Mathlib.Omega.{arith}
 use lib.Dec.{ltb, eqb}
@@ -11,6 +11,7 @@ use lib.ListN.{length, getD}
 use borrow.Author.Tests.{lt-ltb, le-ltb, ltb-true, eq-eqb, ne-eqb}
 use Rattle.lists.proofs.Bools.{and-left, and-right}
 use Rattle.line.specs.declared.Parsed.the-variants.{Line, Bad}
+use Rattle.line.specs.Contracts.{HexByte}
 use Rattle.line.specs.Read.{digitOf, digits, isLine, byteAt, settingsIn, parseOf}
 
 -- The value of a byte by the range that it lies in.
@@ -42,16 +43,20 @@ digits-at l i (suc n) zero e h = rw add-zero (ltb-true _ 16 (and-left _ (digits 
 digits-at l i (suc n) (suc k) e h =
     rw (sym (suc-add i k ∙ sym (add-suc i k))) (digits-at l (suc i) n k (and-right (ltb (digitOf (getD l i 0)) 16) _ e) (le-of-suc-le-suc h))
 
--- What a line has: 21 bytes or more, and digits in the first twenty.
-pub line-long : (l : List ℕ) → isLine l ≡ true → 20 < length l
-unfolding isLine
-line-long l e = ltb-true 20 (length l) (and-left _ (eqb (getD l 20 0) 10 && digits l 0 20) e)
+-- Two of them make a byte.
+pub hex-byte : (l : List ℕ) (n k : ℕ) → digits l 0 n ≡ true → n ≤ length l → 2 * k + 1 < n → HexByte l k
+hex-byte l n k e m h =
+    record {
+      inside = omega arith;
+      high = rw zero-add at (digits-at l 0 n (2 * k) e (omega arith));
+      low = rw zero-add at (digits-at l 0 n (2 * k + 1) e h);
+    }
 
-pub line-digit : (l : List ℕ) (k : ℕ) → isLine l ≡ true → k < 20 → digitOf (getD l k 0) < 16
+pub line-byte : (l : List ℕ) (k : ℕ) → isLine l ≡ true → k < 10 → HexByte l k
 unfolding isLine
-line-digit l k e h =
-    rw zero-add at
-    (digits-at l 0 20 k (and-right (eqb (getD l 20 0) 10) _ (and-right (ltb 20 (length l)) _ e)) h)
+line-byte l k e h =
+    let long : 20 < length l = ltb-true 20 (length l) (and-left _ (eqb (getD l 20 0) 10 && digits l 0 20) e) in
+    hex-byte l 20 k (and-right (eqb (getD l 20 0) 10) _ (and-right (ltb 20 (length l)) _ e)) (omega arith) (omega arith)
 
 -- Too short, no line feed in place 20, and what is then left to look at.
 pub short-line : (l : List ℕ) → length l < 21 → isLine l ≡ false
@@ -67,32 +72,36 @@ unfolding isLine
 with-feed l h e = rw (lt-ltb 20 (length l) h, eq-eqb (getD l 20 0) 10 e)
 
 -- The loop over the digits: what is left decides what the whole does.
-pub record Left (l : List ℕ) (i : ℕ) : Type 0 where
-  pub within : i ≤ 20
-  pub same : digits l i (20 - i) ≡ digits l 0 20
+module _ (l : List ℕ) (n : ℕ) where
+  pub record Left (i : ℕ) : Type 0 where
+    pub within : i ≤ n
+    pub same : digits l i (n - i) ≡ digits l 0 n
 
-next-digits : (l : List ℕ) (i n : ℕ) → 20 - i ≡ suc n → digits l i (20 - i) ≡ ltb (digitOf (getD l i 0)) 16 && digits l (i + 1) n
-unfolding digits
-next-digits l i n e = rw (e, add-one)
+  pub left-start : Left 0
+  left-start = record { within = omega arith; same = rw sub-zero }
 
-pub left-turn : (l : List ℕ) (i : ℕ) → Left l i → i < 20 → digitOf (getD l i 0) < 16 → Left l (i + 1)
-left-turn l i s h k =
-    record {
-      within = omega arith;
-      same =
-          sym (next-digits l i (20 - (i + 1)) (omega arith) ∙ ap (λ b. b && digits l (i + 1) (20 - (i + 1))) (lt-ltb (digitOf (getD l i 0)) 16 k))
-          ∙ s .same;
-    }
+  next-digits : (i m : ℕ) → n - i ≡ suc m → digits l i (n - i) ≡ ltb (digitOf (getD l i 0)) 16 && digits l (i + 1) m
+  unfolding digits
+  next-digits i m e = rw (e, add-one)
 
-pub left-stop : (l : List ℕ) (i : ℕ) → Left l i → i < 20 → 16 ≤ digitOf (getD l i 0) → digits l 0 20 ≡ false
-left-stop l i s h k =
-    sym (s .same) ∙ next-digits l i (20 - (i + 1)) (omega arith) ∙ ap (λ b. b && digits l (i + 1) (20 - (i + 1))) (le-ltb (digitOf (getD l i 0)) 16 k)
+  pub left-turn : (i : ℕ) → Left i → i < n → digitOf (getD l i 0) < 16 → Left (i + 1)
+  left-turn i s h k =
+      record {
+        within = omega arith;
+        same =
+            sym (next-digits i (n - (i + 1)) (omega arith) ∙ ap (λ b. b && digits l (i + 1) (n - (i + 1))) (lt-ltb (digitOf (getD l i 0)) 16 k))
+            ∙ s .same;
+      }
 
-pub left-done : (l : List ℕ) (i : ℕ) → Left l i → 20 ≤ i → digits l 0 20 ≡ true
-unfolding digits
-left-done l i s h =
-    let e : 20 - i ≡ 0 = omega arith in
-    sym (s .same) ∙ ap (digits l i) e
+  pub left-stop : (i : ℕ) → Left i → i < n → 16 ≤ digitOf (getD l i 0) → digits l 0 n ≡ false
+  left-stop i s h k =
+      sym (s .same) ∙ next-digits i (n - (i + 1)) (omega arith) ∙ ap (λ b. b && digits l (i + 1) (n - (i + 1))) (le-ltb (digitOf (getD l i 0)) 16 k)
+
+  pub left-done : (i : ℕ) → Left i → n ≤ i → digits l 0 n ≡ true
+  unfolding digits
+  left-done i s h =
+      let e : n - i ≡ 0 = omega arith in
+      sym (s .same) ∙ ap (digits l i) e
 
 -- The settings from the ten bytes.
 pub settings-made : (l : List ℕ) (b₀ b₁ b₂ b₃ b₄ b₅ b₆ b₇ b₈ b₉ : ℕ)

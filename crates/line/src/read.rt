@@ -2,9 +2,11 @@
 use crate::Parsed;
 use settings::Settings;
 ghost use mathlib.Core.Path.{_≡_};
-ghost use Prim.Native.Nat.{_<_};
+ghost use Prim.Native.Nat.{_≤_};
 ghost use mathlib.Core.Bool.{true};
-ghost use Rattle.line.specs.Read.{digitOf, isLine, byteAt, settingsIn, parseOf};
+ghost use lib.ListN.{length};
+ghost use Rattle.line.specs.Read.{digitOf, digits, isLine, byteAt, settingsIn, parseOf};
+ghost use Rattle.line.specs.Contracts.{HexByte};
 
 // The value of a hexadecimal digit, 16 for any other byte.
 fn digit(byte: u8) -> u8
@@ -25,6 +27,21 @@ fn digit(byte: u8) -> u8
     16
 }
 
+// Whether the first n bytes are digits.
+pub fn are_digits(bytes: &[u8], n: usize) -> bool
+    requires { ⌜ n ≤ length (now bytes) ⌝ }
+    ensures { λ r. ⌜ r ≡ digits (now (bytes .entry)) 0 n ⌝ }
+{
+    let mut i = 0;
+    while i < n {
+        if 16 <= digit(bytes[i]) {
+            return false;
+        }
+        i += 1;
+    }
+    true
+}
+
 // Whether the bytes begin with twenty digits and a line feed.
 fn is_line(bytes: &[u8]) -> bool
     ensures { λ r. ⌜ r ≡ isLine (now (bytes .entry)) ⌝ }
@@ -35,20 +52,12 @@ fn is_line(bytes: &[u8]) -> bool
     if bytes[20] != 10 {
         return false;
     }
-    let mut i = 0;
-    while i < 20 {
-        if 16 <= digit(bytes[i]) {
-            return false;
-        }
-        i += 1;
-    }
-    true
+    are_digits(bytes, 20)
 }
 
-// The kth byte of a line.
-fn byte_at(bytes: &[u8], k: usize) -> u8
-    requires { ⌜ isLine (now bytes) ≡ true ⌝ }
-    requires { ⌜ k < 10 ⌝ }
+// The kth byte that two digits each stand for.
+pub fn byte_at(bytes: &[u8], k: usize) -> u8
+    requires { ⌜ HexByte (now bytes) k ⌝ }
     ensures { λ r. ⌜ r ≡ byteAt (now (bytes .entry)) k ⌝ }
 {
     16 * digit(bytes[2 * k]) + digit(bytes[2 * k + 1])

@@ -10,7 +10,7 @@ ghost use lib.Seq.{sets};
 ghost use Rattle.line.specs.Written.{glyph, group, groups, decimal, lineEnd, written, badLine, answerOf};
 
 // The byte of a hexadecimal digit.
-fn glyph(n: u8) -> u8
+pub fn glyph(n: u8) -> u8
     requires { ⌜ n < 16 ⌝ }
     ensures { λ r. ⌜ r ≡ glyph n ⌝ }
 {

@@ -1,5 +1,8 @@
 // The desk's jobs on lines: what each makes of a line.
+pub mod answers;
 pub mod digits;
+pub mod fields;
+pub mod numbers;
 pub mod received;
 pub mod steps;
 
@@ -9,4 +12,15 @@ use console::Outcome;
 pub struct LineStep {
     pub outcome: Outcome,
     pub length: usize,
+}
+
+// The decimal numbers of a line, as far as it is read.
+pub struct Scan {
+    // A number that 32 bits do not hold counts as the greatest of them.
+    pub values: [u32; 14],
+    // The place of the number at hand, and whether it has a digit.
+    pub at: usize,
+    pub digit: bool,
+    // No byte was out of place.
+    pub good: bool,
 }

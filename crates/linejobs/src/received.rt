@@ -1,7 +1,8 @@
 // A line of received bits, and the line of the block nearest to them. 02, S-9.
 use crate::LineStep;
+use crate::answers::bad;
+use crate::answers::through;
 use crate::digits::put_hex;
-use console::Outcome;
 use console::report::put;
 use console::report::put_decimal;
 use nearest::fac::fac_nearest;
@@ -9,7 +10,8 @@ ghost use mathlib.Core.Path.{_≡_};
 ghost use Prim.Native.Nat.{_≤_};
 ghost use lib.ListN.{length};
 ghost use Rattle.console.specs.Contracts.{Put};
-ghost use Rattle.linejobs.specs.Lines.{lineYield, valueOf, valuesIn, blockLine, nearestLine};
+ghost use Rattle.linejobs.specs.Yield.{lineYield};
+ghost use Rattle.linejobs.specs.Nearest.{valueOf, valuesIn, blockLine, nearestLine};
 ghost use Rattle.linejobs.specs.Contracts.{Found};
 
 // The value of a character: 0, 1, 2 for unknown, and 3 for any that is none of them.
@@ -62,26 +64,17 @@ fn find(line: &[u8], block: &mut [u8], count: &mut [u16]) -> bool
 }
 
 // What `desk nearest` makes of a line.
-pub fn nearest_line(line: &[u8], out: &mut [u8; 512]) -> LineStep
+pub fn nearest_line(line: &[u8], out: &mut [u8; 1024]) -> LineStep
     ensures { λ r. ⌜ lineYield r (now (out .exit)) ≡ nearestLine (now (line .entry)) (now (out .entry)) ⌝ }
-    ensures { λ r. ⌜ r .length ≤ 512 ⌝ }
+    ensures { λ r. ⌜ r .length ≤ 1024 ⌝ }
 {
     let mut block = [0u8; 9];
     let mut count = [0u16; 1];
     if line.len() != 130 {
-        return LineStep {
-            outcome: Outcome::Bad,
-            length: 0,
-        };
+        return bad();
     }
     if !find(line, &mut block, &mut count) {
-        return LineStep {
-            outcome: Outcome::Bad,
-            length: 0,
-        };
+        return bad();
     }
-    LineStep {
-        outcome: Outcome::Through,
-        length: put_found(&block, count[0], out),
-    }
+    through(put_found(&block, count[0], out))
 }

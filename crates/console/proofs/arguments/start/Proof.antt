@@ -1,37 +1,21 @@
 use borrow.Author.Needs.{needs}
-use mathlib.Core.Path.{sym, _∙_}
-use Rattle.lists.specs.Lists.{table}
-use Rattle.console.specs.Words.{bytesIn}
-use Rattle.console.specs.Arguments.{startOf}
+use mathlib.Core.Path.{_∙_}
+use Rattle.console.specs.Arguments.{startBy}
+use Rattle.console.proofs.Asked.{start-by}
 use Rattle.console.proofs.arguments.start.Statement.{statement}
 use Rattle.console.proofs.arguments.start.Tie as tie
 
 returns : tie.Need-returns
-unfolding startOf bytesIn table
-returns c = c .begin .ensures ∙ rw (sym (c .before .before .same-bytes .ensures) ∙ c .before .if1 .taken)
+unfolding startBy
+returns c = c .begin .ensures ∙ start-by _ _ _ _ (c .before .before .before .before .named .ensures) (c .before .before .job .given .1)
 
 returns-2 : tie.Need-returns-2
-unfolding startOf bytesIn table
-returns-2 c = c .begin2 .ensures ∙ rw (sym (c .before .before .before .before .before .same-bytes .ensures) ∙ c .before .before .before .before .if1 .left, sym (c .before .before .same-bytes2 .ensures) ∙ c .before .if2 .taken)
+unfolding startBy
+returns-2 c = c .begin-lines .ensures ∙ start-by _ _ _ _ (c .before .before .before .named .ensures) (c .before .enum-told .given .1)
 
 returns-3 : tie.Need-returns-3
-unfolding startOf bytesIn table
-returns-3 c =
-    c .begin-lines .ensures
-    ∙ rw (
-      sym (c .before .before .before .before .before .before .before .before .same-bytes .ensures) ∙ c .before .before .before .before .before .before .before .if1 .left,
-      sym (c .before .before .before .before .before .same-bytes2 .ensures) ∙ c .before .before .before .before .if2 .left,
-      sym (c .before .before .same-bytes3 .ensures) ∙ c .before .if3 .taken,
-    )
-
-returns-4 : tie.Need-returns-4
-unfolding startOf bytesIn table
-returns-4 c =
-    rw (
-      sym (c .before .before .before .before .before .before .before .same-bytes .ensures) ∙ c .before .before .before .before .before .before .if1 .left,
-      sym (c .before .before .before .before .same-bytes2 .ensures) ∙ c .before .before .before .if2 .left,
-      sym (c .before .same-bytes3 .ensures) ∙ c .if3 .left,
-    )
+unfolding startBy
+returns-3 c = start-by _ _ _ _ (c .before .before .named .ensures) (c .enum-told2 .given .1)
 
 pub start-spec : {M : Type 1} → statement M
-start-spec = tie.close (tie.spec (λ c. search needs) (λ c κs. search needs) (λ c κs. search needs) returns (λ c. search needs) (λ c κs. search needs) (λ c κs. search needs) returns-2 (λ c. search needs) (λ c κs. search needs) (λ c κs. search needs) returns-3 returns-4)
+start-spec = tie.close (tie.spec (λ c κs. search needs) (λ c. search needs) (λ c κs. search needs) (λ c. search needs) (λ c κs. search needs) (λ c. search needs) returns returns-2 returns-3)

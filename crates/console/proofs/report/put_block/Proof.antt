@@ -10,40 +10,10 @@ use Rattle.console.proofs.Lines.{put-more, put-room, put-none}
 use Rattle.console.proofs.report.put_block.Statement.{statement}
 use Rattle.console.proofs.report.put_block.Tie as tie
 
--- src/report.rt:38:9
 returns : tie.Need-returns
 unfolding blockPart
 returns c = put-none 100 _ _ _ (rw (not-true (eqb (c .before .before .args .number) 13 || eqb (c .before .before .args .number) 14) (c .if1 .taken)))
 
--- src/report.rt:40:17
-slice-aggregate-put : tie.Need-slice-aggregate-put
-slice-aggregate-put c = search needs
-
--- src/report.rt:40:9
-put-requires : tie.Need-put-requires
-put-requires c κs = search needs
-
--- src/report.rt:41:9
-put-decimal-requires : tie.Need-put-decimal-requires
-put-decimal-requires c κs = search needs
-
--- src/report.rt:42:17
-slice-aggregate-put-2 : tie.Need-slice-aggregate-put-2
-slice-aggregate-put-2 c = search needs
-
--- src/report.rt:42:9
-put-requires-2 : tie.Need-put-requires-2
-put-requires-2 c κs = search needs
-
--- src/report.rt:43:5
-block-words-requires : tie.Need-block-words-requires
-block-words-requires c κs = search needs
-
--- src/report.rt:33:1
-same-length : tie.Need-same-length
-same-length c = search needs
-
--- src/report.rt:33:1
 returns-2 : tie.Need-returns-2
 unfolding blockPart bytesIn table
 returns-2 c =
@@ -53,15 +23,4 @@ returns-2 c =
     rw (not-false (eqb n 13 || eqb n 14) (c .before .before .before .before .before .before .before .before .before .before .before .before .before .before .before .before .before .before .if1 .left)) (put-room 100 (omega arith) b)
 
 pub put-block-spec : {M : Type 1} → statement M
-put-block-spec =
-    tie.close
-    (tie.spec
-    returns
-    slice-aggregate-put
-    put-requires
-    put-decimal-requires
-    slice-aggregate-put-2
-    put-requires-2
-    block-words-requires
-    same-length
-    returns-2)
+put-block-spec = tie.close (tie.spec returns (λ c. search needs) (λ c κs. search needs) (λ c κs. search needs) (λ c. search needs) (λ c κs. search needs) (λ c κs. search needs) (λ c. search needs) returns-2)

@@ -1,7 +1,7 @@
 use borrow.Author.Needs.{needs}
 use mathlib.Core.Path.{_∙_}
 use borrow.Author.Tests.{eq-eqb, ne-eqb}
-use Rattle.linejobs.specs.Lines.{hexDigit}
+use Rattle.linejobs.specs.Digits.{hexDigit}
 use Rattle.linejobs.proofs.digits.digit.Statement.{statement}
 use Rattle.linejobs.proofs.digits.digit.Tie as tie
 

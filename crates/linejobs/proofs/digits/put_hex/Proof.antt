@@ -5,7 +5,7 @@ use native.Mathlib.Nat.{zero-add}
 use native.Mathlib.Omega.{arith}
 use lib.ListN.{length, take, length-set}
 use lib.Seq.{sets}
-use Rattle.linejobs.specs.Lines.{hexDigits}
+use Rattle.linejobs.specs.Digits.{hexDigits}
 use Rattle.console.proofs.Copied.{copied-more, copied-all}
 use Rattle.linejobs.proofs.Laws.{digits-long, digit-there}
 use Rattle.linejobs.proofs.digits.put_hex.Statement.{statement}

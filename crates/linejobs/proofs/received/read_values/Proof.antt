@@ -6,7 +6,7 @@ use native.Mathlib.Omega.{arith}
 use lib.ListN.{length, take, length-set}
 use lib.Seq.{sets}
 use Rattle.lists.proofs.Parts.{sets-whole}
-use Rattle.linejobs.specs.Lines.{valuesIn}
+use Rattle.linejobs.specs.Nearest.{valuesIn}
 use Rattle.console.proofs.Copied.{copied-more, copied-all}
 use Rattle.linejobs.proofs.Laws.{values-long, value-there}
 use Rattle.linejobs.proofs.received.read_values.Statement.{statement}

@@ -1,5 +1,5 @@
 use borrow.Author.Tests.{eq-eqb, ne-eqb}
-use Rattle.linejobs.specs.Lines.{valueOf}
+use Rattle.linejobs.specs.Nearest.{valueOf}
 use Rattle.linejobs.proofs.received.value_of.Statement.{statement}
 use Rattle.linejobs.proofs.received.value_of.Tie as tie
 

@@ -1,0 +1,20 @@
+use borrow.Author.Needs.{needs}
+use mathlib.Core.Path.{sym, ap}
+use Rattle.console.specs.Arguments.{started}
+use Rattle.console.proofs.arguments.started.Statement.{statement}
+use Rattle.console.proofs.arguments.started.Tie as tie
+
+returns : tie.Need-returns
+unfolding started
+returns c = sym (ap (λ j. started j (c .before .before .before .args .s)) (c .before .job .given .1))
+
+returns-2 : tie.Need-returns-2
+unfolding started
+returns-2 c = sym (ap (λ j. started j (c .before .before .args .s)) (c .enum-told .given .1))
+
+returns-3 : tie.Need-returns-3
+unfolding started
+returns-3 c = sym (ap (λ j. started j (c .before .before .args .s)) (c .enum-told2 .given .1))
+
+pub started-spec : {M : Type 1} → statement M
+started-spec = tie.close (tie.spec (λ c. search needs) (λ c. search needs) (λ c. search needs) returns returns-2 returns-3)

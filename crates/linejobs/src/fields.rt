@@ -1,0 +1,69 @@
+// Lines of FAC fields and of FAC blocks. 02, S-1: the desk types fields.
+use crate::LineStep;
+use crate::answers::bad;
+use crate::answers::refused;
+use crate::answers::through;
+use crate::digits::are_hex;
+use crate::digits::put_hex;
+use crate::digits::read_hex;
+use crate::numbers::numbers;
+use crate::numbers::put_numbers;
+use console::report::put;
+use facfields::calls::build;
+use facfields::calls::read;
+use settings::Settings;
+ghost use mathlib.Core.Path.{_≡_};
+ghost use mathlib.Core.List.{_++_};
+ghost use Prim.Native.Nat.{_≤_};
+ghost use lib.ListN.{length};
+ghost use Rattle.console.specs.Contracts.{Put};
+ghost use Rattle.line.specs.Written.{lineEnd};
+ghost use Rattle.linejobs.specs.Yield.{lineYield};
+ghost use Rattle.linejobs.specs.Digits.{hexDigits};
+ghost use Rattle.linejobs.specs.Fields.{buildLine, readLine};
+
+// The line of a block.
+fn put_block(block: &[u8], out: &mut [u8]) -> usize
+    requires { ⌜ (length (now block) ≡ 9) × (64 ≤ length (now out)) ⌝ }
+    ensures { λ r. ⌜ Put 19 (hexDigits (now (block .entry)) ++ lineEnd) (now (out .entry)) 0 r (now (out .exit)) ⌝ }
+{
+    put_hex(block, out);
+    put(b"\n", out, 18)
+}
+
+// `fac-build`: fourteen numbers to the digits of a block.
+pub fn build_line(s: Settings, line: &[u8], out: &mut [u8; 1024]) -> LineStep
+    ensures { λ r. ⌜ lineYield r (now (out .exit)) ≡ buildLine s (now (line .entry)) (now (out .entry)) ⌝ }
+    ensures { λ r. ⌜ r .length ≤ 1024 ⌝ }
+{
+    let c = numbers(line);
+    let whole = c.good & (c.digit & (c.at == 13));
+    if !((line.len() < 256) & whole) {
+        return bad();
+    }
+    let fields = c.values;
+    let mut block = [0u8; 9];
+    let number = build(s, &fields, &mut block);
+    if number != 0 {
+        return refused(number);
+    }
+    through(put_block(&block, out))
+}
+
+// `fac-read`: the digits of a block to its fourteen numbers.
+pub fn read_line(s: Settings, line: &[u8], out: &mut [u8; 1024]) -> LineStep
+    ensures { λ r. ⌜ lineYield r (now (out .exit)) ≡ readLine s (now (line .entry)) (now (out .entry)) ⌝ }
+    ensures { λ r. ⌜ r .length ≤ 1024 ⌝ }
+{
+    if !are_hex(line, 9) {
+        return bad();
+    }
+    let mut block = [0u8; 9];
+    read_hex(line, &mut block);
+    let mut fields = [0u32; 14];
+    let number = read(s, &block, &mut fields);
+    if number != 0 {
+        return refused(number);
+    }
+    through(put_numbers(&fields, out))
+}
