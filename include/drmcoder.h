@@ -53,8 +53,8 @@
  *     6  SDC mode or interleaving
  *     7  part A too long: N1 leaves part B fewer than 20 cells
  *     8  memory of the wrong length
- *     9  an input of the wrong length: bytes of drm_code, cells of drm_read
- *    10  an output of the wrong length: cells of drm_code, bytes of drm_read
+ *     9  an input of the wrong length
+ *    10  an output of the wrong length
  *    11  a spare bit set in an input of drm_code
  *    12  position or count above 4 (above 0 in short interleaving), or a memory cell that is neither (0, 0) nor a
  *        point of the MSC's constellation
@@ -210,7 +210,8 @@ uint8_t drm_fac_build(const uint8_t *settings, size_t settings_len, const uint32
                       uint8_t *block, size_t block_len);
 
 /*
- * Reads an FAC block; its reserved bits are looked at by the CRC alone. A block with one wrong bit is always refused.
+ * Reads an FAC block; its reserved bits are looked at by the CRC alone. A block that differs in one bit from
+ * one that is read is always refused.
  *   settings   10 bytes
  *   block      9 bytes
  *   fields     14 numbers, written if the answer is 0

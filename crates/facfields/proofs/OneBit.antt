@@ -14,15 +14,13 @@ use Rattle.component.proofs.Bits.{bits-nil, bits-cons, bits-head, bits-rest}
 use Rattle.component.proofs.Tests.{at}
 use Rattle.block.specs.Packing.{bitAt, unpacked, digits}
 use Rattle.block.proofs.Lists.{bits-table}
-use Rattle.facfields.specs.Fields.{fieldsOf}
 use Rattle.facfields.specs.Crc.{g8, tapped, shifted, register, crcBits}
 use Rattle.facfields.specs.Block.{crcRight}
 use Rattle.facfields.specs.Theorems.{OneBit, SeesOneBit}
 use Rattle.facfields.proofs.Linear.{added, register-added, length-register}
 use Rattle.facfields.proofs.Register.{bits-register}
 use Rattle.facfields.proofs.Block.{crc-carried}
-use Rattle.facfields.proofs.Refusals.{build-zero, build-yields, read-zero}
-use Rattle.facfields.proofs.RoundTrip.{block-crc}
+use Rattle.facfields.proofs.Refusals.{read-zero}
 
 -- a one at place i alone
 abbrev unit : ℕ → ℕ → ℕ
@@ -131,7 +129,5 @@ module _ {block other : List ℕ} {i : ℕ} (O : OneBit block other i) where
 
 -- theorem 3
 pub sees-one-bit : SeesOneBit
-sees-one-bit s t fields block other numbers i h O r =
-    let A = build-zero s fields block h in
-    let y = build-yields s fields block A in
-    not-both (rw y at O) (block-crc (fieldsOf fields) (A .inside)) (read-zero t other numbers r .crc)
+sees-one-bit s t block other numbers others i h O r =
+    not-both O (read-zero s block numbers h .crc) (read-zero t other others r .crc)

@@ -35,11 +35,11 @@ Rebuilt =
     (s : Settings) (block numbers other : List ℕ) → Bytes block → readOf s block numbers .answer ≡ 0 → ReservedZero block
     → length other ≡ blockBytes → buildOf s (readOf s block numbers .numbers) other ≡ buildYield 0 block
 
--- A block that differs from a built one in one bit is never read, whatever the settings.
+-- A block that differs from one that reads in one bit is never read, whatever the settings.
 abbrev pub SeesOneBit : Type 0
 SeesOneBit =
-    (s t : Settings) (fields block other numbers : List ℕ) (i : ℕ) → buildOf s fields block .answer ≡ 0
-    → OneBit (buildOf s fields block .block) other i → readOf t other numbers .answer ≡ 0 → ⊥
+    (s t : Settings) (block other numbers others : List ℕ) (i : ℕ) → readOf s block numbers .answer ≡ 0
+    → OneBit block other i → readOf t other others .answer ≡ 0 → ⊥
 
 -- The CRC of the nine ASCII digits 123456789 is 4B hexadecimal: the check value that catalogues of CRCs give for this polynomial, start and inversion.
 abbrev pub CheckValue : Type 0
