@@ -10,9 +10,10 @@
 
 #include "drmcoder.h"
 
-enum { STACK = 8 * 1024 * 1024, PAINT = 0xA5, CALLS = 6 };
+enum { STACK = 8 * 1024 * 1024, PAINT = 0xA5, CALLS = 11 };
 
-static const char *const names[CALLS] = {"lengths", "sizes", "reset", "code", "read", "nearest"};
+static const char *const names[CALLS] = {"lengths", "sizes", "reset", "code", "read", "nearest",
+                                         "fac_build", "fac_read", "grid_sizes", "grid_place", "grid_take"};
 static unsigned char *stack;
 
 /* What the calls are lent; all bits are zero. */
@@ -24,6 +25,8 @@ static uint16_t lengths[DRM_LENGTHS];
 static uint32_t sizes[DRM_SIZES];
 static uint8_t received[DRM_FAC_VALUES], block[DRM_FAC_BLOCK_BYTES];
 static uint16_t disagreement[1];
+static uint32_t fields[DRM_FAC_FIELDS], of_grid[DRM_GRID_SIZES];
+static int16_t grid[DRM_MOST_GRID_NUMBERS];
 static unsigned answer;
 
 /* Bodies of the threads. */
@@ -64,6 +67,38 @@ static void *call_nearest(void *unused) {
     return unused;
 }
 
+/* The four fields that must agree with the settings. */
+static void *call_fac_build(void *unused) {
+    fields[2] = settings[1];
+    fields[3] = settings[9];
+    fields[4] = settings[2];
+    fields[5] = settings[8];
+    answer = drm_fac_build(settings, sizeof settings, fields, DRM_FAC_FIELDS, block, sizeof block);
+    return unused;
+}
+
+static void *call_fac_read(void *unused) {
+    answer = drm_fac_read(settings, sizeof settings, block, sizeof block, fields, DRM_FAC_FIELDS);
+    return unused;
+}
+
+static void *call_grid_sizes(void *unused) {
+    answer = drm_grid_sizes(settings, sizeof settings, of_grid, DRM_GRID_SIZES);
+    return unused;
+}
+
+static void *call_grid_place(void *unused) {
+    answer = drm_grid_place(settings, sizeof settings, fac_cells, sizes[2], sdc_cells, sizes[3], msc_cells, sizes[4],
+                            grid, of_grid[2]);
+    return unused;
+}
+
+static void *call_grid_take(void *unused) {
+    answer = drm_grid_take(settings, sizeof settings, grid, of_grid[2], fac_cells, sizes[2], sdc_cells, sizes[3],
+                           msc_cells, sizes[4]);
+    return unused;
+}
+
 static void must(int holds, const char *what) {
     if (!holds) {
         fprintf(stderr, "%s\n", what);
@@ -91,8 +126,9 @@ static size_t depth(void *(*body)(void *)) {
 static void measure(size_t deepest[CALLS]) {
     static void *(*const bodies[])(void *) = {call_lengths, call_sizes, call_reset, call_code,  call_code,
                                               call_code,    call_reset, call_read,  call_read, call_read,
-                                              call_nearest};
-    static const int kinds[] = {0, 1, 2, 3, 3, 3, 2, 4, 4, 4, 5};
+                                              call_nearest, call_fac_build, call_fac_read, call_grid_sizes,
+                                              call_grid_place, call_grid_take};
+    static const int kinds[] = {0, 1, 2, 3, 3, 3, 2, 4, 4, 4, 5, 6, 7, 8, 9, 10};
     size_t empty = depth(nothing), k;
     for (k = 0; k < sizeof kinds / sizeof kinds[0]; k++) {
         size_t used = depth(bodies[k]) - empty;

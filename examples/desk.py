@@ -114,6 +114,9 @@ def example(program, settings, sdc, frame, cell_bytes, finished):
     print(settings + ": " + said.strip())
     both(program, ["code", settings], bits, "coded again", cells, "super frames: 5\n", True)
     both(program, ["read", settings], cells, "read back", b"".join(blocks), "super frames: 5\n", True)
+    _, grids, said = run([program, "grid", settings], cells)
+    must(said == "super frames: 5\n", "desk grid: " + said)
+    both(program, ["ungrid", settings], grids, "off the grid again", cells, "super frames: 5\n", True)
     one = len(bits) // SUPER_FRAMES
     inside = "super frame 2: the input ends inside it\nsuper frames: 2\n"
     both(program, ["code", settings], bits[:2 * one + 5], "input that ends inside a super frame", cells[:2 * cell_bytes], inside, False)
@@ -196,6 +199,67 @@ def lines(program, words, good, answer, wrong):
     folder = os.open("/", os.O_RDONLY)
     both(program, words, b"", job + ": input from a directory", b"", "line 1: not read: the input failed\n", False, stdin=folder)
     os.close(folder)
+
+
+KINDS = os.path.join(os.path.dirname(os.path.abspath(__file__)), "..", "crates", "gridkinds", "stdout")
+FAC_KIND, SDC_KIND, MSC_KIND = 4, 5, 6
+
+
+def kinds_of(mode):
+    """The kinds of a mode's places with occupancy 3, symbol after symbol: the lines that the second program writes too."""
+    rows = {}
+    with open(KINDS) as lines_of:
+        for line in map(str.strip, lines_of):
+            if line.isalpha():
+                rows[line] = []
+                last = line
+            else:
+                rows[last] += map(int, line)
+    return rows[mode]
+
+
+def on_grid(kinds, cells):
+    """A super frame's cells by place: kind, real, imaginary; cells of each kind in their order, FAC before SDC before MSC in the input."""
+    first = {FAC_KIND: 0}
+    for kind in (SDC_KIND, MSC_KIND):
+        first[kind] = first[kind - 1] + 4 * kinds.count(kind - 1)
+    out = bytearray()
+    for kind in kinds:
+        out += bytes([kind, 0])
+        if kind in first:
+            out += cells[first[kind]:first[kind] + 4]
+            first[kind] += 4
+        else:
+            out += bytes(4)
+    return bytes(out)
+
+
+def grids(program):
+    """Any numbers as cells, in each mode with occupancy 3: placed where the second program's kinds say, and taken off whatever the kinds and the other places hold."""
+    for number, mode in enumerate("ABCD"):
+        settings = f"{number:02X}03" + "00" * 8
+        kinds = kinds_of(mode)
+        one = 4 * sum(kind >= FAC_KIND for kind in kinds)
+        cells = Draw(number + 3).block(8 * 3 * one)
+        placed = [on_grid(kinds, cells[k * one:(k + 1) * one]) for k in range(3)]
+        size = len(placed[0])
+        said = "super frames: 3\n"
+        for chunk in (1009, 65536, 997):
+            both(program, ["grid", settings], cells, f"grid, mode {mode}, {chunk} bytes at a time", b"".join(placed), said, True, chunk=chunk)
+        noise = Draw(number + 7).block(8 * 3 * size)
+        noisy = bytearray(b"".join(placed))
+        for at in range(0, len(noisy), 6):
+            width = 6 if noisy[at] < FAC_KIND else 2
+            noisy[at:at + width] = noise[at:at + width]
+        both(program, ["ungrid", settings], b"".join(placed), f"ungrid, mode {mode}", cells, said, True)
+        both(program, ["ungrid", settings], bytes(noisy), f"ungrid, mode {mode}, with other kinds and noise in other places", cells, said, True)
+        inside = "super frame 1: the input ends inside it\nsuper frames: 1\n"
+        both(program, ["grid", settings], cells[:2 * one - 1], "cells that end inside a super frame", placed[0], inside, False)
+        both(program, ["ungrid", settings], noisy[:size + 1], "a grid that ends inside", cells[:one], inside, False)
+        for words, data in ((["grid", settings], cells), (["ungrid", settings], noisy)):
+            both(program, words, b"", words[0] + ": no input", b"", "super frames: 0\n", True)
+            failures(program, words, data)
+        part(program, ["grid", settings], cells, b"".join(placed), size)
 
 
 def nearest(program):
@@ -282,7 +346,7 @@ def arguments(program):
     settings = EXAMPLES[0][0]
     status, out, usage = run([program], b"")
     must(status == 0 and out == b"" and usage.startswith("usage: desk JOB [SETTINGS]\n"), f"no argument: {usage!r}")
-    must(all(job in usage for job in ("code", "read", "fac-build", "fac-read", "nearest")), "the usage names the jobs")
+    must(all(job in usage for job in ("code", "read", "grid", "ungrid", "fac-build", "fac-read", "nearest")), "the usage names the jobs")
     for what, words in [
         ("no argument", []),
         ("a job alone", ["code"]),
@@ -306,6 +370,9 @@ def arguments(program):
         ("such a job with an argument too many", ["fac-build", settings, settings]),
         ("such a job with short settings", ["fac-read", "0003"]),
         ("a part of such a job", ["fac", settings]),
+        ("a grid without settings", ["grid"]),
+        ("a grid with an argument too many", ["ungrid", settings, settings]),
+        ("a part of its name", ["un", settings]),
     ]:
         both(program, words, b"", what, b"", usage, False)
     for number, words, bad in [
@@ -317,7 +384,7 @@ def arguments(program):
         (6, "SDC mode or interleaving not 0 or 1", "00030000010000000200"),
         (7, "too many bytes in part A", "000300000100FFFF0000"),
     ]:
-        for job in ("code", "read", "fac-build", "fac-read"):
+        for job in ("code", "read", "grid", "ungrid", "fac-build", "fac-read"):
             both(program, [job, bad], b"", "settings refused", b"", f"settings: refused: {number}, {words}\n", False)
 
 
@@ -326,6 +393,7 @@ def main():
     program = os.path.join(sys.argv[1], "desk")
     for one in EXAMPLES:
         example(program, *one)
+    grids(program)
     nearest(program)
     fac_fields(program)
     arguments(program)

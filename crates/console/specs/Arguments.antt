@@ -10,7 +10,7 @@ use Rattle.line.specs.declared.Parsed.{Parsed}
 use Rattle.line.specs.declared.Parsed.the-variants.{Line, Bad}
 use Rattle.line.specs.Read.{parseOf}
 use Rattle.line.specs.Written.{lineEnd}
-use Rattle.console.specs.declared.Job.the-variants.{Code, Read}
+use Rattle.console.specs.declared.Job.the-variants.{Code, Read, Grid, Ungrid}
 use Rattle.console.specs.declared.LineJob.{LineJob}
 use Rattle.console.specs.declared.LineJob.the-variants.{Nearest, FacBuild, FacRead}
 use Rattle.console.specs.declared.SettingsJob.{SettingsJob}
@@ -57,9 +57,11 @@ unfoldable pub named : List ℕ → Named
 named word =
     cond (sameBytes word (bytesIn "code")) (Named.Has (SettingsJob.Frames Code))
     (cond (sameBytes word (bytesIn "read")) (Named.Has (SettingsJob.Frames Read))
+    (cond (sameBytes word (bytesIn "grid")) (Named.Has (SettingsJob.Frames Grid))
+    (cond (sameBytes word (bytesIn "ungrid")) (Named.Has (SettingsJob.Frames Ungrid))
     (cond (sameBytes word (bytesIn "fac-build")) (Named.Has SettingsJob.FacBuild)
     (cond (sameBytes word (bytesIn "fac-read")) (Named.Has SettingsJob.FacRead)
-    (cond (sameBytes word (bytesIn "nearest")) Named.Nearest Named.Unknown))))
+    (cond (sameBytes word (bytesIn "nearest")) Named.Nearest Named.Unknown))))))
 
 -- The job by its name; anything else is answered with the usage.
 unfoldable pub startBy : Named → ℕ → List ℕ → Start

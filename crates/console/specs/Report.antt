@@ -62,6 +62,8 @@ usage =
     bytesIn "usage: desk JOB [SETTINGS]\n"
     ++ bytesIn "  code SETTINGS       super frames of bytes to super frames of cells\n"
     ++ bytesIn "  read SETTINGS       super frames of cells to super frames of bytes\n"
+    ++ bytesIn "  grid SETTINGS       super frames of cells to grids by symbol and carrier\n"
+    ++ bytesIn "  ungrid SETTINGS     grids to super frames of cells\n"
     ++ bytesIn "  fac-build SETTINGS  lines of fourteen fields in decimal to FAC blocks\n"
     ++ bytesIn "  fac-read SETTINGS   lines of FAC blocks to their fourteen fields\n"
     ++ bytesIn "  nearest             lines of 130 received bits, 0, 1 or ?, to FAC blocks\n"

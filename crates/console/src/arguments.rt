@@ -96,10 +96,20 @@ fn named(word: &[u8]) -> Named
         Named::Has(SettingsJob::FacBuild),
         reading,
     );
+    let ungrid = either(
+        same_bytes(word, b"ungrid"),
+        Named::Has(SettingsJob::Frames(Job::Ungrid)),
+        building,
+    );
+    let grid = either(
+        same_bytes(word, b"grid"),
+        Named::Has(SettingsJob::Frames(Job::Grid)),
+        ungrid,
+    );
     let read = either(
         same_bytes(word, b"read"),
         Named::Has(SettingsJob::Frames(Job::Read)),
-        building,
+        grid,
     );
     either(
         same_bytes(word, b"code"),

@@ -12,6 +12,8 @@ use settings::Settings;
 pub enum Job {
     Code,
     Read,
+    Grid,
+    Ungrid,
 }
 
 // A job on lines, with its settings where it has any.

@@ -145,6 +145,8 @@ pub fn put_usage(out: &mut [u8; 1024]) -> usize
         b"usage: desk JOB [SETTINGS]\n\
         \x20 code SETTINGS       super frames of bytes to super frames of cells\n\
         \x20 read SETTINGS       super frames of cells to super frames of bytes\n\
+        \x20 grid SETTINGS       super frames of cells to grids by symbol and carrier\n\
+        \x20 ungrid SETTINGS     grids to super frames of cells\n\
         \x20 fac-build SETTINGS  lines of fourteen fields in decimal to FAC blocks\n\
         \x20 fac-read SETTINGS   lines of FAC blocks to their fourteen fields\n\
         \x20 nearest             lines of 130 received bits, 0, 1 or ?, to FAC blocks\n\

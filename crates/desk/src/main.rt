@@ -124,9 +124,9 @@ fn run_settings(job: Job, s: Settings, bytes: &mut [u8], memory: &mut [i16], out
 // The same on the part of the largest buffers that the settings need.
 fn begin(job: Job, s: Settings) {
     let space = sizes::room(job, s);
-    let mut bytes = buffers::cell_bytes();
+    let mut bytes = buffers::number_bytes();
     let mut memory = buffers::memory();
-    let mut out = buffers::cell_bytes();
+    let mut out = buffers::number_bytes();
     let n = space.input;
     let m = space.memory;
     run_settings(job, s, &mut bytes[0..n], &mut memory[0..m], &mut out);

@@ -1,19 +1,22 @@
 -- The calls of Code and Read that a job makes of its buffers.
 use Prim.Native.Nat.{ℕ, zero, suc, _+_, _-_, _*_, _/_, _≤_}
-use mathlib.Core.Path.{_≡_, refl, sym, ap, _∙_}
+use mathlib.Core.Path.{_≡_, refl, sym, ap, ap₂, _∙_}
 use mathlib.Core.List.{List, _∷_}
 use native.Mathlib.Nat.{sub-zero}
 use native.Mathlib.Omega.{arith}
 use lib.ListN.{length, take, drop, replicate, length-drop, length-replicate}
-use lib.Seq.{sets, take-length}
+use lib.Seq.{sets, take-length, length-sets}
 use lib.IntN.{ℤ, pos}
 use lib.Dec.{eqb, leb}
 use borrow.Author.Tests.{eq-eqb, ne-eqb, eqb-true, leb-true, not-false}
+use Rattle.settings.specs.declared.Settings.{Settings}
 use Rattle.settings.specs.declared.Sizes.{Sizes}
 use Rattle.settings.specs.Sizes.{sizesOf}
 use Rattle.superframe.specs.declared.State.{State}
 use Rattle.superframe.specs.Code.{CodeCall, codeOf}
-use Rattle.superframe.specs.Read.{readOf}
+use Rattle.superframe.specs.Read.{ReadCall, readOf}
+use Rattle.grid.specs.Calls.{gridSizes, placeOf, takeOf}
+use Rattle.grid.specs.Contracts.{cellsFrom}
 use Rattle.codecall.specs.Yields.{codeCall}
 use Rattle.readblocks.specs.Finishing.{readCall}
 use Rattle.settings.specs.Refusal.{first}
@@ -21,13 +24,13 @@ use Rattle.superframe.proofs.Calls.{first-zero, first-own}
 use Rattle.cellrows.specs.Refusals.{lengthRefusal}
 use Rattle.cellrows.proofs.Laid.{take-sets}
 use Rattle.console.specs.declared.Job.{Job}
-use Rattle.console.specs.declared.Job.the-variants.{Code, Read}
-use Rattle.console.specs.declared.Outcome.the-variants.{Refused}
+use Rattle.console.specs.declared.Job.the-variants.{Code, Read, Grid, Ungrid}
 use Rattle.jobs.specs.Cells.{bytesCells}
-use Rattle.jobs.specs.Contracts.{Enough, CodeRoom, ReadRoom, Lent, CellsLent}
-use Rattle.jobs.specs.SuperFrame.{JobYield, jobYield, refused, inputLength, outputLength, blocksLength, cellsLength, jobRefusal, jobOf, codeLent, codeWritten, readLent, readAnswered, jobCall}
+use Rattle.jobs.specs.Contracts.{Enough, CodeRoom, ReadRoom, GridRoom, Lent, Numbers}
+use Rattle.jobs.specs.SuperFrame.{JobYield, refused, gridLength, inputLength, outputLength, blocksLength, cellsLength, jobRefusal, jobOf, codeLent, codeWritten, readLent, readAnswered, cellsIn, blankCells, gridWritten, cellsWritten, jobCall}
 use Rattle.jobs.proofs.Turns.{bytes-cells-long}
 use Rattle.jobs.proofs.Rooms.{enough}
+use Rattle.jobs.proofs.Lengths.{grid-most, length-most, input-most}
 
 -- A part up to the end of a list is the list's rest.
 pub rest-part : {A : Type 0} (l : List A) (a : ℕ) → take (length l - a) (drop a l) ≡ drop a l
@@ -52,6 +55,14 @@ pub front-cells : (bytes : List ℕ) (n : ℕ) (buffer cells : List ℤ) → n �
 front-cells bytes n buffer cells en e h =
     rw (sub-zero n, e) (take-sets 0 n buffer (bytesCells bytes) (en ∙ sym (bytes-cells-long bytes) ∙ omega arith) h)
 
+pub numbers-of : (bytes : List ℕ) (buffer cells : List ℤ) → buffer ≡ replicate 62235 (pos 0) → cells ≡ sets buffer 0 (bytesCells bytes) → length bytes ≤ 124470 → Numbers bytes cells
+numbers-of bytes buffer cells e f h =
+    let l : length buffer ≡ 62235 = ap length e ∙ length-replicate 62235 (pos 0) in
+    record {
+      front = front-cells bytes (length bytes / 2) buffer cells refl f (omega arith);
+      long = ap length f ∙ length-sets buffer 0 (bytesCells bytes) ∙ l;
+    }
+
 past : (a b : ℕ) → a + b - a ≡ b
 past a b = omega arith
 
@@ -74,10 +85,26 @@ unfolding readLent
 read-call z cells fac sdc msc h ef es em =
     rw (past 390 (z .sdcnumbers), ef, front-blank 0 (z .sdcbytes) 210 sdc es (h .sdcbytes), front-blank 0 (z .mscbytes) 13767 msc em (h .mscbytes))
 
-pub read-called : (state : State) (z : Sizes) (memory cells : List ℤ) (bytes out : List ℕ) (y : JobYield) → z ≡ sizesOf (state .settings) → cells ≡ bytesCells bytes
-    → y ≡ readAnswered (readOf state memory (readLent z cells)) out → y ≡ jobCall Read state memory bytes out
+pub read-called : (state : State) (z : Sizes) (memory cells : List ℤ) (bytes out : List ℕ) (c : ReadCall) (y : JobYield) → z ≡ sizesOf (state .settings) → cells ≡ bytesCells bytes
+    → c ≡ readLent z cells → y ≡ readAnswered (readOf state memory c) out → y ≡ jobCall Read state memory bytes out
 unfolding jobCall
-read-called state z memory cells bytes out y e f h = h ∙ rw (f, e)
+read-called state z memory cells bytes out c y e f g h = h ∙ rw (g, f, e)
+
+pub place-called : (state : State) (z : Sizes) (memory cells grid : List ℤ) (bytes out : List ℕ) (n : ℕ) (y : JobYield) → z ≡ sizesOf (state .settings) → cells ≡ bytesCells bytes
+    → grid ≡ replicate 62235 (pos 0) → n ≡ gridSizes (state .settings) .numbers
+    → y ≡ gridWritten (placeOf (state .settings) (cellsFrom (take 390 cells) (take (390 + z .sdcnumbers - 390) (drop 390 cells)) (drop (390 + z .sdcnumbers) cells)) (take (n - 0) grid)) state memory out
+    → y ≡ jobCall Grid state memory bytes out
+unfolding jobCall cellsIn
+place-called state z memory cells grid bytes out n y e f g k h =
+    h ∙ rw (past 390 (z .sdcnumbers), front-blank (pos 0) n 62235 grid g (rw k (grid-most (state .settings))), f, e, k)
+
+pub take-called : (state : State) (z : Sizes) (memory fac sdc msc grid : List ℤ) (bytes out : List ℕ) (y : JobYield) → Enough z → z ≡ sizesOf (state .settings) → grid ≡ bytesCells bytes
+    → fac ≡ replicate 390 (pos 0) → sdc ≡ replicate 1692 (pos 0) → msc ≡ replicate 36712 (pos 0)
+    → y ≡ cellsWritten (takeOf (state .settings) grid (cellsFrom fac (take (z .sdcnumbers - 0) sdc) (take (z .mscnumbers - 0) msc))) state memory out
+    → y ≡ jobCall Ungrid state memory bytes out
+unfolding jobCall blankCells
+take-called state z memory fac sdc msc grid bytes out y h e f ef es em g =
+    g ∙ rw (ef, front-blank (pos 0) (z .sdcnumbers) 1692 sdc es (h .sdcnumbers), front-blank (pos 0) (z .mscnumbers) 36712 msc em (h .mscnumbers), f, e)
 
 -- What the calls require of the buffers.
 pub code-room : (state : State) (z : Sizes) (bytes out : List ℕ) (fac sdc msc : List ℤ) → Lent Code state z bytes out
@@ -100,14 +127,15 @@ code-room state z bytes out fac sdc msc p ef es em =
           );
     }
 
-pub read-room : (state : State) (z : Sizes) (cells : List ℤ) (out fac sdc msc : List ℕ) → CellsLent state z cells out
+pub read-room : (state : State) (z : Sizes) (bytes : List ℕ) (cells : List ℤ) (out fac sdc msc : List ℕ) → Lent Read state z bytes out → cells ≡ bytesCells bytes
     → fac ≡ replicate 27 0 → sdc ≡ replicate 210 0 → msc ≡ replicate 13767 0
     → ReadRoom (390 + z .sdcnumbers) cells fac (take (z .sdcbytes - 0) sdc) (take (z .mscbytes - 0) msc) out
-read-room state z cells out fac sdc msc p ef es em =
+unfolding inputLength outputLength blocksLength cellsLength
+read-room state z bytes cells out fac sdc msc p e ef es em =
     let h = enough (state .settings) z (p .sizes) (p .accepted) in
     record {
       first = omega arith;
-      last = omega (arith, p .input, h .facnumbers);
+      last = omega (arith, p .input, h .facnumbers, ap length e, bytes-cells-long bytes);
       room =
           omega (
             arith,
@@ -118,33 +146,52 @@ read-room state z cells out fac sdc msc p ef es em =
           );
     }
 
--- The bytes of the cells of accepted settings.
-pub cells-long : (state : State) (z : Sizes) (bytes out : List ℕ) → Lent Read state z bytes out → length bytes ≤ 2 * 38794
-unfolding inputLength cellsLength
-cells-long state z bytes out p =
+pub place-room : (state : State) (z : Sizes) (bytes : List ℕ) (cells grid : List ℤ) (n : ℕ) (out : List ℕ) → Lent Grid state z bytes out → cells ≡ bytesCells bytes
+    → grid ≡ replicate 62235 (pos 0) → n ≡ gridSizes (state .settings) .numbers → GridRoom (390 + z .sdcnumbers) cells (take (n - 0) grid) out
+unfolding inputLength outputLength cellsLength gridLength
+place-room state z bytes cells grid n out p e g k =
     let h = enough (state .settings) z (p .sizes) (p .accepted) in
-    omega (arith, p .input, h .facnumbers, h .sdcnumbers, h .mscnumbers)
-
-pub cells-lent : (state : State) (z : Sizes) (bytes out : List ℕ) (cells : List ℤ) → Lent Read state z bytes out → cells ≡ bytesCells bytes → CellsLent state z cells out
-unfolding inputLength outputLength blocksLength cellsLength
-cells-lent state z bytes out cells p e =
     record {
-      sizes = p .sizes;
-      accepted = p .accepted;
-      input = omega (arith, p .input, ap length e, bytes-cells-long bytes);
-      output = omega (arith, p .output);
+      first = omega arith;
+      last = omega (arith, p .input, h .facnumbers, ap length e, bytes-cells-long bytes);
+      room = omega (arith, p .output, k, front-long (pos 0) n 62235 grid g (rw k (grid-most (state .settings))));
     }
 
+pub take-room : (state : State) (z : Sizes) (bytes out : List ℕ) (fac sdc msc : List ℤ) → Lent Ungrid state z bytes out
+    → fac ≡ replicate 390 (pos 0) → sdc ≡ replicate 1692 (pos 0) → msc ≡ replicate 36712 (pos 0)
+    → 2 * length fac + 2 * length (take (z .sdcnumbers - 0) sdc) + 2 * length (take (z .mscnumbers - 0) msc) ≤ length out
+unfolding outputLength cellsLength
+take-room state z bytes out fac sdc msc p ef es em =
+    let h = enough (state .settings) z (p .sizes) (p .accepted) in
+    omega (
+      arith,
+      p .output,
+      h .facnumbers,
+      ap length ef ∙ length-replicate 390 (pos 0),
+      front-long (pos 0) (z .sdcnumbers) 1692 sdc es (h .sdcnumbers),
+      front-long (pos 0) (z .mscnumbers) 36712 msc em (h .mscnumbers),
+    )
+
+-- The numbers of a grid are half its bytes.
+pub half-grid : (s : Settings) (g : ℕ) → g ≡ gridLength s → g / 2 ≡ gridSizes s .numbers
+unfolding gridLength
+half-grid s g e = omega (arith, e)
+
+-- The bytes of numbers that a job takes.
+pub bytes-most : (job : Job) (state : State) (z : Sizes) (bytes out : List ℕ) → Lent job state z bytes out → length bytes ≤ 124470
+bytes-most job state z bytes out p =
+    omega (arith, p .input, input-most job z (gridLength (state .settings)) (enough (state .settings) z (p .sizes) (p .accepted)) (length-most (state .settings)))
+
 -- Number 0 says that the buffers are of the right lengths; any other is the answer.
-module _ (job : Job) (state : State) (z : Sizes) (memory : List ℤ) (bytes out : List ℕ) (i o n : ℕ)
-    (ez : z ≡ sizesOf (state .settings)) (ei : i ≡ inputLength job z) (eo : o ≡ outputLength job z)
+module _ (job : Job) (state : State) (z : Sizes) (memory : List ℤ) (bytes out : List ℕ) (g i o n : ℕ)
+    (ez : z ≡ sizesOf (state .settings)) (eg : g ≡ gridLength (state .settings)) (ei : i ≡ inputLength job z g) (eo : o ≡ outputLength job z g)
     (en : n ≡ lengthRefusal z (length memory) (eqb (length bytes) i) (leb o (length out))) where
   number-is : n ≡ jobRefusal job state memory bytes out
   unfolding jobRefusal
-  number-is = en ∙ rw (ei, eo, ez)
+  number-is = en ∙ rw (ei, eo, eg, ez)
 
-  pub job-refused : (n ≡ 0 → ⊥) → jobYield (record { outcome = Refused n 0; state = state; length = 0 }) memory out ≡ jobOf job state memory bytes out
-  unfolding jobOf refused
+  pub job-refused : (n ≡ 0 → ⊥) → refused n 0 state memory out ≡ jobOf job state memory bytes out
+  unfolding jobOf
   job-refused h = rw (← number-is, ne-eqb n 0 h)
 
   pub job-called : n ≡ 0 → (y : JobYield) (kind : Job) → job ≡ kind → y ≡ jobCall kind state memory bytes out → y ≡ jobOf job state memory bytes out
@@ -163,6 +210,6 @@ module _ (job : Job) (state : State) (z : Sizes) (memory : List ℤ) (bytes out 
       record {
         sizes = ez;
         accepted = a .0;
-        input = k ∙ ei ∙ ap (λ j. inputLength j z) e;
-        output = omega (arith, l, eo ∙ ap (λ j. outputLength j z) e);
+        input = k ∙ ei ∙ ap₂ (λ j v. inputLength j z v) e eg;
+        output = omega (arith, l, eo ∙ ap₂ (λ j v. outputLength j z v) e eg);
       }

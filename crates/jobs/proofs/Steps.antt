@@ -5,31 +5,28 @@ use mathlib.Core.List.{List}
 use lib.IntN.{ℤ}
 use borrow.Author.Tests.{eq-eqb, ne-eqb}
 use Rattle.superframe.specs.declared.State.{State}
-use Rattle.superframe.specs.declared.Done.{Done}
 use Rattle.superframe.specs.declared.Reading.{Reading}
 use Rattle.superframe.specs.declared.Answer.{Answer}
 use Rattle.superframe.specs.declared.Answer.the-variants.{Finished, Refused as Answer·Refused}
-use Rattle.codecall.specs.Yields.{codeYield}
 use Rattle.readcall.specs.Working.{readYield}
 use Rattle.console.specs.declared.Outcome.the-variants.{Through, Refused}
-use Rattle.jobs.specs.Output.{Joined, cellOutput, blockOutput}
-use Rattle.jobs.specs.SuperFrame.{jobYield, through, refused, codeWritten, readWritten}
+use Rattle.jobs.specs.Output.{Joined, blockOutput}
+use Rattle.jobs.specs.SuperFrame.{jobYield, through, refused, answered, readWritten}
 
 joined-through : {n : ℕ} {bytes out : List ℕ} {r : ℕ} {out′ : List ℕ} (state : State) (memory : List ℤ) → Joined n bytes out r out′
     → jobYield (record { outcome = Through; state = state; length = r }) memory out′ ≡ through state memory bytes out
 unfolding through
 joined-through state memory j = rw (j .long, j .written)
 
-pub code-through : {n : ℕ} (done : Done) (fac sdc msc : List ℤ) (out : List ℕ) (r : ℕ) (out′ : List ℕ) (memory : List ℤ) → done .refusal ≡ 0
-    → Joined n (cellOutput fac sdc msc) out r out′
-    → jobYield (record { outcome = Through; state = done .state; length = r }) memory out′ ≡ codeWritten (codeYield done memory fac sdc msc) out
-unfolding codeWritten
-code-through done fac sdc msc out r out′ memory e j = rw (eq-eqb (done .refusal) 0 e) (joined-through (done .state) memory j)
+-- By the number of a refusal.
+pub answered-through : {n : ℕ} {bytes out : List ℕ} {r : ℕ} {out′ : List ℕ} (number : ℕ) (state : State) (memory : List ℤ) → number ≡ 0 → Joined n bytes out r out′
+    → jobYield (record { outcome = Through; state = state; length = r }) memory out′ ≡ answered number state memory bytes out
+unfolding answered
+answered-through number state memory e j = rw (eq-eqb number 0 e) (joined-through state memory j)
 
-pub code-refused : (done : Done) (fac sdc msc : List ℤ) (out : List ℕ) (memory : List ℤ) → (done .refusal ≡ 0 → ⊥)
-    → jobYield (record { outcome = Refused (done .refusal) 0; state = done .state; length = 0 }) memory out ≡ codeWritten (codeYield done memory fac sdc msc) out
-unfolding codeWritten refused
-code-refused done fac sdc msc out memory e = rw (ne-eqb (done .refusal) 0 e)
+pub answered-refused : (number : ℕ) (state : State) (memory : List ℤ) (bytes out : List ℕ) → (number ≡ 0 → ⊥) → refused number 0 state memory out ≡ answered number state memory bytes out
+unfolding answered
+answered-refused number state memory bytes out h = rw (ne-eqb number 0 h)
 
 pub read-through : {n : ℕ} (reading : Reading) (fac sdc msc : List ℕ) (out : List ℕ) (k r : ℕ) (out′ : List ℕ) (memory : List ℤ) (a : Answer) → a ≡ Finished k
     → Joined n (blockOutput fac sdc k msc) out r out′

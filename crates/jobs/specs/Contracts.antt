@@ -1,15 +1,17 @@
 -- What inner functions require and promise: nothing of the papers is stated here.
-use Prim.Native.Nat.{ℕ, _+_, _*_, _≤_}
+use Prim.Native.Nat.{ℕ, _+_, _-_, _*_, _/_, _≤_}
 use mathlib.Core.Path.{_≡_}
 use mathlib.Core.List.{List}
-use lib.ListN.{length}
+use lib.ListN.{length, take}
 use lib.IntN.{ℤ}
+use Rattle.settings.specs.declared.Settings.{Settings}
 use Rattle.settings.specs.declared.Sizes.{Sizes}
 use Rattle.settings.specs.Sizes.{sizesOf}
 use Rattle.superframe.specs.declared.State.{State}
 use Rattle.console.specs.declared.Job.{Job}
 use Rattle.jobs.specs.declared.sizes.Space.{Space}
-use Rattle.jobs.specs.SuperFrame.{inputLength, outputLength}
+use Rattle.jobs.specs.Cells.{bytesCells}
+use Rattle.jobs.specs.SuperFrame.{gridLength, inputLength, outputLength}
 
 -- Room for the cells of a super frame, and for their bytes.
 pub record CodeRoom (at : ℕ) (bytes : List ℕ) (fac sdc msc : List ℤ) (out : List ℕ) : Type 0 where
@@ -23,18 +25,29 @@ pub record ReadRoom (at : ℕ) (cells : List ℤ) (fac sdc msc out : List ℕ) :
   pub last : at ≤ length cells
   pub room : length fac + length sdc + 1 + length msc ≤ length out
 
+-- The cells of a super frame, of which those of the MSC start at a place, and room for the bytes of a grid.
+pub record GridRoom (at : ℕ) (cells grid : List ℤ) (out : List ℕ) : Type 0 where
+  pub first : 390 ≤ at
+  pub last : at ≤ length cells
+  pub room : 2 * length grid ≤ length out
+
 -- The sizes of accepted settings, an input of a super frame's length, and an output with room.
 pub record Lent (job : Job) (state : State) (z : Sizes) (bytes out : List ℕ) : Type 0 where
   pub sizes : z ≡ sizesOf (state .settings)
   pub accepted : z .refusal ≡ 0
-  pub input : length bytes ≡ inputLength job z
-  pub output : outputLength job z ≤ length out
+  pub input : length bytes ≡ inputLength job z (gridLength (state .settings))
+  pub output : outputLength job z (gridLength (state .settings)) ≤ length out
 
 pub record CellsLent (state : State) (z : Sizes) (cells : List ℤ) (out : List ℕ) : Type 0 where
   pub sizes : z ≡ sizesOf (state .settings)
   pub accepted : z .refusal ≡ 0
   pub input : length cells ≡ z .facnumbers + (z .sdcnumbers + z .mscnumbers)
   pub output : 27 + (z .sdcbytes + z .mscbytes) + 1 ≤ length out
+
+-- The numbers of bytes at the start of a buffer.
+pub record Numbers (bytes : List ℕ) (buffer : List ℤ) : Type 0 where
+  pub front : take (length bytes / 2 - 0) buffer ≡ bytesCells bytes
+  pub long : length buffer ≡ 62235
 
 -- No settings need more.
 pub record Enough (z : Sizes) : Type 0 where
@@ -46,8 +59,8 @@ pub record Enough (z : Sizes) : Type 0 where
   pub memory : z .memory ≤ 61180
 
 -- Nor more than the program has.
-pub record Rooms (job : Job) (z : Sizes) (r : Space) : Type 0 where
-  pub input : r .input ≡ inputLength job z
-  pub memory : r .memory ≡ z .memory
-  pub inputmost : r .input ≤ 77588
+pub record Rooms (job : Job) (s : Settings) (r : Space) : Type 0 where
+  pub input : r .input ≡ inputLength job (sizesOf s) (gridLength s)
+  pub memory : r .memory ≡ sizesOf s .memory
+  pub inputmost : r .input ≤ 124470
   pub memorymost : r .memory ≤ 61180

@@ -1,4 +1,4 @@
--- What the jobs `code` and `read` make of a super frame, by the definitions of Code and Read.
+-- What the jobs `code`, `read`, `grid` and `ungrid` make of a super frame, by the definitions of the calls.
 use Prim.Native.Nat.{ℕ, _+_, _*_}
 use mathlib.Core.Bool.{cond}
 use mathlib.Core.List.{List}
@@ -15,10 +15,13 @@ use Rattle.superframe.specs.Code.{CodeCall, CodeYield, codeOf}
 use Rattle.superframe.specs.Read.{ReadCall, ReadYield, readOf}
 use Rattle.cellrows.specs.Refusals.{lengthRefusal}
 use Rattle.console.specs.declared.Job.{Job}
-use Rattle.console.specs.declared.Job.the-variants.{Code, Read}
+use Rattle.settings.specs.declared.Settings.{Settings}
+use Rattle.grid.specs.Places.{Cells}
+use Rattle.grid.specs.Calls.{gridSizes, PlaceYield, placeOf, TakeYield, takeOf}
+use Rattle.console.specs.declared.Job.the-variants.{Code, Read, Grid, Ungrid}
 use Rattle.console.specs.declared.Outcome.the-variants.{Through, Refused}
 use Rattle.jobs.specs.declared.Step.{Step}
-use Rattle.jobs.specs.Cells.{bytesCells}
+use Rattle.jobs.specs.Cells.{cellBytes, bytesCells}
 use Rattle.jobs.specs.Output.{cellOutput, blockOutput}
 
 -- All that a job yields for a super frame: its answer, and memory and the output buffer as it leaves them.
@@ -47,14 +50,22 @@ blocksLength z = 27 + (z .sdcbytes + z .mscbytes)
 unfoldable pub cellsLength : Sizes → ℕ
 cellsLength z = 2 * (z .facnumbers + (z .sdcnumbers + z .mscnumbers))
 
--- What comes in for a super frame, and the most that goes out.
-unfoldable pub inputLength : Job → Sizes → ℕ
-inputLength Code z = blocksLength z
-inputLength Read z = cellsLength z
+-- The bytes of a grid.
+unfoldable pub gridLength : Settings → ℕ
+gridLength s = 2 * gridSizes s .numbers
 
-unfoldable pub outputLength : Job → Sizes → ℕ
-outputLength Code z = cellsLength z
-outputLength Read z = blocksLength z + 1
+-- What comes in for a super frame, and the most that goes out: by the sizes of the settings and the bytes of a grid.
+unfoldable pub inputLength : Job → Sizes → ℕ → ℕ
+inputLength Code z grid = blocksLength z
+inputLength Read z grid = cellsLength z
+inputLength Grid z grid = cellsLength z
+inputLength Ungrid z grid = grid
+
+unfoldable pub outputLength : Job → Sizes → ℕ → ℕ
+outputLength Code z grid = cellsLength z
+outputLength Read z grid = blocksLength z + 1
+outputLength Grid z grid = grid
+outputLength Ungrid z grid = cellsLength z
 
 -- `code`: FAC, SDC and MSC, one behind the other, and working buffers for their cells.
 unfoldable pub codeLent : Sizes → List ℕ → CodeCall
@@ -68,11 +79,13 @@ codeLent z bytes =
       msccells = replicate (z .mscnumbers) (pos 0);
     }
 
+-- What goes out by the number of a refusal, 0 for acceptance.
+unfoldable pub answered : ℕ → State → List ℤ → List ℕ → List ℕ → JobYield
+answered number state memory bytes out = cond (eqb number 0) (through state memory bytes out) (refused number 0 state memory out)
+
 unfoldable pub codeWritten : CodeYield → List ℕ → JobYield
 codeWritten y out =
-    cond (eqb (y .done .refusal) 0)
-    (through (y .done .state) (y .memory) (cellOutput (y .faccells) (y .sdccells) (y .msccells)) out)
-    (refused (y .done .refusal) 0 (y .done .state) (y .memory) out)
+    answered (y .done .refusal) (y .done .state) (y .memory) (cellOutput (y .faccells) (y .sdccells) (y .msccells)) out
 
 -- `read`: the cells of FAC, SDC and MSC, and working buffers for their bytes.
 unfoldable pub readLent : Sizes → List ℤ → ReadCall
@@ -93,16 +106,45 @@ readWritten (Answer·Refused number block) y out = refused number block (y .read
 unfoldable pub readAnswered : ReadYield → List ℕ → JobYield
 readAnswered y out = readWritten (y .reading .answer) y out
 
+-- `grid`: the same cells, and a grid that is placed; `ungrid`: a grid, and the cells that are taken off it. State and memory stay as they were. 02, S-4.
+unfoldable pub cellsIn : Sizes → List ℤ → Cells
+cellsIn z cells =
+    record { fac = take 390 cells; sdc = take (z .sdcnumbers) (drop 390 cells); msc = drop (390 + z .sdcnumbers) cells }
+
+unfoldable pub blankCells : Sizes → Cells
+blankCells z =
+    record {
+      fac = replicate 390 (pos 0);
+      sdc = replicate (z .sdcnumbers) (pos 0);
+      msc = replicate (z .mscnumbers) (pos 0);
+    }
+
+unfoldable pub gridWritten : PlaceYield → State → List ℤ → List ℕ → JobYield
+gridWritten y state memory out = answered (y .answer) state memory (cellBytes (y .grid)) out
+
+unfoldable pub cellsWritten : TakeYield → State → List ℤ → List ℕ → JobYield
+cellsWritten y state memory out =
+    answered (y .answer) state memory (cellOutput (y .cells .fac) (y .cells .sdc) (y .cells .msc)) out
+
 -- The call of a job on buffers of the right lengths.
 unfoldable pub jobCall : Job → State → List ℤ → List ℕ → List ℕ → JobYield
 jobCall Code state memory bytes out = codeWritten (codeOf state memory (codeLent (sizesOf (state .settings)) bytes)) out
 jobCall Read state memory bytes out = readAnswered (readOf state memory (readLent (sizesOf (state .settings)) (bytesCells bytes))) out
+jobCall Grid state memory bytes out =
+    gridWritten
+    (placeOf (state .settings) (cellsIn (sizesOf (state .settings)) (bytesCells bytes)) (replicate (gridSizes (state .settings) .numbers) (pos 0)))
+    state
+    memory
+    out
+jobCall Ungrid state memory bytes out =
+    cellsWritten (takeOf (state .settings) (bytesCells bytes) (blankCells (sizesOf (state .settings)))) state memory out
 
 -- 1 to 10: an input of a super frame's length, and an output with room.
 unfoldable pub jobRefusal : Job → State → List ℤ → List ℕ → List ℕ → ℕ
 jobRefusal job state memory bytes out =
     let z = sizesOf (state .settings) in
-    lengthRefusal z (length memory) (eqb (length bytes) (inputLength job z)) (leb (outputLength job z) (length out))
+    let grid = gridLength (state .settings) in
+    lengthRefusal z (length memory) (eqb (length bytes) (inputLength job z grid)) (leb (outputLength job z grid) (length out))
 
 -- What a job yields for a super frame, for every input.
 unfoldable pub jobOf : Job → State → List ℤ → List ℕ → List ℕ → JobYield

@@ -45,16 +45,16 @@ pub fn msc_cells() -> [i16; 36712]
     [0i16; 36712]
 }
 
-// The cells of a super frame: FAC, SDC and MSC.
-pub fn cells() -> [i16; 38794]
-    ensures { λ r. ⌜ r ≡ replicate 38794 (pos 0) ⌝ }
+// The numbers of a grid, which are more than those of a super frame's cells.
+pub fn numbers() -> [i16; 62235]
+    ensures { λ r. ⌜ r ≡ replicate 62235 (pos 0) ⌝ }
 {
-    [0i16; 38794]
+    [0i16; 62235]
 }
 
 // Their bytes.
-pub fn cell_bytes() -> [u8; 77588]
-    ensures { λ r. ⌜ r ≡ replicate 77588 0 ⌝ }
+pub fn number_bytes() -> [u8; 124470]
+    ensures { λ r. ⌜ r ≡ replicate 124470 0 ⌝ }
 {
-    [0u8; 77588]
+    [0u8; 124470]
 }

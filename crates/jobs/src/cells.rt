@@ -1,10 +1,12 @@
 // Cells as bytes: 16-bit two's-complement numbers, low byte first.
+use crate::buffers;
 ghost use mathlib.Core.Path.{_≡_};
 ghost use mathlib.Core.Bool.{cond};
 ghost use Prim.Native.Nat.{_+_, _*_, _/_, _%_, _≤_};
 ghost use lib.ListN.{length};
 ghost use lib.Seq.{sets};
 ghost use lib.Dec.{eqb};
+ghost use Rattle.jobs.specs.Contracts.{Numbers};
 ghost use Rattle.jobs.specs.Cells.{unsigned, signed, cellBytes, bytesCells};
 
 // The number from 0 to 65535 that stands for a signed one.
@@ -67,4 +69,14 @@ pub fn take_cells(bytes: &[u8], cells: &mut [i16])
         cells[i] = signed(number_of(bytes[2 * i], bytes[2 * i + 1]));
         i += 1;
     }
+}
+
+// The numbers of bytes, at the start of a buffer.
+pub fn numbers_in(bytes: &[u8]) -> [i16; 62235]
+    requires { ⌜ length (now bytes) ≤ 124470 ⌝ }
+    ensures { λ r. ⌜ Numbers (now (bytes .entry)) r ⌝ }
+{
+    let mut cells = buffers::numbers();
+    take_cells(bytes, &mut cells);
+    cells
 }

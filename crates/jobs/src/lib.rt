@@ -1,6 +1,7 @@
 // The desk's jobs: what each does with a super frame. The program `desk` only reads, calls and writes.
 pub mod buffers;
 pub mod cells;
+pub mod grids;
 pub mod output;
 pub mod sizes;
 pub mod superframes;

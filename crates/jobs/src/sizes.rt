@@ -4,8 +4,7 @@ use settings::Settings;
 use settings::Sizes;
 use settings::answers;
 ghost use mathlib.Core.Path.{_≡_};
-ghost use Rattle.settings.specs.Sizes.{sizesOf};
-ghost use Rattle.jobs.specs.SuperFrame.{blocksLength, cellsLength, inputLength, outputLength};
+ghost use Rattle.jobs.specs.SuperFrame.{blocksLength, cellsLength, gridLength, inputLength, outputLength};
 ghost use Rattle.jobs.specs.Contracts.{Rooms};
 
 // What a program lends for a super frame of settings: bytes of input, and numbers of memory.
@@ -28,31 +27,43 @@ fn cells_length(z: Sizes) -> usize
     2 * (z.facnumbers as usize + (z.sdcnumbers as usize + z.mscnumbers as usize))
 }
 
-pub fn input_length(job: Job, z: Sizes) -> usize
-    ensures { λ r. ⌜ r ≡ inputLength job z ⌝ }
+// The bytes of a grid.
+pub fn grid_length(s: Settings) -> usize
+    ensures { λ r. ⌜ r ≡ gridLength s ⌝ }
+{
+    let z = grid::calls::sizes(s);
+    2 * z.numbers as usize
+}
+
+pub fn input_length(job: Job, z: Sizes, grid: usize) -> usize
+    ensures { λ r. ⌜ r ≡ inputLength job z grid ⌝ }
 {
     match job {
         Job::Code => blocks_length(z),
         Job::Read => cells_length(z),
+        Job::Grid => cells_length(z),
+        Job::Ungrid => grid,
     }
 }
 
-pub fn output_length(job: Job, z: Sizes) -> usize
-    ensures { λ r. ⌜ r ≡ outputLength job z ⌝ }
+pub fn output_length(job: Job, z: Sizes, grid: usize) -> usize
+    ensures { λ r. ⌜ r ≡ outputLength job z grid ⌝ }
 {
     match job {
         Job::Code => cells_length(z),
         Job::Read => blocks_length(z) + 1,
+        Job::Grid => grid,
+        Job::Ungrid => cells_length(z),
     }
 }
 
 // The part of the largest buffers that settings need.
 pub fn room(job: Job, s: Settings) -> Space
-    ensures { λ r. ⌜ Rooms job (sizesOf s) r ⌝ }
+    ensures { λ r. ⌜ Rooms job s r ⌝ }
 {
     let z = answers::sizes(s);
     Space {
-        input: input_length(job, z),
+        input: input_length(job, z, grid_length(s)),
         memory: z.memory as usize,
     }
 }

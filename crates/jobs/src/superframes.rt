@@ -1,9 +1,12 @@
-// A super frame of the jobs `code` and `read`: bytes in, bytes out.
+// A super frame of a job: bytes in, bytes out.
 use crate::Step;
 use crate::buffers;
-use crate::cells::take_cells;
+use crate::cells::numbers_in;
+use crate::grids::place_bytes;
+use crate::grids::take_bytes;
 use crate::output::join_blocks;
 use crate::output::join_cells;
+use crate::sizes::grid_length;
 use crate::sizes::input_length;
 use crate::sizes::output_length;
 use cellrows::refusal::length_refusal;
@@ -14,36 +17,50 @@ use readcall::read::read;
 use settings::Sizes;
 use settings::answers;
 use superframe::Answer;
-use superframe::Done;
 use superframe::Reading;
 use superframe::State;
 ghost use mathlib.Core.Path.{_≡_};
-ghost use Prim.Native.Nat.{_+_, _*_, _-_, _≤_};
+ghost use Prim.Native.Nat.{ℕ, _+_, _*_, _-_, _≤_};
 ghost use mathlib.Core.List.{List};
 ghost use lib.ListN.{length, take, drop};
 ghost use lib.IntN.{ℤ};
 ghost use Rattle.superframe.specs.Code.{codeOf};
 ghost use Rattle.superframe.specs.Read.{readOf};
-ghost use Rattle.codecall.specs.Yields.{codeCall, codeYield};
+ghost use Rattle.codecall.specs.Yields.{codeCall};
 ghost use Rattle.readblocks.specs.Finishing.{readCall};
 ghost use Rattle.readcall.specs.Working.{readYield};
-ghost use Rattle.jobs.specs.Contracts.{CodeRoom, ReadRoom, Lent, CellsLent};
-ghost use Rattle.jobs.specs.SuperFrame.{jobYield, codeWritten, readWritten, readAnswered, readLent, jobCall, jobOf};
+ghost use Rattle.jobs.specs.Contracts.{CodeRoom, ReadRoom, Lent};
+ghost use Rattle.jobs.specs.SuperFrame.{jobYield, answered, refused as SuperFrame·refused, codeWritten, readWritten, readAnswered, jobCall, jobOf};
+ghost use Rattle.jobs.specs.Output.{cellOutput};
 
-// What the output is after Code: the bytes of the cells, or nothing where the call was refused.
-fn write_coded(done: Done, fac: &[i16], sdc: &[i16], msc: &[i16], out: &mut [u8]) -> Step
+// Nothing is written where a call was refused.
+pub fn refused(number: u8, state: State) -> Step
+    ensures { λ r. ⌜ ((memory : List ℤ) (out : List ℕ) → jobYield r memory out ≡ SuperFrame·refused number 0 state memory out) ⌝ }
+    ensures { λ r. ⌜ r .length ≡ 0 ⌝ }
+{
+    Step {
+        outcome: Outcome::Refused(number, 0),
+        state,
+        length: 0,
+    }
+}
+
+// What the output is after Code and after taking: the bytes of the cells, or nothing where the call was refused.
+pub fn write_cells(
+    number: u8,
+    state: State,
+    fac: &[i16],
+    sdc: &[i16],
+    msc: &[i16],
+    out: &mut [u8],
+) -> Step
     requires { ⌜ 2 * length (now fac) + 2 * length (now sdc) + 2 * length (now msc) ≤ length (now out) ⌝ }
     ensures { λ r. ⌜ ((memory : List ℤ) → jobYield r memory (now (out .exit))
-        ≡ codeWritten (codeYield done memory (now (fac .entry)) (now (sdc .entry)) (now (msc .entry))) (now (out .entry))) ⌝ }
+        ≡ answered number state memory (cellOutput (now (fac .entry)) (now (sdc .entry)) (now (msc .entry))) (now (out .entry))) ⌝ }
     ensures { λ r. ⌜ r .length ≤ length (now (out .entry)) ⌝ }
 {
-    let state = done.state;
-    if done.refusal != 0 {
-        return Step {
-            outcome: Outcome::Refused(done.refusal, 0),
-            state,
-            length: 0,
-        };
+    if number != 0 {
+        return refused(number, state);
     }
     let length = join_cells(fac, sdc, msc, out);
     Step {
@@ -83,7 +100,8 @@ fn code_with(
         sdc,
         msc,
     );
-    write_coded(done, fac, sdc, msc, out)
+    let after = done.state;
+    write_cells(done.refusal, after, fac, sdc, msc, out)
 }
 
 // The job `code` on buffers of the right lengths.
@@ -169,12 +187,14 @@ fn read_with(
     write_read(reading, fac, sdc, msc, out)
 }
 
-// The job `read` on cells and buffers of the right lengths.
-fn read_cells(state: State, z: Sizes, cells: &[i16], memory: &mut [i16], out: &mut [u8]) -> Step
-    requires { ⌜ CellsLent state z (now cells) (now out) ⌝ }
-    ensures { λ r. ⌜ jobYield r (now (memory .exit)) (now (out .exit)) ≡ readAnswered (readOf state (now (memory .entry)) (readLent z (now (cells .entry)))) (now (out .entry)) ⌝ }
+// The job `read` on buffers of the right lengths.
+fn read_bytes(state: State, z: Sizes, bytes: &[u8], memory: &mut [i16], out: &mut [u8]) -> Step
+    requires { ⌜ Lent Job.Read state z (now bytes) (now out) ⌝ }
+    ensures { λ r. ⌜ jobYield r (now (memory .exit)) (now (out .exit)) ≡ jobCall Job.Read state (now (memory .entry)) (now (bytes .entry)) (now (out .entry)) ⌝ }
     ensures { λ r. ⌜ r .length ≤ length (now (out .entry)) ⌝ }
 {
+    let cells = numbers_in(bytes);
+    let end = bytes.len() / 2;
     let mut fac = buffers::fac_bytes();
     let mut sdc = buffers::sdc_bytes();
     let mut msc = buffers::msc_bytes();
@@ -183,7 +203,7 @@ fn read_cells(state: State, z: Sizes, cells: &[i16], memory: &mut [i16], out: &m
     let m = z.mscbytes as usize;
     read_with(
         state,
-        cells,
+        &cells[0..end],
         at,
         memory,
         &mut fac,
@@ -193,39 +213,26 @@ fn read_cells(state: State, z: Sizes, cells: &[i16], memory: &mut [i16], out: &m
     )
 }
 
-// The same from the bytes of the cells.
-fn read_bytes(state: State, z: Sizes, bytes: &[u8], memory: &mut [i16], out: &mut [u8]) -> Step
-    requires { ⌜ Lent Job.Read state z (now bytes) (now out) ⌝ }
-    ensures { λ r. ⌜ jobYield r (now (memory .exit)) (now (out .exit)) ≡ jobCall Job.Read state (now (memory .entry)) (now (bytes .entry)) (now (out .entry)) ⌝ }
-    ensures { λ r. ⌜ r .length ≤ length (now (out .entry)) ⌝ }
-{
-    let mut cells = buffers::cells();
-    take_cells(bytes, &mut cells);
-    let end = bytes.len() / 2;
-    read_cells(state, z, &cells[0..end], memory, out)
-}
-
 // A super frame of a job: its bytes come in, and what is to be written stands first in the output; a refusal leaves everything as it was.
 pub fn step(job: Job, state: State, bytes: &[u8], memory: &mut [i16], out: &mut [u8]) -> Step
     ensures { λ r. ⌜ jobYield r (now (memory .exit)) (now (out .exit)) ≡ jobOf job state (now (memory .entry)) (now (bytes .entry)) (now (out .entry)) ⌝ }
     ensures { λ r. ⌜ r .length ≤ length (now (out .entry)) ⌝ }
 {
     let z = answers::sizes(state.settings);
+    let grid = grid_length(state.settings);
     let number = length_refusal(
         z,
         memory.len(),
-        bytes.len() == input_length(job, z),
-        output_length(job, z) <= out.len(),
+        bytes.len() == input_length(job, z, grid),
+        output_length(job, z, grid) <= out.len(),
     );
     if number != 0 {
-        return Step {
-            outcome: Outcome::Refused(number, 0),
-            state,
-            length: 0,
-        };
+        return refused(number, state);
     }
     match job {
         Job::Code => code_bytes(state, z, bytes, memory, out),
         Job::Read => read_bytes(state, z, bytes, memory, out),
+        Job::Grid => place_bytes(state, z, bytes, out),
+        Job::Ungrid => take_bytes(state, z, bytes, out),
     }
 }

@@ -9,17 +9,21 @@ returns : tie.Need-returns
 unfolding named bytesIn table
 returns c =
     rw (
-      c .either5 .ensures,
-      c .before .same-bytes5 .ensures,
-      c .before .before .before .either4 .ensures,
-      c .before .before .before .before .same-bytes4 .ensures,
-      c .before .before .before .before .before .before .either3 .ensures,
-      c .before .before .before .before .before .before .before .same-bytes3 .ensures,
-      c .before .before .before .before .before .before .before .before .before .either2 .ensures,
-      c .before .before .before .before .before .before .before .before .before .before .same-bytes2 .ensures,
-      c .before .before .before .before .before .before .before .before .before .before .before .before .either .ensures,
-      c .before .before .before .before .before .before .before .before .before .before .before .before .before .same-bytes .ensures,
+      c .either7 .ensures,
+      c .before .same-bytes7 .ensures,
+      c .before .before .before .either6 .ensures,
+      c .before .before .before .before .same-bytes6 .ensures,
+      c .before .before .before .before .before .before .either5 .ensures,
+      c .before .before .before .before .before .before .before .same-bytes5 .ensures,
+      c .before .before .before .before .before .before .before .before .before .either4 .ensures,
+      c .before .before .before .before .before .before .before .before .before .before .same-bytes4 .ensures,
+      c .before .before .before .before .before .before .before .before .before .before .before .before .either3 .ensures,
+      c .before .before .before .before .before .before .before .before .before .before .before .before .before .same-bytes3 .ensures,
+      c .before .before .before .before .before .before .before .before .before .before .before .before .before .before .before .either2 .ensures,
+      c .before .before .before .before .before .before .before .before .before .before .before .before .before .before .before .before .same-bytes2 .ensures,
+      c .before .before .before .before .before .before .before .before .before .before .before .before .before .before .before .before .before .before .either .ensures,
+      c .before .before .before .before .before .before .before .before .before .before .before .before .before .before .before .before .before .before .before .same-bytes .ensures,
     )
 
 pub named-spec : {M : Type 1} → statement M
-named-spec = tie.close (tie.spec (λ c. search needs) (λ c κs. search needs) (λ c κs. search needs) (λ c. search needs) (λ c κs. search needs) (λ c κs. search needs) (λ c. search needs) (λ c κs. search needs) (λ c κs. search needs) (λ c. search needs) (λ c κs. search needs) (λ c κs. search needs) (λ c. search needs) (λ c κs. search needs) (λ c κs. search needs) returns)
+named-spec = tie.close (tie.spec (λ c. search needs) (λ c κs. search needs) (λ c κs. search needs) (λ c. search needs) (λ c κs. search needs) (λ c κs. search needs) (λ c. search needs) (λ c κs. search needs) (λ c κs. search needs) (λ c. search needs) (λ c κs. search needs) (λ c κs. search needs) (λ c. search needs) (λ c κs. search needs) (λ c κs. search needs) (λ c. search needs) (λ c κs. search needs) (λ c κs. search needs) (λ c. search needs) (λ c κs. search needs) (λ c κs. search needs) returns)

@@ -1,75 +1,37 @@
 use borrow.Author.Needs.{needs}
-use mathlib.Core.Path.{refl, ap, _∙_}
-use lib.ListN.{length}
-use lib.Seq.{length-sets}
-use Rattle.jobs.specs.Cells.{bytesCells}
 use native.Mathlib.Omega.{arith}
-use Rattle.jobs.proofs.Calls.{cells-long, cells-lent, front-cells, read-called}
+use Rattle.console.specs.declared.Job.the-variants.{Read}
+use Rattle.jobs.proofs.Rooms.{enough}
+use Rattle.jobs.proofs.Calls.{bytes-most, read-room, read-call, read-called}
 use Rattle.jobs.proofs.superframes.read_bytes.Statement.{statement}
 use Rattle.jobs.proofs.superframes.read_bytes.Tie as tie
 
--- src/superframes.rt:185:21
-cells-requires : tie.Need-cells-requires
-cells-requires c κs = search needs
+numbers-in-requires : tie.Need-numbers-in-requires
+numbers-in-requires c κs = let a = c .before .before in bytes-most Read (a .args .state) _ _ _ (a .pre)
 
--- src/superframes.rt:186:23
-slice-aggregate-take-cells : tie.Need-slice-aggregate-take-cells
-slice-aggregate-take-cells c = search needs
+part-read-with-end : tie.Need-part-read-with-end
+part-read-with-end c = let a = c .before .before .before .before .before .before .before .before .before .before in omega (arith, bytes-most Read (a .args .state) _ _ _ (a .pre), c .before .before .before .before .before .before .before .numbers-in .ensures .long)
 
--- src/superframes.rt:186:5
-take-cells-requires : tie.Need-take-cells-requires
-take-cells-requires c κs =
-    let a = c .before .before .before .before in
-    omega (arith, cells-long (a .args .state) _ _ _ (a .pre), c .before .cells .ok)
+part-sdc-end : tie.Need-part-sdc-end
+part-sdc-end c = let p = c .before .before .before .before .before .before .before .before .before .before .before .before .before .pre in omega (arith, enough _ _ (p .sizes) (p .accepted) .sdcbytes, c .before .before .before .before .before .before .before .before .sdc-bytes .ok)
 
--- src/superframes.rt:188:26
-sub-read-cells : tie.Need-sub-read-cells
-sub-read-cells c = search needs
+part-msc-end : tie.Need-part-msc-end
+part-msc-end c = let p = c .before .before .before .before .before .before .before .before .before .before .before .before .before .before .pre in omega (arith, enough _ _ (p .sizes) (p .accepted) .mscbytes, c .before .before .before .before .before .before .before .before .msc-bytes .ok)
 
--- src/superframes.rt:188:26
-part-read-cells-start : tie.Need-part-read-cells-start
-part-read-cells-start c = search needs
+read-with-requires : tie.Need-read-with-requires
+read-with-requires c κs =
+    let a = c .before .before .before .before .before .before .before .before .before .before .before .before .before .before .before .before in
+    read-room (a .args .state) _ _ _ _ _ _ _ (a .pre) (c .before .before .before .before .before .before .before .before .before .before .before .before .before .numbers-in .ensures .front) (c .before .before .before .before .before .before .before .before .before .before .before .before .fac-bytes .ensures) (c .before .before .before .before .before .before .before .before .before .before .before .sdc-bytes .ensures) (c .before .before .before .before .before .before .before .before .before .before .msc-bytes .ensures)
 
--- src/superframes.rt:188:26
-part-read-cells-end : tie.Need-part-read-cells-end
-part-read-cells-end c =
-    let a = c .before .before .before .before .before .before .before in
-    let k = c .before .before .take-cells in
-    omega (arith, cells-long (a .args .state) _ _ _ (a .pre), ap length (k .ensures) ∙ length-sets (c .before .before .before .before .cells .result) 0 (bytesCells (a .args .bytes .now)), c .before .before .before .before .cells .ok)
-
--- src/superframes.rt:188:5
-read-cells-requires : tie.Need-read-cells-requires
-read-cells-requires c κs =
-    let a = c .before .before .before .before .before .before .before .before .before .before in
-    cells-lent (a .args .state) _ _ _ _ (a .pre) (front-cells _ _ _ _ refl (c .before .before .before .before .before .take-cells .ensures) (omega (arith, cells-long (a .args .state) _ _ _ (a .pre), c .before .before .before .before .before .before .before .cells .ok)))
-
--- src/superframes.rt:181:1
-same-length : tie.Need-same-length
-same-length c = search needs
-
--- src/superframes.rt:181:1
-same-length-2 : tie.Need-same-length-2
-same-length-2 c = search needs
-
--- src/superframes.rt:181:1
 returns : tie.Need-returns
 returns c =
-    let a = c .before .before .before .before .before .before .before .before .before .before .before .before .before .before in
-    let e = front-cells (a .args .bytes .now) _ _ _ refl (c .before .before .before .before .before .before .before .before .before .take-cells .ensures) (omega (arith, cells-long (a .args .state) _ _ _ (a .pre), c .before .before .before .before .before .before .before .before .before .before .before .cells .ok)) in
-    let w = c .before .before .before .read-cells .ensures in
-    (read-called (a .args .state) (a .args .z) _ _ (a .args .bytes .now) (a .args .out .now) _ (a .pre .sizes) e (w .0), w .1)
+    let a = c .before .before .before .before .before .before .before .before .before .before .before .before .before .before .before .before .before .before .before .before .before .before .before in
+    let w = c .before .before .before .before .before .before .read-with .ensures in
+    let h = enough _ _ (a .pre .sizes) (a .pre .accepted) in (
+      read-called (a .args .state) (a .args .z) _ _ (a .args .bytes .now) (a .args .out .now) _ _ (a .pre .sizes) (c .before .before .before .before .before .before .before .before .before .before .before .before .before .before .before .before .before .before .before .before .numbers-in .ensures .front)
+          (read-call _ _ _ _ _ h (c .before .before .before .before .before .before .before .before .before .before .before .before .before .before .before .before .before .before .before .fac-bytes .ensures) (c .before .before .before .before .before .before .before .before .before .before .before .before .before .before .before .before .before .before .sdc-bytes .ensures) (c .before .before .before .before .before .before .before .before .before .before .before .before .before .before .before .before .before .msc-bytes .ensures)) (w .0),
+      w .1,
+    )
 
 pub read-bytes-spec : {M : Type 1} → statement M
-read-bytes-spec =
-    tie.close
-    (tie.spec
-    cells-requires
-    slice-aggregate-take-cells
-    take-cells-requires
-    sub-read-cells
-    part-read-cells-start
-    part-read-cells-end
-    read-cells-requires
-    same-length
-    same-length-2
-    returns)
+read-bytes-spec = tie.close (tie.spec numbers-in-requires (λ c κs. search needs) (λ c κs. search needs) (λ c κs. search needs) (λ c. search needs) (λ c. search needs) (λ c. search needs) (λ c. search needs) (λ c. search needs) (λ c. search needs) part-read-with-end (λ c. search needs) (λ c. search needs) (λ c. search needs) part-sdc-end (λ c. search needs) (λ c. search needs) part-msc-end read-with-requires (λ c. search needs) (λ c. search needs) returns)
