@@ -10,10 +10,10 @@
 
 #include "drmcoder.h"
 
-enum { STACK = 8 * 1024 * 1024, PAINT = 0xA5, CALLS = 11 };
+enum { STACK = 8 * 1024 * 1024, PAINT = 0xA5, CALLS = 12 };
 
-static const char *const names[CALLS] = {"lengths", "sizes", "reset", "code", "read", "nearest",
-                                         "fac_build", "fac_read", "grid_sizes", "grid_place", "grid_take"};
+static const char *const names[CALLS] = {"lengths", "sizes", "reset", "code", "read", "nearest", "fac_build",
+                                         "fac_read", "grid_sizes", "grid_place", "grid_take", "decide"};
 static unsigned char *stack;
 
 /* What the calls are lent; all bits are zero. */
@@ -27,6 +27,9 @@ static uint8_t received[DRM_FAC_VALUES], block[DRM_FAC_BLOCK_BYTES];
 static uint16_t disagreement[1];
 static uint32_t fields[DRM_FAC_FIELDS], of_grid[DRM_GRID_SIZES];
 static int16_t grid[DRM_MOST_GRID_NUMBERS];
+static uint8_t measured_kinds[DRM_FAC_CELLS], measured_bits[6 * DRM_FAC_CELLS];
+static float measured[2 * DRM_FAC_CELLS];
+static int16_t points[2 * DRM_FAC_CELLS];
 static unsigned answer;
 
 /* Bodies of the threads. */
@@ -99,6 +102,13 @@ static void *call_grid_take(void *unused) {
     return unused;
 }
 
+/* As many cells as the FAC has, decided as MSC cells: 16-QAM in MSC mode 3, else 64-QAM. */
+static void *call_decide(void *unused) {
+    answer = drm_decide_msc(settings, sizeof settings, measured_kinds, DRM_FAC_CELLS, measured, 2 * DRM_FAC_CELLS, points,
+                            2 * DRM_FAC_CELLS, measured_bits, (settings[2] == 3 ? 4 : 6) * DRM_FAC_CELLS);
+    return unused;
+}
+
 static void must(int holds, const char *what) {
     if (!holds) {
         fprintf(stderr, "%s\n", what);
@@ -127,8 +137,8 @@ static void measure(size_t deepest[CALLS]) {
     static void *(*const bodies[])(void *) = {call_lengths, call_sizes, call_reset, call_code,  call_code,
                                               call_code,    call_reset, call_read,  call_read, call_read,
                                               call_nearest, call_fac_build, call_fac_read, call_grid_sizes,
-                                              call_grid_place, call_grid_take};
-    static const int kinds[] = {0, 1, 2, 3, 3, 3, 2, 4, 4, 4, 5, 6, 7, 8, 9, 10};
+                                              call_grid_place, call_grid_take, call_decide};
+    static const int kinds[] = {0, 1, 2, 3, 3, 3, 2, 4, 4, 4, 5, 6, 7, 8, 9, 10, 11};
     size_t empty = depth(nothing), k;
     for (k = 0; k < sizeof kinds / sizeof kinds[0]; k++) {
         size_t used = depth(bodies[k]) - empty;

@@ -234,11 +234,44 @@ static void nearest(void) {
     printf("nearest FAC block: found with 13 bits unknown and %d wrong\n", wrong);
 }
 
+/* The same block as a front end measures it: noise on every cell, three numbers with a wrong sign, eight fades. */
+static void measured(const uint8_t *settings) {
+    uint8_t kinds[DRM_FAC_CELLS], bits[DRM_FAC_VALUES], block[DRM_FAC_BLOCK_BYTES];
+    float values[2 * DRM_FAC_CELLS];
+    int16_t points[2 * DRM_FAC_CELLS];
+    uint16_t wrong = 99;
+    size_t i;
+    for (i = 0; i < 2 * DRM_FAC_CELLS; i++)
+        values[i] = (float)cells.fac[i] + (float)(i * 37 % 19) / 10.0f - 0.9f;
+    for (i = 0; i < DRM_FAC_CELLS; i++)
+        kinds[i] = i % 8 == 3 ? DRM_FADE : DRM_PAIR;
+    for (i = 3; i < DRM_FAC_CELLS; i += 8)
+        values[2 * i] = 0.01f; /* the gain */
+    values[20] = (float)-cells.fac[20];
+    values[75] = (float)-cells.fac[75];
+    values[100] = (float)-cells.fac[100];
+    must(drm_decide_fac(settings, DRM_SETTINGS_BYTES, kinds, DRM_FAC_CELLS, values, 2 * DRM_FAC_CELLS, points,
+                        2 * DRM_FAC_CELLS, bits, DRM_FAC_VALUES) == DRM_ACCEPTED, "measured cells are decided");
+    for (i = 0; i < 2 * DRM_FAC_CELLS; i++) {
+        if (kinds[i / 2] == DRM_FADE)
+            must(points[i] == 0 && bits[i] == 2, "a fade gives (0, 0) and unknown bits");
+        else
+            must(points[i] == 1 - 2 * bits[i], "bits and point agree");
+    }
+    must(drm_fac_nearest(bits, DRM_FAC_VALUES, block, sizeof block, &wrong, 1) == DRM_ACCEPTED, "a block is found");
+    must(memcmp(block, brought.fac, sizeof block) == 0 && wrong == 3, "it is the block brought, with three wrong bits");
+    values[6] = -1.0f;
+    must(drm_decide_fac(settings, DRM_SETTINGS_BYTES, kinds, DRM_FAC_CELLS, values, 2 * DRM_FAC_CELLS, points,
+                        2 * DRM_FAC_CELLS, bits, DRM_FAC_VALUES) == DRM_REFUSED_MEASURED, "a gain below zero is refused");
+    printf("measured FAC cells: decided with noise and 8 fades, block found with %d wrong bits\n", wrong);
+}
+
 int main(void) {
     size_t k;
     for (k = 0; k < sizeof runs / sizeof runs[0]; k++)
         run(runs[k]);
     nearest();
+    measured(runs[sizeof runs / sizeof runs[0] - 1]);
     printf("all as it must be\n");
     return 0;
 }

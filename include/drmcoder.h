@@ -6,7 +6,7 @@
  *
  * Slices
  *   Every buffer is a slice: a pointer, and in the next argument its number of elements (not of bytes). A pointer
- *   is never null, is aligned for its type (2 bytes for int16_t and uint16_t, 4 for uint32_t, no more is asked) and is
+ *   is never null, is aligned for its type (2 bytes for int16_t and uint16_t, 4 for uint32_t and float, no more is asked) and is
  *   good for all its elements. Within one call a slice that is not const overlaps no other slice; const ones
  *   may overlap each other. Slices are lent for the time of the call only.
  *
@@ -65,6 +65,7 @@
  *    16  an FAC block with a wrong CRC
  *    17  a grid of the wrong length
  *    21  a value lent to drm_fac_nearest is above 2
+ *    22  a measured float that is infinite or not a number, or a fade's gain that is, or is below zero
  *   255  a settings, state, lengths or sizes slice of the wrong length; this goes before all others
  *
  * Fields of an FAC block: fourteen numbers, with their bits (clauses 6.3.3 and 6.3.4 of the standard)
@@ -97,6 +98,7 @@ enum {
     DRM_FAC_BLOCK_BYTES = 9,
     DRM_FAC_FIELDS = 14,
     DRM_FAC_VALUES = 130,
+    DRM_FAC_CELLS = 65,
     DRM_GRID_SIZES = 3
 };
 
@@ -134,6 +136,7 @@ enum {
     DRM_REFUSED_CRC = 16,
     DRM_REFUSED_GRID_LENGTH = 17,
     DRM_REFUSED_VALUE = 21,
+    DRM_REFUSED_MEASURED = 22,
     DRM_REFUSED_SLICE = 255
 };
 
@@ -231,6 +234,34 @@ uint8_t drm_fac_read(const uint8_t *settings, size_t settings_len, const uint8_t
  */
 uint8_t drm_fac_nearest(const uint8_t *received, size_t received_len, uint8_t *block, size_t block_len,
                         uint16_t *disagreement, size_t disagreement_len);
+
+/*
+ * Measured cells, n of any channel, to points and bits. A cell is either a measured pair or a fade that carries only its
+ * gain. On each axis a pair is decided to the nearest coordinate of the constellation, the larger where two are equally
+ * near; minus zero counts as zero. The constellation is 4-QAM for the FAC, by the SDC mode for the SDC, by the MSC mode for
+ * the MSC. The bits are the level bits of the point, real axis i0, i1, i2, then imaginary axis i0, i1, i2, 1 to 3 an axis:
+ * 2 a cell in 4-QAM, 4 in 16-QAM, 6 in 64-QAM. A fade gives the point (0, 0) and bits that are all 2, for unknown.
+ * drm_fac_nearest takes the bits of 65 FAC cells as they are.
+ *   settings   10 bytes
+ *   kinds      n numbers: 0 a measured pair (DRM_PAIR), any other a fade; n may be 0
+ *   values     2 n floats: of a pair the real and the imaginary one, of a fade the gain and one that is not looked at
+ *   points     2 n numbers, real before imaginary, written if the answer is 0
+ *   bits       2, 4 or 6 times n values, each 0, 1 or 2, written if the answer is 0
+ * Answers 0, 1 to 7, 9 (values of a wrong length), 10 (points or bits of a wrong length), 22 or 255.
+ */
+enum { DRM_PAIR = 0, DRM_FADE = 1 };
+
+uint8_t drm_decide_fac(const uint8_t *settings, size_t settings_len, const uint8_t *kinds, size_t kinds_len,
+                       const float *values, size_t values_len, int16_t *points, size_t points_len,
+                       uint8_t *bits, size_t bits_len);
+
+uint8_t drm_decide_sdc(const uint8_t *settings, size_t settings_len, const uint8_t *kinds, size_t kinds_len,
+                       const float *values, size_t values_len, int16_t *points, size_t points_len,
+                       uint8_t *bits, size_t bits_len);
+
+uint8_t drm_decide_msc(const uint8_t *settings, size_t settings_len, const uint8_t *kinds, size_t kinds_len,
+                       const float *values, size_t values_len, int16_t *points, size_t points_len,
+                       uint8_t *bits, size_t bits_len);
 
 /*
  * Grids (clause 8). A grid has a row for each symbol of a transmission super frame, and in it a place for each carrier

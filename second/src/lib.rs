@@ -14,6 +14,7 @@ pub mod grid;
 pub mod interleaver;
 pub mod lengths;
 pub mod mapping;
+pub mod measured;
 pub mod nearest;
 pub mod packing;
 pub mod rates;

@@ -1,4 +1,5 @@
 pub mod Lists
+pub mod Every
 pub mod Packing
 pub mod Dispersal
 pub mod Mapping

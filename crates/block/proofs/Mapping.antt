@@ -17,11 +17,12 @@ use Rattle.lists.proofs.Counting.{below-or}
 use Rattle.lists.proofs.Tables.{length-table, table-at, table-is}
 use Rattle.block.specs.Mapping.{coordinate, qam4, qam16, standard64, symmetric64, Constellation, constellation, axis, numberAt, mapped, weave, woven}
 use Rattle.lists.specs.Same.{sameNumber}
-use Rattle.block.specs.Points.{onAxis, every, arePoints}
+use Rattle.block.specs.Points.{onAxis, arePoints}
 use Rattle.block.specs.Reading.{placeOf, numbersOf, streamIn, unmapped}
 use Rattle.block.specs.Fits.{Streams, Labelling, Labels}
 use Rattle.lists.proofs.Same.{sameNumber-refl}
 use Rattle.block.proofs.Lists.{bits-table}
+use Rattle.block.proofs.Every.{every-table}
 use Rattle.block.proofs.Packing.{shr-suc}
 
 -- THE TEST that no two coordinates of a labelling are equal
@@ -227,11 +228,6 @@ onAxis-getD (w ∷ l) (suc i) h = rw (onAxis-getD l i (omega arith)) (or-true (s
     or-true : (b : Bool) → b || true ≡ true
     or-true true = refl
     or-true false = refl
-
-every-table : (f : ℕ → Bool) (k n : ℕ) → ((i : ℕ) → k ≤ i → i < k + n → f i ≡ true) → every (table f k n) ≡ true
-unfolding every table
-every-table f k zero h = refl
-every-table f k (suc n) h = rw (h k (omega arith) (omega arith)) (every-table f (suc k) n (λ i a b. h i (omega arith) (omega arith)))
 
 -- mapping gives points
 pub points-mapped : {m w : ℕ} {k : Constellation} {ys : List (List ℕ)} → Labels m k → Streams w ys → length ys ≡ m → (n : ℕ) → arePoints k (mapped k n ys) ≡ true

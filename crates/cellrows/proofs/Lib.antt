@@ -1,7 +1,7 @@
 pub mod Ring
 pub mod Turns
 pub mod Reach
-pub mod Every
+pub mod Either
 pub mod Laid
 pub mod Chains
 pub mod Progress

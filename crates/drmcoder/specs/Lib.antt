@@ -3,3 +3,4 @@ pub mod Fac
 pub mod Numbers
 pub mod Calls
 pub mod Grids
+pub mod Decide

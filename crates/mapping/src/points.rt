@@ -142,6 +142,15 @@ fn number_of(numbers: &[u8; 9], v: i16) -> u8
     numbers[place_of(v)]
 }
 
+// The number of a coordinate's level bits on an axis of a constellation.
+pub fn axis_number(c: u8, a: usize, v: i16) -> u8
+    requires { ⌜ (c < 5) × (a < 2) ⌝ }
+    ensures { λ r. ⌜ r ≡ placeOf (axis (constellation c) a) v ⌝ }
+{
+    let numbers = axis_numbers(c, a);
+    number_of(&numbers, v)
+}
+
 // Coordinates, real before imaginary, back to numbers.
 pub fn unmap_cells(c: u8, cells: &[i16], out: &mut [u8])
     requires { ⌜ Unmaps c (now cells) (now out) ⌝ }

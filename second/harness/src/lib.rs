@@ -7,6 +7,7 @@ pub mod damage;
 pub mod draw;
 pub mod grids;
 pub mod lent;
+pub mod measured;
 pub mod nearest;
 pub mod own;
 pub mod rig;

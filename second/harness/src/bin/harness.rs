@@ -7,6 +7,7 @@ use harness::damage::{ignored, spoil};
 use harness::draw::Draw;
 use harness::grids;
 use harness::lent::{Kind, Lent};
+use harness::measured;
 use harness::nearest;
 use harness::tally::Tally;
 use second::interleaver::Places;
@@ -34,12 +35,13 @@ fn main() -> ExitCode {
     let mut out = BufWriter::new(io::stdout().lock());
     let done = match args[..] {
         [] => return random_calls(),
-        ["grid"] => return grid_calls(),
+        ["grid"] => return other_calls(grids::random_calls()),
+        ["decide"] => return other_calls(measured::random_calls()),
         ["runs"] => runs::print(&Archive, &mut out),
         ["counts"] => counts::print(&Archive, &mut out),
         ["refusals"] => refusals::print(&Archive, &mut out),
         _ => {
-            eprintln!("harness [grid | runs | counts | refusals]");
+            eprintln!("harness [grid | decide | runs | counts | refusals]");
             return ExitCode::from(2);
         }
     };
@@ -52,8 +54,9 @@ fn main() -> ExitCode {
     }
 }
 
-fn grid_calls() -> ExitCode {
-    match grids::random_calls() {
+/// Calls that a module of their own makes: how many there were, or the first difference.
+fn other_calls(done: Result<u32, String>) -> ExitCode {
+    match done {
         Ok(calls) => {
             println!("{calls} calls");
             ExitCode::SUCCESS

@@ -3,7 +3,7 @@ use Prim.Native.Nat.{_-_}
 use borrow.Author.Needs.{needs}
 use borrow.Author.Tests.{not-true, not-false}
 use Rattle.cellrows.specs.Cells.{heldAt, allHeld}
-use Rattle.cellrows.proofs.Every.{Tested, tested-start, tested-turn, tested-stop, tested-end}
+use Rattle.block.proofs.Every.{Tested, tested-start, tested-turn, tested-stop, tested-end}
 use Rattle.cellrows.proofs.cells.all_held.Statement.{statement}
 use Rattle.cellrows.proofs.cells.all_held.Tie as tie
 

@@ -3,7 +3,7 @@ use Prim.Native.Nat.{_-_}
 use borrow.Author.Needs.{needs}
 use borrow.Author.Tests.{not-true, not-false}
 use Rattle.cellrows.specs.Cells.{wantedAt, allWanted}
-use Rattle.cellrows.proofs.Every.{Tested, tested-start, tested-turn, tested-stop, tested-end}
+use Rattle.block.proofs.Every.{Tested, tested-start, tested-turn, tested-stop, tested-end}
 use Rattle.cellrows.proofs.Turns.{Delayed, delay-start, delay-turn}
 use Rattle.cellrows.proofs.cells.all_wanted.Statement.{statement}
 use Rattle.cellrows.proofs.cells.all_wanted.Tie as tie

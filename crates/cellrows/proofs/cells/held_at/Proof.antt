@@ -2,7 +2,7 @@
 use mathlib.Core.Path.{sym, _∙_}
 use borrow.Author.Needs.{needs}
 use Rattle.cellrows.specs.Cells.{startAt}
-use Rattle.cellrows.proofs.Every.{either-true, either-false}
+use Rattle.cellrows.proofs.Either.{either-true, either-false}
 use Rattle.cellrows.proofs.cells.held_at.Statement.{statement}
 use Rattle.cellrows.proofs.cells.held_at.Tie as tie
 

@@ -11,7 +11,7 @@ use Rattle.block.specs.Packing.{spareZero}
 use Rattle.block.specs.Points.{every}
 use Rattle.superframe.specs.Call.{part, parts}
 use Rattle.lists.proofs.Tables.{map-table}
-use Rattle.cellrows.proofs.Every.{Tested, tested-start, tested-turn, tested-stop, tested-end}
+use Rattle.block.proofs.Every.{Tested, tested-start, tested-turn, tested-stop, tested-end}
 use Rattle.cellrows.proofs.Laid.{part-within, part-is}
 use Rattle.cellrows.proofs.refusal.frames_spare.Statement.{statement}
 use Rattle.cellrows.proofs.refusal.frames_spare.Tie as tie

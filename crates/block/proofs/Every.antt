@@ -1,12 +1,14 @@
 -- Loops that test one value of a table after the other. Assumes nothing.
 use mathlib.Core.Path.{_≡_, refl, sym, _∙_}
-use mathlib.Core.Bool.{Bool, true, false, _&&_, _||_}
-use Prim.Native.Nat.{ℕ, suc, _+_, _-_, _≤_, _<_}
-use native.Mathlib.Nat.{sub-zero}
+use mathlib.Core.Logic.{_⊎_, inl, inr}
+use mathlib.Core.Bool.{Bool, true, false, _&&_}
+use Prim.Native.Nat.{ℕ, zero, suc, _+_, _-_, _≤_, _<_}
+use native.Mathlib.Nat.{sub-zero, eq-or-lt-of-le}
 use native.Mathlib.Numerals.{add-one}
 use native.Mathlib.Omega.{arith}
 use Rattle.lists.specs.Lists.{table}
+use Rattle.lists.proofs.Bools.{and-left, and-right}
 use Rattle.block.specs.Points.{every}
 
 -- The tests before turn i hold: the rest decides the whole.
 pub record Tested (f : ℕ → Bool) (n i : ℕ) : Type 0 where
@@ -34,11 +36,18 @@ module _ (f : ℕ → Bool) (n : ℕ) where
   unfolding every table
   tested-end i h w = let e : n - i ≡ 0 = omega (arith, w .upto) in sym (w .rest ∙ rw e)
 
--- One of two tests, the second of which was made first.
-pub either-true : (a b : Bool) → b ≡ true → true ≡ (a || b)
-either-true true b e = refl
-either-true false b e = sym e
+-- Where all hold each does.
+pub every-at : (f : ℕ → Bool) (k n : ℕ) → every (table f k n) ≡ true → (i : ℕ) → k ≤ i → i < k + n → f i ≡ true
+unfolding every table
+every-at f k zero t i l h = absurd (omega arith)
+every-at f k (suc n) t i l h =
+    go (every-at f (suc k) n (and-right (f k) (every (table f (suc k) n)) t) i) (eq-or-lt-of-le l)
+  where
+    go : (suc k ≤ i → i < suc k + n → f i ≡ true) → (k ≡ i) ⊎ (k < i) → f i ≡ true
+    go rest (inl e) = rw (← e) (and-left (f k) (every (table f (suc k) n)) t)
+    go rest (inr m) = rest m (omega arith)
 
-pub either-false : (a b : Bool) → b ≡ false → a ≡ (a || b)
-either-false true b e = refl
-either-false false b e = sym e
+pub every-table : (f : ℕ → Bool) (k n : ℕ) → ((i : ℕ) → k ≤ i → i < k + n → f i ≡ true) → every (table f k n) ≡ true
+unfolding every table
+every-table f k zero h = refl
+every-table f k (suc n) h = rw (h k (omega arith) (omega arith)) (every-table f (suc k) n (λ i a b. h i (omega arith) (omega arith)))

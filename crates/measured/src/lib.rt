@@ -1,0 +1,24 @@
+// Measured cells decided to points and bits. 02, S-10.
+pub mod axis;
+pub mod calls;
+pub mod cells;
+pub mod theorems;
+
+// A measured pair: a real and an imaginary float.
+pub struct Measured {
+    pub real: f32,
+    pub imaginary: f32,
+}
+
+// A measured cell: either a pair, or a fade that carries only its gain.
+pub enum MeasuredCell {
+    Pair(Measured),
+    Fade(f32),
+}
+
+// Whose cells they are.
+pub enum Channel {
+    Fac,
+    Sdc,
+    Msc,
+}
