@@ -1,5 +1,4 @@
 pub mod Lists
-pub mod Every
 pub mod Packing
 pub mod Dispersal
 pub mod Mapping

@@ -10,7 +10,6 @@ use lib.ListN.{length, getD, List·getD-eq-default}
 use lib.IntN.{ℤ, pos}
 use lib.Dec.{eqb}
 use Rattle.lists.specs.Lists.{table}
-use Rattle.interleaver.specs.Weights.{taken}
 use Rattle.component.specs.Bits.{Bits}
 use Rattle.component.proofs.Bits.{bits-nil}
 use Rattle.lists.proofs.Counting.{below-or}
@@ -18,11 +17,11 @@ use Rattle.lists.proofs.Tables.{length-table, table-at, table-is}
 use Rattle.block.specs.Mapping.{coordinate, qam4, qam16, standard64, symmetric64, Constellation, constellation, axis, numberAt, mapped, weave, woven}
 use Rattle.lists.specs.Same.{sameNumber}
 use Rattle.block.specs.Points.{onAxis, arePoints}
-use Rattle.block.specs.Reading.{placeOf, numbersOf, streamIn, unmapped}
+use Rattle.lists.proofs.Bools.{every-table}
+use Rattle.block.specs.Reading.{placeOf, numbersOf, streamIn, unmapped, taken}
 use Rattle.block.specs.Fits.{Streams, Labelling, Labels}
 use Rattle.lists.proofs.Same.{sameNumber-refl}
 use Rattle.block.proofs.Lists.{bits-table}
-use Rattle.block.proofs.Every.{every-table}
 use Rattle.block.proofs.Packing.{shr-suc}
 
 -- THE TEST that no two coordinates of a labelling are equal

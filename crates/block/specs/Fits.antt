@@ -81,3 +81,9 @@ pub record BlockBytes (k : Block) (l : List ℕ) : Type 0 where
   pub bytes : Bytes l
   pub long : length l ≡ bytesFor (bitCount k)
   pub spare : spareZero (bitCount k) l ≡ true
+
+-- What coding and reading a block require: it fits, as many bytes as its bits take, and as many numbers as its cells have.
+pub record BlockLent (k : Block) (bytes : List ℕ) (numbers : List ℤ) : Type 0 where
+  pub fits : BlockFits k
+  pub long : length bytes ≡ bytesFor (bitCount k)
+  pub cells : length numbers ≡ 2 * k .cells

@@ -7,7 +7,6 @@ use lib.ListN.{length, getD, take, drop}
 use lib.IntN.{ℤ, pos}
 use lib.Dec.{eqb}
 use Rattle.lists.specs.Lists.{table}
-use Rattle.interleaver.specs.Weights.{taken}
 use Rattle.component.specs.Register.{after}
 use Rattle.component.specs.Decoding.{codedLength, decode}
 use Rattle.interleaver.specs.Deinterleaving.{deinterleaved}
@@ -28,6 +27,10 @@ placeOf (w ∷ ws) v = cond (sameNumber w v) 0 (suc (placeOf ws v))
 -- These numbers of all cells, flat, real before imaginary.
 unfoldable pub numbersOf : Constellation → List ℤ → List ℕ
 numbersOf k cells = table (λ j. placeOf (axis k j) (getD cells j (pos 0))) 0 (length cells)
+
+-- The bits of the level with that weight.
+unfoldable pub taken : ℕ → List ℕ → List ℕ
+taken weight numbers = table (λ i. getD numbers i 0 / weight % 2) 0 (length numbers)
 
 -- The stream of level l from these numbers, the bits with its weight. Where each level has one axis only, levels 2 i and 2 i + 1 have the bits with
 -- weight 2^i of the real and of the imaginary axis.

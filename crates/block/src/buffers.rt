@@ -1,14 +1,33 @@
-// Working buffers for the largest block, each from a function of its own: proofs then take its length and do not write it out.
+// Sizes of buffers, each from those before it, and working buffers for the largest block, each from a function of its own: proofs then take its
+// length and do not write it out.
 ghost use Rattle.lists.specs.Buffers.{Long};
 
 // The most cells of a block: N_MUX of mode A with occupancy 5.
 pub const MOST_CELLS: usize = 6118;
 
+// Their coordinates, real and imaginary.
+pub const MOST_NUMBERS: usize = 2 * MOST_CELLS;
+
+// The most bits of a block: 64-QAM has six coded bits a cell, and a block has fewer bits than coded ones.
+pub const MOST_BITS: usize = 6 * MOST_CELLS;
+
+// The same, packed.
+pub const MOST_BYTES: usize = (MOST_BITS + 7) / 8;
+
+// The most of memory: in long interleaving five slots, each for a frame's cells.
+pub const MOST_MEMORY: usize = 5 * MOST_NUMBERS;
+
+// The most bytes of an SDC block: 1,680 bits, of mode A with occupancy 5 in 16-QAM.
+pub const MOST_SDC_BYTES: usize = 210;
+
+// Room for the packed bytes of three multiplex frames.
+pub const MOST_MSC_BYTES: usize = 3 * MOST_BYTES;
+
 // A number, or a coded bit of a level, for each coordinate.
-pub fn cell_buffer() -> [u8; 2 * MOST_CELLS]
+pub fn cell_buffer() -> [u8; MOST_NUMBERS]
     ensures { λ r. ⌜ Long 12236 r ⌝ }
 {
-    [0u8; 2 * MOST_CELLS]
+    [0u8; MOST_NUMBERS]
 }
 
 // A number for each cell.
@@ -18,23 +37,23 @@ pub fn axis_buffer() -> [u8; MOST_CELLS]
     [0u8; MOST_CELLS]
 }
 
-// The bits of a block: at most six a cell.
-pub fn bit_buffer() -> [u8; 6 * MOST_CELLS]
+// The bits of a block.
+pub fn bit_buffer() -> [u8; MOST_BITS]
     ensures { λ r. ⌜ Long 36708 r ⌝ }
 {
-    [0u8; 6 * MOST_CELLS]
+    [0u8; MOST_BITS]
 }
 
 // The same, packed.
-pub fn byte_buffer() -> [u8; (6 * MOST_CELLS + 7) / 8]
+pub fn byte_buffer() -> [u8; MOST_BYTES]
     ensures { λ r. ⌜ Long 4589 r ⌝ }
 {
-    [0u8; (6 * MOST_CELLS + 7) / 8]
+    [0u8; MOST_BYTES]
 }
 
 // The coordinates of all cells.
-pub fn coordinate_buffer() -> [i16; 2 * MOST_CELLS]
+pub fn coordinate_buffer() -> [i16; MOST_NUMBERS]
     ensures { λ r. ⌜ Long 12236 r ⌝ }
 {
-    [0i16; 2 * MOST_CELLS]
+    [0i16; MOST_NUMBERS]
 }

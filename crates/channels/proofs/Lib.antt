@@ -1,2 +1,7 @@
-pub mod Codes
-pub mod Lengths
+pub mod Coded
+pub mod Protected
+pub mod Fac
+pub mod Sdc
+pub mod Msc
+pub mod Made
+pub mod Lent

@@ -1,1 +1,6 @@
-pub mod Lent
+pub mod Protected
+pub mod Fac
+pub mod Sdc
+pub mod Msc
+pub mod Contracts
+pub mod Cases

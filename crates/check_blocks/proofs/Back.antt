@@ -21,7 +21,9 @@ use Rattle.block.specs.Block.{bitCount, cellsFrom}
 use Rattle.block.specs.Reading.{given, bytesRead}
 use Rattle.block.specs.Fits.{BlockFits, BlockBytes}
 use Rattle.block.proofs.Reader.{reads-bytes}
-use Rattle.reader.specs.Reader.{BlockRead}
+use Rattle.blockcoder.specs.declared.Found.{Found}
+use Rattle.blockcoder.specs.declared.Found.the-variants.{Given}
+use Rattle.blockcoder.specs.Contracts.{foundOf, BlockRead}
 use Rattle.vectors.specs.Digest.{cellsTaken}
 use Rattle.vectors.specs.Draws.{byteOf, state, bytesFrom, spareBits, cleared, drawnBlock}
 use Rattle.check_blocks.specs.Kinds.{bytesDrawn, drawnFrom}
@@ -110,11 +112,11 @@ drawn-bytes k x =
     }
 
 -- A block is drawn, coded and read back: it comes back, so that the digest is that of its cells.
-pub came-back : {k : Block} → BlockFits k → (x : ℕ) {bits n y digest : ℕ} {bytes back back' : List ℕ} {cells : List ℤ} {read : Bool}
+pub came-back : {k : Block} → BlockFits k → (x : ℕ) {bits n y digest : ℕ} {bytes back back' : List ℕ} {cells : List ℤ} {found : Found}
     → bits ≡ bitCount k → n ≡ bytesFor (bitCount k) → y ≡ state x n → bytes ≡ drawnBlock x bits n → cells ≡ cellsFrom k bytes
-    → BlockRead k cells back read back' → (read ≡ true → bytes ≡ back' → digest ≡ cellsTaken 0 cells)
+    → BlockRead k cells back found back' → (found ≡ Given → bytes ≡ back' → digest ≡ cellsTaken 0 cells)
     → record { x = y; digest = digest } ≡ drawnFrom k x
-unfolding drawnFrom bytesDrawn
+unfolding drawnFrom bytesDrawn foundOf
 came-back {k} F x {back = back} {cells = cells} e f s b c R D =
     let w = drawnBlock x (bitCount k) (bytesFor (bitCount k)) in
     let drawn : BlockBytes k w = drawn-bytes k x in
@@ -124,4 +126,4 @@ came-back {k} F x {back = back} {cells = cells} e f s b c R D =
     let handed = R .written ∙ ap (λ z. cond z (bytesRead k cells) back) found ∙ ap (bytesRead k) cells-are ∙ reads-bytes F .back w drawn in
     ap₂ (λ a d. record { x = a; digest = d })
     (s ∙ ap (state x) f)
-    (D (R .answered ∙ found) (bytes-are ∙ sym handed) ∙ ap (cellsTaken 0) cells-are)
+    (D (R .answered ∙ ap foundOf found) (bytes-are ∙ sym handed) ∙ ap (cellsTaken 0) cells-are)

@@ -8,9 +8,9 @@ use Rattle.settings.specs.Refusal.{refusal}
 use Rattle.lists.specs.Bytes.{bytesFor}
 use Rattle.block.specs.declared.Block.{Block}
 use Rattle.block.specs.Block.{bitCount, cellsFrom}
-use Rattle.frame.specs.Fac.{facBlock}
-use Rattle.frame.specs.Sdc.{sdcBlock}
-use Rattle.frame.specs.Msc.{mscBlock}
+use Rattle.channels.specs.Fac.{facBlock}
+use Rattle.channels.specs.Sdc.{sdcBlock}
+use Rattle.channels.specs.Msc.{mscBlock}
 use Rattle.vectors.specs.Digest.{cellsTaken}
 use Rattle.vectors.specs.Draws.{state, drawnBlock}
 use Rattle.check_blocks.specs.declared.blocks.Drawn.{Drawn}

@@ -7,17 +7,17 @@ use native.Mathlib.Omega.{arith}
 use lib.IntN.{ℤ}
 use Rattle.settings.specs.Refusal.{first}
 use Rattle.block.specs.Block.{cellsFrom}
-use Rattle.frame.specs.Fac.{facBlock}
-use Rattle.frame.specs.Sdc.{sdcBlock}
+use Rattle.channels.specs.Fac.{facBlock}
+use Rattle.channels.specs.Sdc.{sdcBlock}
 use Rattle.superframe.specs.declared.State.{State}
 use Rattle.superframe.specs.Call.{parts, joined, inOrder}
 use Rattle.superframe.specs.Code.{CodeCall, CodeYield, byteLengths, cellLengths, sparesZero, codeRefusal, codeAccepted, codeRefused, codeOf}
-use Rattle.cellrows.specs.Refusals.{refusalThen, Packed}
-use Rattle.cellrows.proofs.Chains.{then-stops, then-nine, then-settings, then-goes-on}
-use Rattle.codecall.specs.Yields.{codeCall, codeYield}
-use Rattle.codeblocks.specs.Coding.{MscCoded}
+use Rattle.cellmemory.specs.Contracts.{refusalThen, Packed}
+use Rattle.cellmemory.proofs.Chains.{then-stops, then-nine, then-settings, then-goes-on}
+use Rattle.codecall.specs.Contracts.{codeCall, codeYield}
+use Rattle.codecall.specs.Contracts.{MscCoded}
 use Rattle.superframe.proofs.Calls.{bytes-fit, code-fits, code-accepts, code-refuses}
-use Rattle.superframe.specs.Facts.{CodeFits}
+use Rattle.superframe.specs.Contracts.{CodeFits}
 
 -- Code's refusal from 1 to 10, and then 11 and 12.
 module _ (state : State) (memory : List ℤ) (fac sdc msc : List ℕ) (faccells sdccells msccells : List ℤ) (n : ℕ)

@@ -1,2 +1,3 @@
-pub mod ResetCalls
 pub mod CodeCalls
+pub mod CodeTurns
+pub mod ResetCalls

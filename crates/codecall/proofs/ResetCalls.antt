@@ -18,9 +18,9 @@ use Rattle.superframe.specs.Memory.{slotSize, startFrame}
 use Rattle.superframe.specs.Call.{memoryLength, joined}
 use Rattle.superframe.specs.Reset.{resetRefusal, resetOf, startState, startMemory}
 use Rattle.superframe.proofs.Calls.{reset-fits, reset-accepts, reset-refuses}
-use Rattle.cellrows.specs.Refusals.{lengthRefusal}
-use Rattle.cellrows.proofs.Chains.{settings-refused, settings-allowed}
-use Rattle.codecall.specs.Yields.{resetYield}
+use Rattle.cellmemory.specs.Contracts.{lengthRefusal}
+use Rattle.cellmemory.proofs.Chains.{settings-refused, settings-allowed}
+use Rattle.codecall.specs.Contracts.{resetYield}
 
 -- Where neither 9 nor 10 can apply, 1 to 8 are those of Reset.
 pub reset-is : (s : Settings) (z : Sizes) → z ≡ sizesOf s → (memory : List ℤ) → lengthRefusal z (length memory) true true ≡ resetRefusal s memory

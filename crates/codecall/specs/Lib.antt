@@ -1,1 +1,1 @@
-pub mod Yields
+pub mod Contracts

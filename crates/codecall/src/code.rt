@@ -1,17 +1,18 @@
 // The call Code. 01 "Buffers and state" and "Operations".
-use cellrows::refusal;
-use channels::calls::sdc_cells;
-use codeblocks::blocks::code_fac;
-use codeblocks::blocks::code_msc;
+use crate::blocks::code_fac;
+use crate::blocks::code_msc;
+use blockcoder::code::code_block;
+use cellmemory::refusal;
+use channels::blocks::sdc_block;
 use settings::Settings;
 use settings::answers;
 use superframe::Done;
 use superframe::State;
 ghost use mathlib.Core.Path.{_≡_};
 ghost use Rattle.superframe.specs.Code.{byteLengths, cellLengths, codeRefusal, codeAccepted, codeOf};
-ghost use Rattle.superframe.specs.Facts.{CodeFits};
-ghost use Rattle.cellrows.specs.Refusals.{refusalThen};
-ghost use Rattle.codecall.specs.Yields.{codeCall, codeYield};
+ghost use Rattle.superframe.specs.Contracts.{CodeFits};
+ghost use Rattle.cellmemory.specs.Contracts.{refusalThen};
+ghost use Rattle.codecall.specs.Contracts.{codeCall, codeYield};
 
 // 1 to 10.
 fn code_lengths(
@@ -24,7 +25,9 @@ fn code_lengths(
     sdccells: &[i16],
     msccells: &[i16],
 ) -> u8
-    ensures { λ r. ⌜ r ≡ refusalThen s (now (memory .entry)) (byteLengths s (now (fac .entry)) (now (sdc .entry)) (now (msc .entry))) (cellLengths s (now (faccells .entry)) (now (sdccells .entry)) (now (msccells .entry))) 0 ⌝ }
+    ensures { λ r. ⌜ r ≡ refusalThen s (now (memory .entry))
+        (byteLengths s (now (fac .entry)) (now (sdc .entry)) (now (msc .entry)))
+        (cellLengths s (now (faccells .entry)) (now (sdccells .entry)) (now (msccells .entry))) 0 ⌝ }
 {
     let z = answers::sizes(s);
     let nine = refusal::bytes_long(z, fac.len(), sdc.len(), msc.len());
@@ -43,7 +46,8 @@ fn code_refusal(
     sdccells: &[i16],
     msccells: &[i16],
 ) -> u8
-    ensures { λ r. ⌜ r ≡ codeRefusal state (now (memory .entry)) (codeCall (now (fac .entry)) (now (sdc .entry)) (now (msc .entry)) (now (faccells .entry)) (now (sdccells .entry)) (now (msccells .entry))) ⌝ }
+    ensures { λ r. ⌜ r ≡ codeRefusal state (now (memory .entry))
+        (codeCall (now (fac .entry)) (now (sdc .entry)) (now (msc .entry)) (now (faccells .entry)) (now (sdccells .entry)) (now (msccells .entry))) ⌝ }
 {
     let s = state.settings;
     let number = code_lengths(s, fac, sdc, msc, memory, faccells, sdccells, msccells);
@@ -71,10 +75,12 @@ fn code_accepted(
     msccells: &mut [i16],
 ) -> Done
     requires { ⌜ CodeFits state (now memory) (codeCall (now fac) (now sdc) (now msc) (now faccells) (now sdccells) (now msccells)) ⌝ }
-    ensures { λ r. ⌜ codeYield r (now (memory .exit)) (now (faccells .exit)) (now (sdccells .exit)) (now (msccells .exit)) ≡ codeAccepted state (now (memory .entry)) (codeCall (now (fac .entry)) (now (sdc .entry)) (now (msc .entry)) (now (faccells .entry)) (now (sdccells .entry)) (now (msccells .entry))) ⌝ }
+    ensures { λ r. ⌜ codeYield r (now (memory .exit)) (now (faccells .exit)) (now (sdccells .exit)) (now (msccells .exit))
+        ≡ codeAccepted state (now (memory .entry))
+        (codeCall (now (fac .entry)) (now (sdc .entry)) (now (msc .entry)) (now (faccells .entry)) (now (sdccells .entry)) (now (msccells .entry))) ⌝ }
 {
     code_fac(fac, faccells);
-    sdc_cells(state.settings, sdc, sdccells);
+    code_block(sdc_block(state.settings), sdc, sdccells);
     let after = code_msc(state, msc, memory, msccells);
     Done {
         refusal: 0,
@@ -93,7 +99,9 @@ pub fn code(
     sdccells: &mut [i16],
     msccells: &mut [i16],
 ) -> Done
-    ensures { λ r. ⌜ codeYield r (now (memory .exit)) (now (faccells .exit)) (now (sdccells .exit)) (now (msccells .exit)) ≡ codeOf state (now (memory .entry)) (codeCall (now (fac .entry)) (now (sdc .entry)) (now (msc .entry)) (now (faccells .entry)) (now (sdccells .entry)) (now (msccells .entry))) ⌝ }
+    ensures { λ r. ⌜ codeYield r (now (memory .exit)) (now (faccells .exit)) (now (sdccells .exit)) (now (msccells .exit))
+        ≡ codeOf state (now (memory .entry))
+        (codeCall (now (fac .entry)) (now (sdc .entry)) (now (msc .entry)) (now (faccells .entry)) (now (sdccells .entry)) (now (msccells .entry))) ⌝ }
 {
     let number = code_refusal(state, fac, sdc, msc, memory, faccells, sdccells, msccells);
     if number != 0 {

@@ -1,3 +1,4 @@
 // The calls Reset and Code.
+mod blocks;
 pub mod code;
 pub mod reset;

@@ -1,5 +1,5 @@
 // The call Reset. 01 "Operations".
-use cellrows::refusal;
+use cellmemory::refusal;
 use lists::numbers::clear;
 use settings::Settings;
 use settings::answers;
@@ -7,7 +7,7 @@ use superframe::Done;
 use superframe::State;
 ghost use mathlib.Core.Path.{_≡_};
 ghost use Rattle.superframe.specs.Reset.{resetOf};
-ghost use Rattle.codecall.specs.Yields.{resetYield};
+ghost use Rattle.codecall.specs.Contracts.{resetYield};
 
 // Acceptance fills memory with zero, takes the settings and sets position and count to 0; a refusal gives the old state back.
 pub fn reset(old: State, settings: Settings, memory: &mut [i16]) -> Done

@@ -122,7 +122,8 @@ pub fn following(columns: usize, i: usize) -> usize
 // Writes one parity, where the lowest digit of the column says that it is kept.
 fn keep(column: u8, register: u32, mask: u32, out: &mut [u8], at: usize) -> usize
     requires { ⌜ at + length (kept column (parity mask register ∷ [])) ≤ length (now out) ⌝ }
-    ensures { λ r. ⌜ (r ≡ at + length (kept column (parity mask register ∷ []))) × (now (out .exit) ≡ sets (now (out .entry)) at (kept column (parity mask register ∷ []))) ⌝ }
+    ensures { λ r. ⌜ (r ≡ at + length (kept column (parity mask register ∷ []))) × (now (out .exit)
+        ≡ sets (now (out .entry)) at (kept column (parity mask register ∷ []))) ⌝ }
 {
     if column % 2 == 0 {
         return at;

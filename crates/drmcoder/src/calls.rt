@@ -11,8 +11,8 @@ use superframe::Reading;
 ghost use mathlib.Core.Path.{_≡_};
 ghost use lib.ListN.{length};
 ghost use Prim.Native.Nat.{_+_, _*_};
-ghost use Rattle.codecall.specs.Yields.{codeCall};
-ghost use Rattle.readblocks.specs.Finishing.{readCall};
+ghost use Rattle.codecall.specs.Contracts.{codeCall};
+ghost use Rattle.readcall.specs.Contracts.{readCall};
 ghost use Rattle.drmcoder.specs.Calls.{stateAfter, stateRead, answerWord, resetYields, codeYields, readYields, resetBytes, codeBytes, readBytes};
 
 // The answer of Reset and Code, with the state written where the call is accepted.
@@ -78,7 +78,9 @@ pub extern "C" fn drm_code(
     sdccells: &mut [i16],
     msccells: &mut [i16],
 ) -> u8
-    ensures { λ r. ⌜ codeYields r (now (state .exit)) (now (memory .exit)) (now (faccells .exit)) (now (sdccells .exit)) (now (msccells .exit)) ≡ codeBytes (now (state .entry)) (now (memory .entry)) (codeCall (now (fac .entry)) (now (sdc .entry)) (now (msc .entry)) (now (faccells .entry)) (now (sdccells .entry)) (now (msccells .entry))) ⌝ }
+    ensures { λ r. ⌜ codeYields r (now (state .exit)) (now (memory .exit)) (now (faccells .exit)) (now (sdccells .exit)) (now (msccells .exit))
+        ≡ codeBytes (now (state .entry)) (now (memory .entry))
+        (codeCall (now (fac .entry)) (now (sdc .entry)) (now (msc .entry)) (now (faccells .entry)) (now (sdccells .entry)) (now (msccells .entry))) ⌝ }
 {
     if state.len() != 12 {
         return 255;
@@ -108,7 +110,9 @@ pub extern "C" fn drm_read(
     sdc: &mut [u8],
     msc: &mut [u8],
 ) -> u16
-    ensures { λ r. ⌜ readYields r (now (state .exit)) (now (memory .exit)) (now (fac .exit)) (now (sdc .exit)) (now (msc .exit)) ≡ readBytes (now (state .entry)) (now (memory .entry)) (readCall (now (faccells .entry)) (now (sdccells .entry)) (now (msccells .entry)) (now (fac .entry)) (now (sdc .entry)) (now (msc .entry))) ⌝ }
+    ensures { λ r. ⌜ readYields r (now (state .exit)) (now (memory .exit)) (now (fac .exit)) (now (sdc .exit)) (now (msc .exit))
+        ≡ readBytes (now (state .entry)) (now (memory .entry))
+        (readCall (now (faccells .entry)) (now (sdccells .entry)) (now (msccells .entry)) (now (fac .entry)) (now (sdc .entry)) (now (msc .entry))) ⌝ }
 {
     if state.len() != 12 {
         return 65280;

@@ -34,7 +34,8 @@ pub extern "C" fn drm_fac_read(settings: &[u8], block: &[u8], fields: &mut [u32]
 // 130 received values in the order of the mapped cells to the nearest FAC block and its number of disagreements.
 #[no_mangle]
 pub extern "C" fn drm_fac_nearest(received: &[u8], block: &mut [u8], disagreement: &mut [u16]) -> u8
-    ensures { λ r. ⌜ nearestYield r (now (block .exit)) (now (disagreement .exit)) ≡ nearestOf (now (received .entry)) (now (block .entry)) (now (disagreement .entry)) ⌝ }
+    ensures { λ r. ⌜ nearestYield r (now (block .exit)) (now (disagreement .exit))
+        ≡ nearestOf (now (received .entry)) (now (block .entry)) (now (disagreement .entry)) ⌝ }
 {
     fac_nearest(received, block, disagreement)
 }

@@ -44,7 +44,8 @@ pub extern "C" fn drm_grid_place(
     msccells: &[i16],
     grid: &mut [i16],
 ) -> u8
-    ensures { λ r. ⌜ placeYield r (now (grid .exit)) ≡ placeBytes (now (settings .entry)) (cellsFrom (now (faccells .entry)) (now (sdccells .entry)) (now (msccells .entry))) (now (grid .entry)) ⌝ }
+    ensures { λ r. ⌜ placeYield r (now (grid .exit)) ≡ placeBytes (now (settings .entry)) (cellsFrom (now (faccells .entry))
+        (now (sdccells .entry)) (now (msccells .entry))) (now (grid .entry)) ⌝ }
 {
     if settings.len() != 10 {
         return 255;
@@ -61,7 +62,9 @@ pub extern "C" fn drm_grid_take(
     sdccells: &mut [i16],
     msccells: &mut [i16],
 ) -> u8
-    ensures { λ r. ⌜ takeYield r (now (faccells .exit)) (now (sdccells .exit)) (now (msccells .exit)) ≡ takeBytes (now (settings .entry)) (now (grid .entry)) (cellsFrom (now (faccells .entry)) (now (sdccells .entry)) (now (msccells .entry))) ⌝ }
+    ensures { λ r. ⌜ takeYield r (now (faccells .exit)) (now (sdccells .exit)) (now (msccells .exit))
+        ≡ takeBytes (now (settings .entry)) (now (grid .entry)) (cellsFrom (now (faccells .entry)) (now (sdccells .entry))
+        (now (msccells .entry))) ⌝ }
 {
     if settings.len() != 10 {
         return 255;

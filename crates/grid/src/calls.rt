@@ -99,7 +99,8 @@ pub fn place(s: Settings, fac: &[i16], sdc: &[i16], msc: &[i16], grid: &mut [i16
 
 // Cells off a grid; a refusal leaves the cells as they were.
 pub fn take(s: Settings, grid: &[i16], fac: &mut [i16], sdc: &mut [i16], msc: &mut [i16]) -> u8
-    ensures { λ r. ⌜ takeYield r (now (fac .exit)) (now (sdc .exit)) (now (msc .exit)) ≡ takeOf s (now (grid .entry)) (cellsFrom (now (fac .entry)) (now (sdc .entry)) (now (msc .entry))) ⌝ }
+    ensures { λ r. ⌜ takeYield r (now (fac .exit)) (now (sdc .exit)) (now (msc .exit))
+        ≡ takeOf s (now (grid .entry)) (cellsFrom (now (fac .entry)) (now (sdc .entry)) (now (msc .entry))) ⌝ }
 {
     let number = refusal(s, 10, fac.len(), sdc.len(), msc.len(), grid.len());
     if number != 0 {

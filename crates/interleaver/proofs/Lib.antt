@@ -2,4 +2,3 @@ pub mod Cycle
 pub mod Size
 pub mod Places
 pub mod Interleaving
-pub mod Weights

@@ -1,4 +1,3 @@
 pub mod Interleaving
 pub mod Deinterleaving
-pub mod Weights
 pub mod Cycle

@@ -1,9 +1,8 @@
 // The interleaver: its places stepped along, bits interleaved and put back. 01 "Bit interleaving"; 001 clause 7.3.3.
 ghost use mathlib.Core.Path.{_≡_};
-ghost use Prim.Native.Nat.{_-_, _/_, _%_, _≤_};
-ghost use Rattle.interleaver.specs.Interleaving.{size, nextPlace, interleaved};
+ghost use Prim.Native.Nat.{_-_, _/_, _≤_};
+ghost use Rattle.interleaver.specs.Interleaving.{size, nextPlace};
 ghost use Rattle.interleaver.specs.Deinterleaving.{Sizes, Steps, Lends, deinterleaved};
-ghost use Rattle.interleaver.specs.Weights.{Weight, Adds, Takes, added, taken};
 
 // s, the smallest power of two not below n: n - 1 has as many digits as s has zeros.
 pub fn size_of(n: usize) -> usize
@@ -45,48 +44,6 @@ pub fn deinterleave(t: usize, values: &[u8], out: &mut [u8])
     let mut i = 0;
     while i < n {
         out[place] = values[i];
-        place = next_place(t, n, s, q, place);
-        i += 1;
-    }
-}
-
-// Number i becomes itself + weight × bit P(i): a level's bits are interleaved and added in one pass.
-pub fn add_interleaved(t: usize, weight: u8, bits: &[u8], numbers: &mut [u8])
-    requires { ⌜ Adds t weight (now bits) (now numbers) ⌝ }
-    ensures { λ r. ⌜ now (numbers .exit) ≡ added weight (interleaved 0 t (now (bits .entry))) (now (numbers .entry)) ⌝ }
-{
-    let n = bits.len();
-    let s = size_of(n);
-    let q = offset_of(s);
-    let mut place = 0;
-    let mut i = 0;
-    while i < n {
-        numbers[i] = numbers[i] + weight * bits[place];
-        place = next_place(t, n, s, q, place);
-        i += 1;
-    }
-}
-
-// The bit with that weight in a number.
-pub fn weighed_bit(number: u8, weight: u8) -> u8
-    requires { ⌜ Weight weight ⌝ }
-    ensures { λ r. ⌜ r ≡ number / weight % 2 ⌝ }
-{
-    if number & weight == 0 { 0 } else { 1 }
-}
-
-// Output P(i) is the bit with that weight in number i: the inverse of add_interleaved.
-pub fn take_interleaved(t: usize, weight: u8, numbers: &[u8], out: &mut [u8])
-    requires { ⌜ Takes t weight (now numbers) (now out) ⌝ }
-    ensures { λ r. ⌜ now (out .exit) ≡ deinterleaved 0 t (taken weight (now (numbers .entry))) ⌝ }
-{
-    let n = numbers.len();
-    let s = size_of(n);
-    let q = offset_of(s);
-    let mut place = 0;
-    let mut i = 0;
-    while i < n {
-        out[place] = weighed_bit(numbers[i], weight);
         place = next_place(t, n, s, q, place);
         i += 1;
     }

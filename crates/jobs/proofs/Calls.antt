@@ -17,12 +17,12 @@ use Rattle.superframe.specs.Code.{CodeCall, codeOf}
 use Rattle.superframe.specs.Read.{ReadCall, readOf}
 use Rattle.grid.specs.Calls.{gridSizes, placeOf, takeOf}
 use Rattle.grid.specs.Contracts.{cellsFrom}
-use Rattle.codecall.specs.Yields.{codeCall}
-use Rattle.readblocks.specs.Finishing.{readCall}
+use Rattle.codecall.specs.Contracts.{codeCall}
+use Rattle.readcall.specs.Contracts.{readCall}
 use Rattle.settings.specs.Refusal.{first}
 use Rattle.superframe.proofs.Calls.{first-zero, first-own}
-use Rattle.cellrows.specs.Refusals.{lengthRefusal}
-use Rattle.cellrows.proofs.Laid.{take-sets}
+use Rattle.cellmemory.specs.Contracts.{lengthRefusal}
+use Rattle.cellmemory.proofs.Laid.{take-sets}
 use Rattle.console.specs.declared.Job.{Job}
 use Rattle.console.specs.declared.Job.the-variants.{Code, Read, Grid, Ungrid}
 use Rattle.jobs.specs.Cells.{bytesCells}

@@ -13,7 +13,7 @@ use Rattle.superframe.specs.declared.Answer.{Answer}
 use Rattle.superframe.specs.declared.Answer.the-variants.{Finished, Refused as Answer·Refused}
 use Rattle.superframe.specs.Code.{CodeCall, CodeYield, codeOf}
 use Rattle.superframe.specs.Read.{ReadCall, ReadYield, readOf}
-use Rattle.cellrows.specs.Refusals.{lengthRefusal}
+use Rattle.cellmemory.specs.Contracts.{lengthRefusal}
 use Rattle.console.specs.declared.Job.{Job}
 use Rattle.settings.specs.declared.Settings.{Settings}
 use Rattle.grid.specs.Places.{Cells}

@@ -26,7 +26,8 @@ ghost use Rattle.jobs.specs.SuperFrame.{jobYield, answered, gridWritten,
 // What the output is after placing: the bytes of the grid, or nothing where the call was refused.
 fn write_grid(number: u8, state: State, grid: &[i16], out: &mut [u8]) -> Step
     requires { ⌜ 2 * length (now grid) ≤ length (now out) ⌝ }
-    ensures { λ r. ⌜ ((memory : List ℤ) → jobYield r memory (now (out .exit)) ≡ answered number state memory (cellBytes (now (grid .entry))) (now (out .entry))) ⌝ }
+    ensures { λ r. ⌜ ((memory : List ℤ) → jobYield r memory (now (out .exit))
+        ≡ answered number state memory (cellBytes (now (grid .entry))) (now (out .entry))) ⌝ }
     ensures { λ r. ⌜ r .length ≤ length (now (out .entry)) ⌝ }
 {
     if number != 0 {

@@ -9,7 +9,8 @@ ghost use Rattle.jobs.specs.Output.{Joined, framesLength, cellOutput, bl
 // The bytes of the cells of a super frame from the start of a buffer on, and how many there are.
 pub fn join_cells(fac: &[i16], sdc: &[i16], msc: &[i16], out: &mut [u8]) -> usize
     requires { ⌜ 2 * length (now fac) + 2 * length (now sdc) + 2 * length (now msc) ≤ length (now out) ⌝ }
-    ensures { λ r. ⌜ Joined (length (now (out .entry))) (cellOutput (now (fac .entry)) (now (sdc .entry)) (now (msc .entry))) (now (out .entry)) r (now (out .exit)) ⌝ }
+    ensures { λ r. ⌜ Joined (length (now (out .entry))) (cellOutput (now (fac .entry)) (now (sdc .entry)) (now (msc .entry)))
+        (now (out .entry)) r (now (out .exit)) ⌝ }
 {
     let a = 2 * fac.len();
     let b = a + 2 * sdc.len();
@@ -35,7 +36,8 @@ fn frames_length(n: u8, all: usize) -> usize
 // FAC, SDC, the number of finished frames, and those frames, from the start of a buffer on, and how many bytes there are.
 pub fn join_blocks(fac: &[u8], sdc: &[u8], n: u8, msc: &[u8], out: &mut [u8]) -> usize
     requires { ⌜ length (now fac) + length (now sdc) + 1 + length (now msc) ≤ length (now out) ⌝ }
-    ensures { λ r. ⌜ Joined (length (now (out .entry))) (blockOutput (now (fac .entry)) (now (sdc .entry)) n (now (msc .entry))) (now (out .entry)) r (now (out .exit)) ⌝ }
+    ensures { λ r. ⌜ Joined (length (now (out .entry))) (blockOutput (now (fac .entry)) (now (sdc .entry)) n (now (msc .entry)))
+        (now (out .entry)) r (now (out .exit)) ⌝ }
 {
     let end = frames_length(n, msc.len());
     let a = fac.len();

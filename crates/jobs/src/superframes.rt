@@ -9,7 +9,7 @@ use crate::output::join_cells;
 use crate::sizes::grid_length;
 use crate::sizes::input_length;
 use crate::sizes::output_length;
-use cellrows::refusal::length_refusal;
+use cellmemory::refusal::length_refusal;
 use codecall::code::code;
 use console::Job;
 use console::Outcome;
@@ -26,9 +26,9 @@ ghost use lib.ListN.{length, take, drop};
 ghost use lib.IntN.{ℤ};
 ghost use Rattle.superframe.specs.Code.{codeOf};
 ghost use Rattle.superframe.specs.Read.{readOf};
-ghost use Rattle.codecall.specs.Yields.{codeCall};
-ghost use Rattle.readblocks.specs.Finishing.{readCall};
-ghost use Rattle.readcall.specs.Working.{readYield};
+ghost use Rattle.codecall.specs.Contracts.{codeCall};
+ghost use Rattle.readcall.specs.Contracts.{readCall};
+ghost use Rattle.readcall.specs.Contracts.{readYield};
 ghost use Rattle.jobs.specs.Contracts.{CodeRoom, ReadRoom, Lent};
 ghost use Rattle.jobs.specs.SuperFrame.{jobYield, answered, refused as SuperFrame·refused, codeWritten, readWritten, readAnswered, jobCall, jobOf};
 ghost use Rattle.jobs.specs.Output.{cellOutput};
@@ -107,7 +107,8 @@ fn code_with(
 // The job `code` on buffers of the right lengths.
 fn code_bytes(state: State, z: Sizes, bytes: &[u8], memory: &mut [i16], out: &mut [u8]) -> Step
     requires { ⌜ Lent Job.Code state z (now bytes) (now out) ⌝ }
-    ensures { λ r. ⌜ jobYield r (now (memory .exit)) (now (out .exit)) ≡ jobCall Job.Code state (now (memory .entry)) (now (bytes .entry)) (now (out .entry)) ⌝ }
+    ensures { λ r. ⌜ jobYield r (now (memory .exit)) (now (out .exit))
+        ≡ jobCall Job.Code state (now (memory .entry)) (now (bytes .entry)) (now (out .entry)) ⌝ }
     ensures { λ r. ⌜ r .length ≤ length (now (out .entry)) ⌝ }
 {
     let mut fac = buffers::fac_cells();
@@ -190,7 +191,8 @@ fn read_with(
 // The job `read` on buffers of the right lengths.
 fn read_bytes(state: State, z: Sizes, bytes: &[u8], memory: &mut [i16], out: &mut [u8]) -> Step
     requires { ⌜ Lent Job.Read state z (now bytes) (now out) ⌝ }
-    ensures { λ r. ⌜ jobYield r (now (memory .exit)) (now (out .exit)) ≡ jobCall Job.Read state (now (memory .entry)) (now (bytes .entry)) (now (out .entry)) ⌝ }
+    ensures { λ r. ⌜ jobYield r (now (memory .exit)) (now (out .exit))
+        ≡ jobCall Job.Read state (now (memory .entry)) (now (bytes .entry)) (now (out .entry)) ⌝ }
     ensures { λ r. ⌜ r .length ≤ length (now (out .entry)) ⌝ }
 {
     let cells = numbers_in(bytes);

@@ -4,3 +4,4 @@ pub mod Tables
 pub mod Counting
 pub mod Parts
 pub mod Bools
+pub mod Tests

@@ -59,3 +59,14 @@ getD-any (a ∷ l) (suc i) y z h = getD-any l i y z (omega arith)
 -- the front of a buffer that was written whole, and how long the buffer is then
 pub written-front : {A : Type 0} (part buffer : List A) (n : ℕ) → length part ≡ n → take (n - 0) (part ++ drop (n - 0) buffer) ≡ part
 written-front part buffer n e = rw (from-start n) (take-at part (drop n buffer) n e)
+
+-- a working buffer whose first n elements were written: that many, and those are read again
+module _ {A : Type 0} (buffer part : List A) (n : ℕ) (h : n ≤ length buffer) (e : length part ≡ length (take (n - 0) buffer)) where
+  pub part-long : length part ≡ n
+  part-long = e ∙ length-start n buffer h
+
+  pub part-room : n ≤ length (part ++ drop (n - 0) buffer)
+  part-room = rw (length-written buffer part n h part-long) h
+
+  pub part-again : take (n - 0) (part ++ drop (n - 0) buffer) ≡ part
+  part-again = written-front part buffer n part-long

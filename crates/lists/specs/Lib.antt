@@ -1,4 +1,5 @@
 pub mod Same
 pub mod Lists
+pub mod Bools
 pub mod Bytes
 pub mod Buffers

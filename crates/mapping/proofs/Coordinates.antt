@@ -22,11 +22,11 @@ use Rattle.mapping.specs.Numbers.{coordinates}
 use Rattle.block.proofs.Mapping.{getD-weave}
 
 -- every coordinate of a labelling is a signed 16-bit number
-fitting : List ℤ → Bool
+unfoldable pub fitting : List ℤ → Bool
 fitting [] = true
 fitting (v ∷ l) = ltb (mag v) (2 ^ 15) && fitting l
 
-fitting-at : (l : List ℤ) → T (fitting l) → (n : ℕ) → mag (getD l n (pos 0)) < 2 ^ 15
+pub fitting-at : (l : List ℤ) → T (fitting l) → (n : ℕ) → mag (getD l n (pos 0)) < 2 ^ 15
 unfolding fitting
 fitting-at [] t n = omega arith
 fitting-at (v ∷ l) t zero = ltb→lt _ _ (both-left (ltb (mag v) (2 ^ 15)) (fitting l) t)

@@ -1,3 +1,4 @@
 pub mod Coordinates
 pub mod Numbers
 pub mod Signed
+pub mod PointTests

@@ -1,12 +1,11 @@
 -- Coordinates back to the numbers of their level bits, by their place among 7, 5, .. -7. Assumes nothing.
-use Prim.Native.Nat.{ℕ, zero, suc, _+_, _*_, _-_, _/_, _%_, _^_, _≤_, _<_}
-use mathlib.Core.Bool.{Bool, true, false, cond, _&&_, _||_}
+use Prim.Native.Nat.{ℕ, zero, suc, _+_, _*_, _%_, _^_, _≤_, _<_}
+use mathlib.Core.Bool.{Bool, true, false, cond}
 use mathlib.Core.Path.{_≡_, refl, sym, _∙_}
 use mathlib.Core.List.{List, [], _∷_}
 use native.Mathlib.Omega.{arith}
 use lib.ListN.{length, getD, set}
-use lib.Dec.{eqb, ltb, leb·suc-suc}
-use borrow.Author.Tests.{lt-ltb}
+use lib.Dec.{eqb}
 use lib.IntN.{ℤ, pos, negsuc}
 use lib.Signed.{mag}
 use borrow.Author.Needs.{sfits-of}
@@ -14,14 +13,12 @@ use mir.Syntax.{w16}
 use mir.Val.{toZ, ofZ}
 use mir.Facts.{toZ-ofZ}
 use Rattle.lists.specs.Lists.{table}
-use Rattle.lists.proofs.Tables.{Filled, filled-start, filled-turn, filled-end, length-table, getD-table, table-is}
+use Rattle.lists.proofs.Tables.{Filled, filled-start, filled-turn, filled-end, getD-table}
 use Rattle.block.specs.Mapping.{Constellation, coordinate, qam4, qam16, standard64, symmetric64, constellation, axis}
 use Rattle.lists.specs.Same.{sameNumber}
-use Rattle.block.specs.Points.{onAxis, every, arePoints}
 use Rattle.block.specs.Reading.{placeOf, numbersOf}
-use Rattle.mapping.specs.Numbers.{axisNumbers, numbersBy}
+use Rattle.mapping.specs.Numbers.{numbersBy}
 use Rattle.lists.proofs.Same.{sameNumber-true}
-use Rattle.block.proofs.Mapping.{length-numbers}
 use Rattle.mapping.proofs.Coordinates.{axis-even, axis-odd}
 
 -- a rule of both axes
@@ -50,18 +47,18 @@ place-low (w ∷ l) v = go (sameNumber w v) (place-low l v)
     go false h = omega arith
 
 -- none of 7, 5, .. -7
-record None (v : ℤ) : Type 0 where
-  p7 : sameNumber (pos 7) v ≡ false
-  p5 : sameNumber (pos 5) v ≡ false
-  p3 : sameNumber (pos 3) v ≡ false
-  p1 : sameNumber (pos 1) v ≡ false
-  n1 : sameNumber (negsuc 0) v ≡ false
-  n3 : sameNumber (negsuc 2) v ≡ false
-  n5 : sameNumber (negsuc 4) v ≡ false
-  n7 : sameNumber (negsuc 6) v ≡ false
+pub record None (v : ℤ) : Type 0 where
+  pub p7 : sameNumber (pos 7) v ≡ false
+  pub p5 : sameNumber (pos 5) v ≡ false
+  pub p3 : sameNumber (pos 3) v ≡ false
+  pub p1 : sameNumber (pos 1) v ≡ false
+  pub n1 : sameNumber (negsuc 0) v ≡ false
+  pub n3 : sameNumber (negsuc 2) v ≡ false
+  pub n5 : sameNumber (negsuc 4) v ≡ false
+  pub n7 : sameNumber (negsuc 6) v ≡ false
 
 -- a rule of numbers, at the eight coordinates and at what is none of them
-coordinates-all : (P : ℤ → Type 0) → P (pos 7) → P (pos 5) → P (pos 3) → P (pos 1) → P (negsuc 0) → P (negsuc 2) → P (negsuc 4) → P (negsuc 6)
+pub coordinates-all : (P : ℤ → Type 0) → P (pos 7) → P (pos 5) → P (pos 3) → P (pos 1) → P (negsuc 0) → P (negsuc 2) → P (negsuc 4) → P (negsuc 6)
     → ((v : ℤ) → None v → P v) → (v : ℤ) → P v
 coordinates-all P a b c d e f g h n v =
     or (pos 7) a (λ i7. or (pos 5) b (λ i5. or (pos 3) c (λ i3. or (pos 1) d (λ i1.
@@ -143,21 +140,6 @@ axis-of K k = both-axes (λ a. axis K (2 * k + a) ≡ axis K a)
     (axis-even K (2 * k + 0) (omega arith) ∙ sym (axis-even K 0 refl))
     (axis-odd K (2 * k + 1) (omega arith) ∙ sym (axis-odd K 1 refl))
 
-getD-numbers : (K : Constellation) (cells : List ℤ) (j : ℕ) → j < length cells → getD (numbersOf K cells) j 0 ≡ placeOf (axis K j) (getD cells j (pos 0))
-unfolding numbersOf
-getD-numbers K cells j h = getD-table 0 (λ i. placeOf (axis K i) (getD cells i (pos 0))) (length cells) j h
-
--- the numbers of an axis, filled to the end
-pub axis-end : (K : Constellation) (a : ℕ) (cells : List ℤ) (d out : List ℕ) (i : ℕ) → a < 2 → length cells ≡ 2 * length d → i ≡ length d
-    → Filled 0 (λ k. placeOf (axis K a) (getD cells (2 * k + a) (pos 0))) d out i → out ≡ axisNumbers a (numbersOf K cells)
-unfolding axisNumbers
-axis-end K a cells d out i h e n F =
-    let ns = numbersOf K cells in
-    let l : length ns / 2 ≡ length d = omega (arith, length-numbers K cells) in
-    filled-end 0 _ d out (length d) refl (rw n at F)
-    ∙ table-is _ 0 (length d) (table (λ k. getD ns (2 * k + a) 0) 0 (length ns / 2)) (length-table (λ k. getD ns (2 * k + a) 0) 0 (length ns / 2) ∙ l)
-    (λ k b. sym (rw l (getD-table 0 (λ k. getD ns (2 * k + a) 0) (length d) k b) ∙ getD-numbers K cells (2 * k + a) (omega arith) ∙ rw (axis-of K k a h)))
-
 -- before the turn at cell k of the numbers of all coordinates
 pub record Unplacing (c : ℕ) (cells : List ℤ) (d out : List ℕ) (k : ℕ) : Type 0 where
   pub whole : 2 * k ≤ length d
@@ -182,52 +164,3 @@ unfolding numbersOf
 done {c} {cells} {d} {out} {k} P e h =
     let n : 2 * k ≡ length cells = omega (arith, P .whole) in
     filled-end 0 _ d out (length cells) e (rw n at (P .filled))
-
--- a coordinate is on an axis exactly if its number is below the axis's size
-on-axis : (l : List ℤ) (v : ℤ) → onAxis l v ≡ ltb (placeOf l v) (length l)
-unfolding onAxis placeOf
-on-axis [] v = refl
-on-axis (w ∷ l) v = go (sameNumber w v) (on-axis l v)
-  where
-    go : (b : Bool) → onAxis l v ≡ ltb (placeOf l v) (length l) → b || onAxis l v ≡ ltb (cond b 0 (suc (placeOf l v))) (suc (length l))
-    go true e = sym (lt-ltb 0 (suc (length l)) (omega arith))
-    go false e = e ∙ sym (leb·suc-suc (suc (placeOf l v)) (length l))
-
-pub on-axis-read : (c a : ℕ) → a < 2 → (v : ℤ) (t : List ℕ) (r : Bool) (size : ℕ) → mag v < 2 ^ 15 → t ≡ numbersBy (axis (constellation c) a)
-    → size ≡ length (axis (constellation c) a) → r ≡ ltb (getD t (placeOf standard64 (toZ w16 (ofZ w16 v))) 0) size
-    → r ≡ onAxis (axis (constellation c) a) v
-on-axis-read c a h v t r size m e f g =
-    g ∙ rw (f, number-read c a h v t _ m e refl) (sym (on-axis (axis (constellation c) a) v))
-
--- the cells from cell k on are points
-unfoldable pub pointsFrom : Constellation → List ℤ → ℕ → Bool
-pointsFrom K cells k = every (table (λ j. onAxis (axis K j) (getD cells j (pos 0))) (2 * k) (length cells - 2 * k))
-
-pub points-cons : (K : Constellation) (cells : List ℤ) (k : ℕ) → 2 * k + 1 < length cells
-    → pointsFrom K cells k ≡ onAxis (axis K 0) (getD cells (2 * k) (pos 0)) && (onAxis (axis K 1) (getD cells (2 * k + 1) (pos 0)) && pointsFrom K cells (k + 1))
-unfolding pointsFrom every table
-points-cons K cells k h =
-    let e : length cells - 2 * k ≡ suc (suc (length cells - 2 * (k + 1))) = omega arith in
-    let f : suc (suc (2 * k)) ≡ 2 * (k + 1) = omega arith in
-    let g : suc (2 * k) ≡ 2 * k + 1 = omega arith in
-    rw (e, f, g, axis-of K k 1 (omega arith), axis-even K (2 * k) (omega arith), axis-even K 0 refl)
-
-pub points-none : (K : Constellation) (cells : List ℤ) (k : ℕ) → length cells ≤ 2 * k → true ≡ pointsFrom K cells k
-unfolding pointsFrom every table
-points-none K cells k h = let e : length cells - 2 * k ≡ 0 = omega arith in rw e
-
-pub points-all : (K : Constellation) (cells : List ℤ) → pointsFrom K cells 0 ≡ arePoints K cells
-unfolding pointsFrom arePoints
-points-all K cells = let e : length cells - 2 * 0 ≡ length cells = omega arith in rw e
-
--- the two tests of a cell, as they come out
-module _ (K : Constellation) (cells : List ℤ) (k : ℕ) (h : 2 * k + 1 < length cells) {a : Bool}
-    (ea : a ≡ onAxis (axis K 0) (getD cells (2 * k) (pos 0))) where
-  pub points-real : a ≡ false → false ≡ pointsFrom K cells k
-  points-real f = rw (points-cons K cells k h, ← ea, f)
-
-  pub points-imaginary : {b : Bool} → a ≡ true → b ≡ onAxis (axis K 1) (getD cells (2 * k + 1) (pos 0)) → b ≡ false → false ≡ pointsFrom K cells k
-  points-imaginary t eb f = rw (points-cons K cells k h, ← ea, t, ← eb, f)
-
-  pub points-both : {b : Bool} → a ≡ true → b ≡ onAxis (axis K 1) (getD cells (2 * k + 1) (pos 0)) → b ≡ true → pointsFrom K cells (k + 1) ≡ pointsFrom K cells k
-  points-both t eb u = rw (points-cons K cells k h, ← ea, t, ← eb, u)

@@ -81,7 +81,7 @@ place-none v k e h =
         number-not v w (λ p. h (p ∙ sym (ap (λ n. ofZ w16 (getD byDigits n (pos 0))) (e ∙ ap (λ b. bitAnd b 15) p) ∙ ap (ofZ w16) o)))
 
 -- the four lowest binary digits of a number
-digits-low : (n : ℕ) → bitAnd n 15 < 16
+pub digits-low : (n : ℕ) → bitAnd n 15 < 16
 digits-low n = omega (arith, and-le-r n 15)
 
 -- they are their own value as a signed number, and below 16

@@ -1,2 +1,3 @@
-pub mod Requirements
+pub mod Contracts
 pub mod Numbers
+pub mod PointTests

@@ -1,5 +1,5 @@
 -- The numbers i0 + 2 × i1 + 4 × i2 of level bits, and coordinates. 01 "Mapping"; 001 clause 7.4.
-use Prim.Native.Nat.{ℕ, _+_, _*_, _/_}
+use Prim.Native.Nat.{ℕ}
 use mathlib.Core.List.{List}
 use lib.ListN.{length, getD}
 use lib.IntN.{ℤ, pos}
@@ -10,10 +10,6 @@ use Rattle.block.specs.Reading.{placeOf}
 -- The coordinates of such numbers, flat, real before imaginary.
 unfoldable pub coordinates : Constellation → List ℕ → List ℤ
 coordinates k numbers = table (λ j. getD (axis k j) (getD numbers j 0) (pos 0)) 0 (length numbers)
-
--- The numbers of one axis, a number a cell: axis 0 is the real, axis 1 the imaginary one.
-unfoldable pub axisNumbers : ℕ → List ℕ → List ℕ
-axisNumbers a numbers = table (λ k. getD numbers (2 * k + a) 0) 0 (length numbers / 2)
 
 -- The numbers of a labelling by a coordinate's place among 7, 5, .. -7; 0 stands for what is none of these.
 unfoldable pub numbersBy : List ℤ → List ℕ

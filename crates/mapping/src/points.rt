@@ -1,18 +1,16 @@
 // Level bits to coordinates and back. 01 "Mapping"; 001 clause 7.4.
 ghost use mathlib.Core.Path.{_≡_};
 ghost use Prim.Native.Nat.{_<_};
-ghost use lib.ListN.{length, getD};
-ghost use lib.Dec.{ltb};
+ghost use lib.ListN.{getD};
 ghost use lib.IntN.{pos};
 ghost use lib.Bits.{bitAnd};
 ghost use mir.Syntax.{w16};
 ghost use mir.Val.{ofZ};
 ghost use Rattle.lists.specs.Lists.{table};
 ghost use Rattle.block.specs.Mapping.{standard64, constellation, axis, weave};
-ghost use Rattle.block.specs.Points.{arePoints};
 ghost use Rattle.block.specs.Reading.{placeOf, numbersOf};
-ghost use Rattle.mapping.specs.Numbers.{coordinates, axisNumbers, numbersBy};
-ghost use Rattle.mapping.specs.Requirements.{Maps, MapsAxes, Unmaps, UnmapsAxis, WholeCells};
+ghost use Rattle.mapping.specs.Numbers.{coordinates, numbersBy};
+ghost use Rattle.mapping.specs.Contracts.{Maps, MapsAxes, Unmaps};
 
 // The coordinates of an axis by the number of its level bits, filled up with zeros to eight.
 const QAM4: [i16; 8] = [1, -1, 0, 0, 0, 0, 0, 0];
@@ -90,14 +88,14 @@ const COORDINATES: [i16; 16] = [0, 1, 0, 3, 0, 5, 0, 7, 0, -7, 0, -5, 0, -3, 0, 
 const PLACES: [u8; 16] = [8, 3, 8, 2, 8, 1, 8, 0, 8, 7, 8, 6, 8, 5, 8, 4];
 
 // The four lowest binary digits of a number.
-fn low_digits(v: i16) -> usize
+pub fn low_digits(v: i16) -> usize
     ensures { λ r. ⌜ (r ≡ bitAnd (ofZ w16 v) 15) × (r < 16) ⌝ }
 {
     (v & 15) as usize
 }
 
 // The place of a coordinate among 7, 5, .. -7; 8 where it is none of them. By a table, since a processor does not foresee jumps that follow cells.
-pub fn place_of(v: i16) -> usize
+fn place_of(v: i16) -> usize
     ensures { λ r. ⌜ r ≡ placeOf standard64 v ⌝ }
 {
     let k = low_digits(v);
@@ -165,58 +163,4 @@ pub fn unmap_cells(c: u8, cells: &[i16], out: &mut [u8])
         out[2 * k + 1] = number_of(&imaginary, cells[2 * k + 1]);
         k += 1;
     }
-}
-
-// The coordinates of one axis back to numbers.
-pub fn unmap_axis(c: u8, a: usize, cells: &[i16], out: &mut [u8])
-    requires { ⌜ UnmapsAxis c a (now cells) (now out) ⌝ }
-    ensures { λ r. ⌜ now (out .exit) ≡ axisNumbers a (numbersOf (constellation c) (now (cells .entry))) ⌝ }
-{
-    let numbers = axis_numbers(c, a);
-    let mut k = 0;
-    while k < out.len() {
-        out[k] = number_of(&numbers, cells[2 * k + a]);
-        k += 1;
-    }
-}
-
-// How many coordinates an axis of a constellation has.
-fn axis_size(c: u8) -> u8
-    requires { ⌜ c < 5 ⌝ }
-    ensures { λ r. ⌜ (r ≡ length (axis (constellation c) 0)) × (r ≡ length (axis (constellation c) 1)) ⌝ }
-{
-    match c {
-        0 => 2,
-        1 => 4,
-        _ => 8,
-    }
-}
-
-// Whether a coordinate is one of its axis's: what is none has the axis's size as its number.
-fn on_axis(numbers: &[u8; 9], size: u8, v: i16) -> bool
-    ensures { λ r. ⌜ r ≡ ltb (getD (now (numbers .entry)) (placeOf standard64 v) 0) size ⌝ }
-{
-    number_of(numbers, v) < size
-}
-
-// Whether every cell is a point of the constellation.
-pub fn are_points(c: u8, cells: &[i16]) -> bool
-    requires { ⌜ WholeCells c (now cells) ⌝ }
-    ensures { λ r. ⌜ r ≡ arePoints (constellation c) (now (cells .entry)) ⌝ }
-{
-    let real = axis_numbers(c, 0);
-    let imaginary = axis_numbers(c, 1);
-    let size = axis_size(c);
-    let n = cells.len() / 2;
-    let mut k = 0;
-    while k < n {
-        if !on_axis(&real, size, cells[2 * k]) {
-            return false;
-        }
-        if !on_axis(&imaginary, size, cells[2 * k + 1]) {
-            return false;
-        }
-        k += 1;
-    }
-    true
 }

@@ -17,15 +17,16 @@ use Rattle.settings.specs.Accepted.{Accepted}
 use Rattle.settings.specs.Refusal.{first, refusal}
 use Rattle.settings.proofs.Bounds.{accepted-of}
 use Rattle.block.specs.Mapping.{constellation}
-use Rattle.frame.specs.Sdc.{sdcConstellation}
-use Rattle.frame.specs.Msc.{mscConstellation}
+use Rattle.channels.specs.Sdc.{sdcConstellation}
+use Rattle.channels.specs.Msc.{mscConstellation}
 use Rattle.measured.specs.declared.MeasuredCell.{MeasuredCell}
 use Rattle.measured.specs.declared.Channel.{Channel}
 use Rattle.measured.specs.declared.Channel.the-variants.{Fac, Sdc, Msc}
 use Rattle.measured.specs.Cells.{refusedCell, pointOn}
 use Rattle.measured.specs.Calls.{axisBits, cellAt, passAt, pass, pointAt, pointsOf, bitAt, bitsOf, constellationOf, DecideYield, decideYield, decideRefusal, decideBy, decideOf}
 use Rattle.measured.specs.Contracts.{Lent, PointsFit, BitFits, BitsFit}
-use Rattle.block.proofs.Every.{Tested, tested-turn, tested-stop, every-at}
+use Rattle.lists.proofs.Bools.{table-every}
+use Rattle.lists.proofs.Tests.{Tested, tested-turn, tested-stop}
 
 -- as many elements as `each` for each of n, by the division
 pub each-of : (m each n : ℕ) → 1 ≤ each → (eqb (m % each) 0 && eqb (m / each) n) ≡ eqb m (each * n)
@@ -64,7 +65,7 @@ module _ (kinds : List ℕ) (values : List Float) (k : ℕ) (cell : MeasuredCell
 
 pub passed-at : (kinds : List ℕ) (values : List Float) → pass kinds values ≡ true → (k : ℕ) → k < length kinds → refusedCell (cellAt kinds values k) ≡ false
 unfolding pass passAt
-passed-at kinds values t k h = not-true _ (every-at (passAt kinds values) 0 (length kinds) t k (omega arith) (omega arith))
+passed-at kinds values t k h = not-true _ (table-every (passAt kinds values) (length kinds) t k (omega arith))
   where
     not-true : (b : Bool) → not b ≡ true → b ≡ false
     not-true true e = absurd (never-both false e refl)

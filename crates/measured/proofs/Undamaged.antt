@@ -27,12 +27,12 @@ use Rattle.block.specs.Block.{cellsOf, oneAxis, pointsOf as blockPoints}
 use Rattle.block.specs.Fits.{Labelling, BlockBits}
 use Rattle.block.proofs.Mapping.{levelCount, constellation-labels, getD-mapped, length-mapped}
 use Rattle.block.proofs.Blocks.{points-cells}
-use Rattle.frame.specs.Fac.{facBlock}
-use Rattle.frame.specs.Sdc.{sdcBlock}
-use Rattle.frame.specs.Msc.{mscBlock}
-use Rattle.frame.proofs.Fac.{fac-bits, fac-fits}
-use Rattle.frame.proofs.Sdc.{sdc-fits}
-use Rattle.frame.proofs.Msc.{msc-fits}
+use Rattle.channels.specs.Fac.{facBlock}
+use Rattle.channels.specs.Sdc.{sdcBlock}
+use Rattle.channels.specs.Msc.{mscBlock}
+use Rattle.channels.proofs.Fac.{fac-bits, fac-fits}
+use Rattle.channels.proofs.Sdc.{sdc-fits}
+use Rattle.channels.proofs.Msc.{msc-fits}
 use Rattle.nearest.specs.Coded.{facCoded, facSent}
 use Rattle.nearest.specs.Fac.{allValues, nearestRefusalBy, nearestRefusal, nearestYield, nearestAccepted, nearestOf}
 use Rattle.nearest.proofs.Blocks.{length-coded}
@@ -46,7 +46,7 @@ use Rattle.measured.specs.Distance.{decision}
 use Rattle.measured.specs.Cells.{isFinite, refusedCell, valueOn, pointOn, bitOn}
 use Rattle.measured.specs.Calls.{constellationOf, axisBits, cellAt, passAt, pass, pointAt, pointsOf, bitAt, bitsOf, decideYield, decideRefusal, decideOf}
 use Rattle.measured.specs.Theorems.{channelBlock, asFloats}
-use Rattle.block.proofs.Every.{every-at, every-table}
+use Rattle.lists.proofs.Bools.{every-table, table-every}
 use Rattle.measured.proofs.Axes.{on-both}
 use Rattle.measured.proofs.Integers.{decides-itself, coordinate-finite}
 use Rattle.measured.proofs.Accepts.{known, by-accepted, of-accepted}
@@ -67,7 +67,7 @@ module _ (c : ℕ) (low : c < 5) (n : ℕ) (cells : List ℤ) (long : length cel
   on-axis : (m : ℕ) → m < 2 * n → onAxis (axis (constellation c) m) (getD cells m (pos 0)) ≡ true
   unfolding arePoints
   on-axis m h =
-      every-at (λ j. onAxis (axis (constellation c) j) (getD cells j (pos 0))) 0 (length cells) are m (omega arith) (omega arith)
+      table-every (λ j. onAxis (axis (constellation c) j) (getD cells j (pos 0))) (length cells) are m (omega arith)
 
   pairAt : ℕ → Measured
   pairAt k = record { real = ofInt binary32 (getD cells (2 * k) (pos 0)); imaginary = ofInt binary32 (getD cells (2 * k + 1) (pos 0)) }

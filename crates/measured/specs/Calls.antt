@@ -10,9 +10,9 @@ use Rattle.lists.specs.Lists.{table}
 use Rattle.settings.specs.declared.Settings.{Settings}
 use Rattle.settings.specs.Refusal.{first, refusal}
 use Rattle.block.specs.Mapping.{QAM4, constellation}
-use Rattle.block.specs.Points.{every}
-use Rattle.frame.specs.Sdc.{sdcConstellation}
-use Rattle.frame.specs.Msc.{mscConstellation}
+use Rattle.lists.specs.Bools.{every}
+use Rattle.channels.specs.Sdc.{sdcConstellation}
+use Rattle.channels.specs.Msc.{mscConstellation}
 use Rattle.measured.specs.declared.MeasuredCell.{MeasuredCell}
 use Rattle.measured.specs.declared.MeasuredCell.the-variants.{Pair, Fade}
 use Rattle.measured.specs.declared.Channel.{Channel}

@@ -17,9 +17,9 @@ use Rattle.block.specs.Packing.{packed}
 use Rattle.block.specs.Points.{arePoints}
 use Rattle.block.specs.Block.{cellsOf}
 use Rattle.block.specs.Fits.{BlockBits}
-use Rattle.frame.specs.Fac.{facBlock}
-use Rattle.frame.specs.Sdc.{sdcBlock}
-use Rattle.frame.specs.Msc.{mscBlock}
+use Rattle.channels.specs.Fac.{facBlock}
+use Rattle.channels.specs.Sdc.{sdcBlock}
+use Rattle.channels.specs.Msc.{mscBlock}
 use Rattle.nearest.specs.Fac.{nearestYield, nearestOf}
 use Rattle.measured.specs.declared.Channel.{Channel}
 use Rattle.measured.specs.declared.Channel.the-variants.{Fac, Sdc, Msc}

@@ -15,7 +15,7 @@ use Rattle.block.specs.Dispersal.{p, dispersed, dispersedParts}
 use Rattle.block.specs.Levels.{codedA, codedB, mixed, stream, totalA, totalB, streams}
 use Rattle.block.specs.Block.{streamsOf}
 use Rattle.block.proofs.Dispersal.{length-dispersed}
-use Rattle.frame.specs.Fac.{facLevel, facBlock}
+use Rattle.channels.specs.Fac.{facLevel, facBlock}
 use Rattle.nearest.specs.Nearest.{disagreement, better, cheapest, nearest}
 use Rattle.component.specs.Patterns.{columns, table65, pattern}
 use Rattle.component.specs.Coding.{padded, patternOf, patternFrom}

@@ -8,7 +8,7 @@ use Rattle.settings.specs.Cells.{facCells}
 use Rattle.settings.specs.Formulas.{facBits}
 use Rattle.block.specs.Dispersal.{dispersedParts}
 use Rattle.block.specs.Block.{streamsOf}
-use Rattle.frame.specs.Fac.{facBlock}
+use Rattle.channels.specs.Fac.{facBlock}
 use Rattle.nearest.specs.Nearest.{disagreement, nearest, Nearest}
 use Rattle.nearest.specs.Coded.{coded, facSent}
 use Rattle.nearest.specs.Fac.{facNearest}

@@ -1,8 +1,8 @@
 // The nearest FAC block. 02, S-9.
 use crate::search::search_with;
+use dispersal::bits::disperse;
+use dispersal::bits::pack;
 use interleaver::order::deinterleave;
-use packing::bits::disperse;
-use packing::bits::pack;
 use settings::tables::FAC_BYTES;
 use settings::tables::FAC_NUMBERS;
 use settings::tables::R3_5;

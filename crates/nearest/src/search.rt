@@ -198,7 +198,8 @@ fn choose_from(
     choices: &mut [u64],
 ) -> u16
     requires { ⌜ Searches (now pattern) (now tail) (now flips) (now choices) ⌝ }
-    ensures { λ r. ⌜ Chosen (now (flips .entry)) (restored (now (pattern .entry)) (now (tail .entry)) (length (now (flips .entry))) (now (received .entry))) (now (choices .exit)) r ⌝ }
+    ensures { λ r. ⌜ Chosen (now (flips .entry)) (restored (now (pattern .entry)) (now (tail .entry)) (length (now (flips .entry)))
+        (now (received .entry))) (now (choices .exit)) r ⌝ }
 {
     let m = 4 * flips.len() + 24;
     let mut values = value_buffer();

@@ -42,7 +42,8 @@ fn spread_column(column: u8, received: &[u8], at: usize, out: &mut [u8], to: usi
 // The values of a segment from place `at` on, four for each of its bits: they fill out.
 fn spread_segment(pattern: &[u8], received: &[u8], at: usize, out: &mut [u8]) -> usize
     requires { ⌜ SpreadsAll (now pattern) at (now out) ⌝ }
-    ensures { λ r. ⌜ (r ≡ at + codedLength (now (pattern .entry)) 0 (length (now (out .entry)) / 4)) × (now (out .exit) ≡ spreadAll (now (pattern .entry)) 0 (length (now (out .entry)) / 4) (drop at (now (received .entry)))) ⌝ }
+    ensures { λ r. ⌜ (r ≡ at + codedLength (now (pattern .entry)) 0 (length (now (out .entry)) / 4)) × (now (out .exit)
+        ≡ spreadAll (now (pattern .entry)) 0 (length (now (out .entry)) / 4) (drop at (now (received .entry)))) ⌝ }
 {
     let n = out.len() / 4;
     let mut at = at;

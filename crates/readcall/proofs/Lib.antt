@@ -1,2 +1,3 @@
-pub mod Given
+pub mod FaultTurns
 pub mod ReadParts
+pub mod ReadTurns

@@ -1,50 +1,65 @@
--- The call Read from its refusals and from the blocks read into working buffers. Assumes nothing.
+-- The call Read from its refusals and from its blocks. Assumes nothing.
 use mathlib.Core.Path.{_≡_, refl, sym, ap, _∙_}
-use mathlib.Core.Bool.{Bool, true, false, not, true≢false}
-use mathlib.Core.List.{List, [], _∷_}
-use Prim.Native.Nat.{ℕ, zero, suc, _+_, _-_, _*_, _≤_, _<_, min}
-use native.Mathlib.Nat.{sub-zero, zero-add, mul-le-mul-right}
+use mathlib.Core.Bool.{Bool, true, false, not, _&&_, true≢false}
+use mathlib.Core.List.{List, [], _∷_, _++_, map, append-nil, append-assoc}
+use Prim.Native.Nat.{ℕ, zero, suc, _-_, _≤_, _<_}
 use native.Mathlib.Omega.{arith}
-use borrow.Author.Tests.{lt-ltb, le-ltb}
-use lib.ListN.{length, take, drop, replicate, length-append, length-map, length-replicate}
-use borrow.Rule.Slice.PartMut.{putMid}
-use lib.Seq.{length-take-le, length-sets, take-at}
+use native.Mathlib.Nat.{sub-zero}
+use lib.ListN.{length, take, replicate, length-append}
+use lib.Seq.{take-at}
 use lib.IntN.{ℤ}
 use Rattle.lists.specs.Lists.{table}
+use Rattle.lists.specs.Bytes.{bytesFor}
 use Rattle.lists.proofs.Tables.{length-table}
+use Rattle.lists.proofs.Bools.{and-left, and-right, every-append}
 use Rattle.settings.specs.Refusal.{first}
+use Rattle.settings.specs.Accepted.{Accepted}
 use Rattle.settings.specs.Cells.{facCells}
 use Rattle.settings.specs.Formulas.{roundUp}
-use Rattle.settings.specs.Lengths.{nMux}
-use Rattle.settings.specs.Sizes.{depth, frameBytes, sdcBytes}
-use Rattle.lists.specs.Bytes.{bytesFor}
+use Rattle.settings.specs.Sizes.{frameBytes, sdcBytes}
 use Rattle.settings.proofs.Bounds.{accepted-of}
-use Rattle.block.specs.Points.{every}
+use Rattle.block.specs.declared.Block.{Block}
+use Rattle.lists.specs.Bools.{every, firstFault}
+use Rattle.block.specs.Reading.{given, bytesRead}
+use Rattle.channels.specs.Fac.{facBlock}
+use Rattle.channels.specs.Sdc.{sdcBlock}
+use Rattle.channels.specs.Msc.{mscBlock}
 use Rattle.superframe.specs.declared.State.{State}
-use Rattle.superframe.specs.declared.Answer.{Answer}
-use Rattle.superframe.specs.declared.Reading.{Reading}
 use Rattle.superframe.specs.declared.Answer.the-variants.{Finished, Refused}
-use Rattle.superframe.specs.Memory.{slotSize}
-use Rattle.superframe.specs.Interleaving.{advanced, afterRows}
-use Rattle.superframe.specs.Call.{part, parts, inOrder, memoryLength}
-use Rattle.superframe.specs.Code.{byteLengths, cellLengths, progressOf, stateOf}
-use Rattle.superframe.specs.Read.{ReadCall, rowsOf, pointTests, givenTests, firstFault, orderRefusal, answerOf, readAccepted, readRefused, readOf}
-use Rattle.superframe.specs.Answers.{blocksAnswer}
-use Rattle.superframe.specs.Facts.{ReadFits}
+use Rattle.superframe.specs.Call.{parts, joined, inOrder, memoryLength}
+use Rattle.superframe.specs.Code.{byteLengths, cellLengths, progressOf}
+use Rattle.superframe.specs.Read.{ReadCall, pointTests, givenTests, orderRefusal, answerOf, handedOut, readAccepted, readRefused, readOf}
+use Rattle.superframe.specs.Blocks.{keptBytes, placedBytes, placedTests}
+use Rattle.superframe.specs.Contracts.{ReadFits}
 use Rattle.superframe.proofs.Calls.{read-fits, answer-order, answer-points, answer-blocks, read-accepts, read-refuses}
-use Rattle.cellrows.specs.Rows.{later}
-use Rattle.cellrows.specs.Refusals.{refusalThen}
-use Rattle.cellrows.proofs.Chains.{then-stops, then-goes-on}
-use Rattle.cellrows.proofs.Progress.{later-is, later-low}
-use Rattle.superframe.proofs.Coding.{depth-high}
-use Rattle.readblocks.specs.Faults.{pointTest, CellsLent}
-use Rattle.channels.specs.Lent.{SdcLent}
-use Rattle.channels.proofs.Lengths.{sdc-lent}
-use Rattle.cellrows.proofs.Laid.{put-sets}
-use Rattle.readblocks.specs.Finishing.{RowsLent, readCall}
-use Rattle.readcall.specs.Working.{readYield, ReadPasses, Answered, framesOf, blockTests, FramesLent, FramesWork, SdcFramesLent, BlocksRead}
-use Rattle.readblocks.proofs.FaultTurns.{fault-some, fault-none, fault-most, tests-are}
-use Rattle.readcall.proofs.Given.{number-is, given-is, frames-few}
+use Rattle.cellmemory.specs.Contracts.{StateFits, refusalThen}
+use Rattle.cellmemory.proofs.Chains.{then-stops, then-goes-on}
+use Rattle.cellmemory.proofs.Progress.{memory-most}
+use Rattle.readcall.specs.declared.Blocks.{Blocks}
+use Rattle.readcall.specs.declared.Fault.{Fault}
+use Rattle.readcall.specs.declared.Fault.the-variants.{Nowhere, At}
+use Rattle.readcall.specs.Contracts.{readCall, readYield, faultOf, pointTest, CellsLent, facsOf, framesOf, blocksOf, BlocksLent, BlocksRead, ReadPasses}
+use Rattle.readcall.proofs.FaultTurns.{fault-at, fault-nowhere, tests-are}
+use Rattle.readcall.proofs.ReadTurns.{frames-most}
+
+-- Tests that hold after others change nothing.
+every-trues : (l : List Bool) (n : ℕ) → every (l ++ replicate n true) ≡ every l
+unfolding every
+every-trues [] zero = refl
+every-trues [] (suc n) = every-trues [] n
+every-trues (b ∷ l) n = ap (λ (x : Bool). b && x) (every-trues l n)
+
+fault-front : (l r : List Bool) → every l ≡ false → firstFault (l ++ r) ≡ firstFault l
+unfolding every firstFault
+fault-front [] r h = absurd (true≢false h)
+fault-front (true ∷ l) r h = ap suc (fault-front l r h)
+fault-front (false ∷ l) r h = refl
+
+-- Blocks that bits give are handed out as they are read.
+kept-given : (k : Block) (n : ℕ) (fs : List (List ℤ)) → every (map (given k) fs) ≡ true → map (keptBytes k n) fs ≡ map (bytesRead k) fs
+unfolding every keptBytes
+kept-given k n [] h = refl
+kept-given k n (f ∷ fs) h = rw (and-left (given k f) _ h, kept-given k n fs (and-right (given k f) _ h))
 
 -- 1 to 10, and then 12.
 module _ (state : State) (memory faccells sdccells msccells : List ℤ) (fac sdc msc : List ℕ) (n : ℕ)
@@ -95,229 +110,136 @@ module _ (state : State) (memory : List ℤ) (c : ReadCall) where
           msclong = f .cells .msclong;
         }
 
-    eight : length (pointTests (state .settings) (state .count) c) ≡ 8
-    eight = ap length (tests-are (state .settings) (state .count) c) ∙ length-table _ 0 8
+    module _ (f : Fault) (g : f ≡ faultOf (table (pointTest (state .settings) (state .count) (c .faccells) (c .sdccells) (c .msccells)) 0 8)) where
+      fault-is : f ≡ faultOf (pointTests (state .settings) (state .count) c)
+      fault-is = g ∙ ap faultOf (sym (tests-are (state .settings) (state .count) c))
 
-    module _ (f : ℕ) (g : f ≡ firstFault (table (pointTest (state .settings) (state .count) (c .faccells) (c .sdccells) (c .msccells)) 0 8)) where
-      fault-is : f ≡ firstFault (pointTests (state .settings) (state .count) c)
-      fault-is = g ∙ ap firstFault (sym (tests-are (state .settings) (state .count) c))
+      pub refused-points : (b : ℕ) → f ≡ At b
+          → readYield (record { answer = Refused 13 b; state = state }) memory (c .fac) (c .sdc) (c .msc) ≡ readOf state memory c
+      refused-points b l =
+          let t = fault-at _ f b fault-is l in
+          refused-is 13 b (answer-points state memory c (sym e ∙ h) (t .0) ∙ rw (t .1)) (omega arith)
 
-      pub refused-points : f < 8
-          → readYield (record { answer = Refused 13 f; state = state }) memory (c .fac) (c .sdc) (c .msc) ≡ readOf state memory c
-      refused-points l =
-          refused-is 13 f (answer-points state memory c (sym e ∙ h) (fault-some _ (omega (arith, fault-is, eight))) ∙ rw (← fault-is)) (omega arith)
+      pub passes-points : f ≡ Nowhere → ReadPasses state memory c
+      passes-points l = record { order = sym e ∙ h; points = fault-nowhere _ f fault-is l }
 
-      pub passes-points : 8 ≤ f → ReadPasses state memory c
-      passes-points l = record { order = sym e ∙ h; points = fault-none _ (omega (arith, fault-is, eight)) }
+-- What is known of a call that no number from 1 to 13 refuses.
+module _ (state : State) (memory : List ℤ) (c : ReadCall) (w : ReadPasses state memory c) where
+  facts : ReadFits state memory c
+  facts = read-fits state memory c (w .order)
 
--- An answer is not both.
-isFinished : Answer → Bool
-isFinished (Finished n) = true
-isFinished (Refused r b) = false
+  allowed : Accepted (state .settings)
+  allowed = accepted-of _ (facts .fits .settings)
 
-finished≢refused : {n r b : ℕ} → Finished n ≡ Refused r b → ⊥
-unfolding isFinished
-finished≢refused e = true≢false (ap isFinished e)
+  in-order : StateFits state memory
+  unfolding memoryLength
+  in-order = record { allowed = allowed; position = facts .order .position; count = facts .order .count; slots = facts .fits .long }
 
--- The answer with the state that follows it.
-pub answered-refused : (state : State) (answer : Answer) (n b : ℕ) → answer ≡ Refused n b → Answered state answer (record { answer = answer; state = state })
-answered-refused state answer n b e =
-    record { refused = λ n b f. refl; finished = λ n f. absurd (finished≢refused (sym f ∙ e)) }
+  pub numbers-most : length memory ≤ 61180
+  numbers-most = memory-most in-order
 
-pub answered-finished : (state after : State) (answer : Answer) (n : ℕ) → answer ≡ Finished n
-    → ((memory a b c : List ℤ) → after ≡ stateOf (state .settings) (afterRows (state .settings) (progressOf state memory) (a ∷ b ∷ c ∷ [])))
-    → Answered state answer (record { answer = answer; state = after })
-answered-finished state after answer n e s =
-    record {
-      refused = λ n b f. absurd (finished≢refused (sym e ∙ f));
-      finished = λ n f memory a b c. rw (s memory a b c);
-    }
+  pub sdc-most : length (c .sdc) ≤ 210
+  unfolding sdcBytes bytesFor roundUp
+  sdc-most = omega (arith, facts .bytes .sdclong, allowed .sdcBitsMost)
 
--- What a call yields whose blocks were read.
-module _ (state : State) (memory : List ℤ) (c : ReadCall) (w : ReadPasses state memory c) (r : ℕ) (memory′ : List ℤ) (fac′ sdc′ msc′ : List ℕ)
-    (b : BlocksRead state memory c r memory′ fac′ sdc′ msc′) where
-  abbrev tests : List Bool
-  tests = blockTests state memory c
+  pub msc-most : length (c .msc) ≤ 13767
+  msc-most = omega (arith, facts .bytes .msclong, frames-most allowed)
 
-  abbrev frames : List (List ℤ)
-  frames = framesOf state memory (c .msccells)
-
-  few : length frames ≤ 3
-  few = frames-few state memory (c .msccells) (read-fits state memory c (w .order) .order .count)
-
-  tests-long : length tests ≤ 7
-  unfolding givenTests parts
-  tests-long = let e : length tests ≡ 3 + suc (length frames) = simp (length-append, length-map, length-table) in omega (arith, few)
-
-  number-given : every tests ≡ true → r ≡ 8 + length frames
-  number-given e = b .number ∙ number-is tests 0 _ true e
-
-  number-fault : every tests ≡ false → (r ≡ firstFault tests) × (r < 8)
-  number-fault e =
-      let x : r ≡ firstFault tests = b .number ∙ number-is tests 0 _ false e ∙ zero-add _ in
-      (x, omega (arith, x, fault-most tests, tests-long))
-
-  answer-given : every tests ≡ true → blocksAnswer r ≡ Finished (length frames)
-  unfolding blocksAnswer
-  answer-given e =
-      let n : r - 8 ≡ length frames = omega (arith, number-given e) in
-      rw (le-ltb r 8 (omega (arith, number-given e)), n)
-
-  answer-fault : every tests ≡ false → blocksAnswer r ≡ Refused 14 r
-  unfolding blocksAnswer
-  answer-fault e = rw (lt-ltb r 8 (number-fault e .1))
-
-  rows-three : rowsOf (state .settings) (c .msccells)
-      ≡ part (slotSize (state .settings)) (c .msccells) 0 ∷ part (slotSize (state .settings)) (c .msccells) 1 ∷ part (slotSize (state .settings)) (c .msccells) 2 ∷ []
-  unfolding rowsOf parts table
-  rows-three = refl
-
-  module _ (answer : Answer) (i : answer ≡ blocksAnswer r) (reading : Reading) (d : Answered state answer reading) where
-    yield-given : every tests ≡ true → readYield reading memory′ fac′ sdc′ msc′ ≡ readOf state memory c
-    unfolding readAccepted
-    yield-given e =
-        let a = i ∙ answer-given e in
-        rw (
-          d .finished _ a memory (part (slotSize (state .settings)) (c .msccells) 0) (part (slotSize (state .settings)) (c .msccells) 1) (part (slotSize (state .settings)) (c .msccells) 2),
-          a,
-          ← rows-three,
-          b .held ∙ given-is tests true e _ _,
-          b .facbytes ∙ given-is tests true e _ _,
-          b .sdcbytes ∙ given-is tests true e _ _,
-          b .mscbytes ∙ given-is tests true e _ _,
-        )
-        (sym (read-accepts state memory c (w .order) (w .points) e))
-
-    yield-fault : every tests ≡ false → readYield reading memory′ fac′ sdc′ msc′ ≡ readOf state memory c
-    yield-fault e =
-        let a = i ∙ answer-fault e in
-        rw (
-          d .refused _ _ a,
-          a,
-          b .held ∙ given-is tests false e _ _,
-          b .facbytes ∙ given-is tests false e _ _,
-          b .sdcbytes ∙ given-is tests false e _ _,
-          b .mscbytes ∙ given-is tests false e _ _,
-        )
-        (refused-is state memory c 14 r (answer-blocks state memory c (w .order) (w .points) e ∙ rw (← number-fault e .0)) (omega arith))
-
-    pub blocks-yield : readYield reading memory′ fac′ sdc′ msc′ ≡ readOf state memory c
-    blocks-yield = go (every tests) refl
-      where
-        go : (t : Bool) → every tests ≡ t → readYield reading memory′ fac′ sdc′ msc′ ≡ readOf state memory c
-        go true e = yield-given e
-        go false e = yield-fault e
-
--- Zeros cut short.
-take-zeros : (a b : ℕ) → a ≤ b → take a (replicate {A = ℕ} b 0) ≡ replicate a 0
-take-zeros zero b h = refl
-take-zeros (suc a) zero h = absurd (omega arith)
-take-zeros (suc a) (suc b) h = ap (λ (l : List ℕ). 0 ∷ l) (take-zeros a b (omega arith))
-
--- What the blocks require, of a call that passes.
-module _ (state : State) (memory faccells sdccells msccells : List ℤ) (fac sdc msc : List ℕ)
-    (w : ReadPasses state memory (readCall faccells sdccells msccells fac sdc msc)) where
-  facts : ReadFits state memory (readCall faccells sdccells msccells fac sdc msc)
-  facts = read-fits state memory (readCall faccells sdccells msccells fac sdc msc) (w .order)
-
-  pub in-order-of : (state .position < depth (state .settings)) × (state .count < depth (state .settings))
-  in-order-of = (facts .order .position, facts .order .count)
-
-  pub fac-cells : length faccells ≡ 390
-  unfolding facCells
-  fac-cells = facts .cells .faclong
-
-  pub fac-room : length fac ≡ 27
+  pub fac-room : length (c .fac) ≡ 27
   fac-room = facts .bytes .faclong
 
-  pub sdc-frames-lent : SdcFramesLent state sdccells msccells memory sdc msc
-  unfolding memoryLength slotSize
-  sdc-frames-lent =
-      let s = accepted-of _ (facts .fits .settings) in
+  -- Its cells, a copy of memory and buffers of zeros.
+  pub blocks-lent : (work : List ℤ) (fac sdc msc : List ℕ) → work ≡ memory → fac ≡ replicate 27 0 → sdc ≡ replicate (length (c .sdc)) 0 → msc ≡ replicate (length (c .msc)) 0
+      → BlocksLent state work (readCall (c .faccells) (c .sdccells) (c .msccells) fac sdc msc)
+  blocks-lent work fac sdc msc e f g h =
       record {
-        frames =
-            record {
-              allowed = s;
-              position = facts .order .position;
-              count = facts .order .count;
-              rows = omega (arith, facts .cells .msclong, s .ranges .threeFrames);
-              slots = facts .fits .long;
-              room = facts .bytes .msclong;
-            };
-        cells = facts .cells .sdclong;
-        room = facts .bytes .sdclong;
+        fits = rw e in-order;
+        cells = facts .cells;
+        fac = f;
+        sdc = g ∙ rw (facts .bytes .sdclong);
+        msc = h ∙ rw (facts .bytes .msclong);
       }
 
--- A part lent from the front, as it was left: it lies within the whole, and is what was left.
-module _ (n : ℕ) (l v : List ℕ) (h : n ≤ length l) (e : length v ≡ length (take (n - 0) (drop 0 l))) where
-  part-long : length v ≡ n
-  part-long = e ∙ length-take-le (n - 0) l (omega arith) ∙ sub-zero n
+  abbrev tests : List Bool
+  tests = givenTests (state .settings) (progressOf state memory) c
 
-  pub part-within : n ≤ length (putMid 0 (n - 0) l v)
-  part-within = rw (put-sets 0 n l v (omega arith) h (omega (arith, part-long)), length-sets l 0 v) h
+  abbrev frames : List (List ℤ)
+  frames = framesOf state memory c
 
-  pub part-back : take (n - 0) (drop 0 (putMid 0 (n - 0) l v)) ≡ v
-  part-back = rw sub-zero (take-at v _ n part-long)
+  -- The marks of all places: the tests of 14, and no more that fail.
+  marks-are : blocksOf state memory c .given ≡ tests ++ replicate (3 - length frames) true
+  unfolding blocksOf placedTests givenTests parts
+  marks-are = rw (length-table, append-nil (map (given facBlock) (facsOf c)), append-assoc)
 
--- Working buffers for the largest settings are long enough, and parts of them have the right lengths.
-pub sdc-most : (state : State) (sdccells msccells memory : List ℤ) (sdc msc : List ℕ) → SdcFramesLent state sdccells msccells memory sdc msc → length sdc ≤ 210
-unfolding sdcBytes bytesFor roundUp
-sdc-most state sdccells msccells memory sdc msc w = omega (arith, w .room, w .frames .allowed .sdcBitsMost)
+  -- Its blocks were read on a copy of memory and into other buffers.
+  module _ (work : List ℤ) (fac sdc msc : List ℕ) (same : work ≡ memory) (r : Blocks) (work′ : List ℤ) (fac′ sdc′ msc′ : List ℕ)
+      (B : BlocksRead state work (readCall (c .faccells) (c .sdccells) (c .msccells) fac sdc msc) r work′ fac′ sdc′ msc′) (f : Fault) (e : f ≡ faultOf (r .given)) where
+    blocks-are : r ≡ blocksOf state memory c
+    unfolding blocksOf
+    blocks-are = rw same at (B .blocks)
 
-pub sdc-work-lent : (state : State) (sdccells msccells memory : List ℤ) (sdc msc : List ℕ) → SdcFramesLent state sdccells msccells memory sdc msc
-    → (sdcwork : List ℕ) → length sdcwork ≡ 210 → SdcLent (state .settings) (take (length sdc - 0) (drop 0 sdcwork)) sdccells
-sdc-work-lent state sdccells msccells memory sdc msc w sdcwork e =
-    sdc-lent (w .frames .allowed)
-    (length-take-le (length sdc - 0) sdcwork (omega (arith, sdc-most state sdccells msccells memory sdc msc w)) ∙ sub-zero (length sdc) ∙ w .room)
-    (w .cells)
+    lost-is : f ≡ faultOf (tests ++ replicate (3 - length frames) true)
+    lost-is = e ∙ ap (λ (x : Blocks). faultOf (x .given)) blocks-are ∙ ap faultOf marks-are
 
--- Working buffers of the right lengths.
-module _ (state : State) (msccells memory : List ℤ) (msc : List ℕ) (work : List ℤ) (mscwork : List ℕ) (w : FramesWork state msccells memory msc work mscwork) where
-  pub rows-lent : (work′ : List ℤ) → work′ ≡ memory → RowsLent state msccells work′ mscwork
-  rows-lent work′ e =
-      let f = w .frames in
-      record {
-        allowed = f .allowed;
-        position = f .position;
-        count = f .count;
-        rows = f .rows;
-        slots = rw e (f .slots);
-        zeros = w .zeros;
-      }
+    pub refused-blocks : (b : ℕ) → f ≡ At b
+        → readYield (record { answer = Refused 14 b; state = state }) memory (c .fac) (c .sdc) (c .msc) ≡ readOf state memory c
+    refused-blocks b l =
+        let t = fault-at _ f b lost-is l in
+        let fails : every tests ≡ false = sym (every-trues tests (3 - length frames)) ∙ t .0 in
+        refused-is state memory c 14 b
+        (answer-blocks state memory c (w .order) (w .points) fails ∙ rw (← t .1, fault-front tests (replicate (3 - length frames) true) fails)) (omega arith)
 
-  pub msc-same : (mscwork′ : List ℕ) → length mscwork′ ≡ length mscwork → length msc ≡ length mscwork′
-  msc-same mscwork′ e = w .frames .room ∙ sym (e ∙ ap length (w .zeros) ∙ length-replicate {A = ℕ} (3 * frameBytes (state .settings)) 0)
+    module _ (l : f ≡ Nowhere) where
+      all-given : every tests ≡ true
+      all-given = sym (every-trues tests (3 - length frames)) ∙ fault-nowhere _ f lost-is l
 
-module _ (state : State) (msccells memory : List ℤ) (msc : List ℕ) (w : FramesLent state msccells memory msc) where
-  pub numbers-most : length memory ≤ 61180
-  unfolding slotSize
-  numbers-most =
-      let d = depth-high (state .settings) in
-      let m : depth (state .settings) * (2 * nMux (state .settings)) ≤ 5 * (2 * nMux (state .settings)) = mul-le-mul-right (2 * nMux (state .settings)) d in
-      omega (arith, w .slots, w .allowed .ranges .muxMost)
+      facs-given : every (map (given facBlock) (facsOf c)) ≡ true
+      unfolding givenTests
+      facs-given =
+          and-left (every (map (given facBlock) (facsOf c))) (every (given (sdcBlock (state .settings)) (c .sdccells) ∷ map (given (mscBlock (state .settings))) frames))
+          (sym (every-append (map (given facBlock) (facsOf c)) _) ∙ all-given)
 
-  pub msc-most : length msc ≤ 13767
-  unfolding frameBytes bytesFor roundUp
-  msc-most = omega (arith, w .room, w .allowed .frameMost, w .allowed .ranges .muxMost)
+      rest-given : (given (sdcBlock (state .settings)) (c .sdccells) && every (map (given (mscBlock (state .settings))) frames)) ≡ true
+      unfolding givenTests every
+      rest-given =
+          and-right (every (map (given facBlock) (facsOf c))) (every (given (sdcBlock (state .settings)) (c .sdccells) ∷ map (given (mscBlock (state .settings))) frames))
+          (sym (every-append (map (given facBlock) (facsOf c)) _) ∙ all-given)
 
-  pub frames-work : (work : List ℤ) (mscwork : List ℕ) → length work ≡ 61180 → mscwork ≡ replicate 13767 0
-      → FramesWork state msccells memory msc (take (length memory - 0) (drop 0 work)) (take (length msc - 0) (drop 0 mscwork))
-  frames-work work mscwork e z =
-      record {
-        frames = w;
-        same = length-take-le (length memory - 0) work (omega (arith, numbers-most)) ∙ sub-zero (length memory);
-        zeros = rw (z, sub-zero (length msc), take-zeros (length msc) 13767 msc-most, w .room);
-      }
+      sdc-given : given (sdcBlock (state .settings)) (c .sdccells) ≡ true
+      sdc-given = and-left (given (sdcBlock (state .settings)) (c .sdccells)) (every (map (given (mscBlock (state .settings))) frames)) rest-given
 
--- The state after three rows, from a position and a count that went on three times.
-pub after-three : (state : State) (D p₁ p₂ p₃ c₁ c₂ c₃ : ℕ) → D ≡ depth (state .settings) → state .position < D
-    → p₁ ≡ later D (state .position) → p₂ ≡ later D p₁ → p₃ ≡ later D p₂
-    → c₁ ≡ min (state .count + 1) (D - 1) → c₂ ≡ min (c₁ + 1) (D - 1) → c₃ ≡ min (c₂ + 1) (D - 1) → (memory a b c : List ℤ)
-    → record { settings = state .settings; position = p₃; count = c₃ } ≡ stateOf (state .settings) (afterRows (state .settings) (progressOf state memory) (a ∷ b ∷ c ∷ []))
-unfolding stateOf afterRows advanced progressOf
-after-three state D p₁ p₂ p₃ c₁ c₂ c₃ d h e₁ e₂ e₃ f₁ f₂ f₃ memory a b c =
-    let g₁ = later-is D (state .position) p₁ h e₁ in
-    let l₁ = later-low D (state .position) p₁ h e₁ in
-    let g₂ = later-is D p₁ p₂ l₁ e₂ in
-    let g₃ = later-is D p₂ p₃ (later-low D p₁ p₂ l₁ e₂) e₃ in
-    rw (g₃, g₂, g₁, f₃, f₂, f₁, d)
+      frames-given : every (map (given (mscBlock (state .settings))) frames) ≡ true
+      frames-given = and-right (given (sdcBlock (state .settings)) (c .sdccells)) (every (map (given (mscBlock (state .settings))) frames)) rest-given
+
+      pub accepted-blocks : (memory″ : List ℤ) (fac″ sdc″ msc″ : List ℕ) → memory″ ≡ work′ → fac″ ≡ fac′ → sdc″ ≡ sdc′ → msc″ ≡ msc′
+          → readYield (record { answer = Finished (r .finished); state = r .after }) memory″ fac″ sdc″ msc″ ≡ readOf state memory c
+      unfolding blocksOf readAccepted handedOut placedBytes keptBytes parts
+      accepted-blocks memory″ fac″ sdc″ msc″ a b d m =
+          rw (
+            blocks-are,
+            a ∙ rw same at (B .held),
+            b ∙ B .fac,
+            d ∙ B .sdc,
+            m ∙ rw same at (B .msc),
+            kept-given facBlock 9 (facsOf c) facs-given,
+            sdc-given,
+            kept-given (mscBlock (state .settings)) (frameBytes (state .settings)) frames frames-given,
+            length-table,
+            append-nil (joined (map (bytesRead facBlock) (facsOf c))),
+          )
+          (sym (read-accepts state memory c (w .order) (w .points) all-given))
+
+-- The front of a working buffer: zeros cut short, and what was written there.
+pub take-zeros : (a b : ℕ) → a ≤ b → take (a - 0) (replicate {A = ℕ} b 0) ≡ replicate a 0
+take-zeros a b h = rw sub-zero (go a b h)
+  where
+    go : (a b : ℕ) → a ≤ b → take a (replicate {A = ℕ} b 0) ≡ replicate a 0
+    go zero b h = refl
+    go (suc a) zero h = absurd (omega arith)
+    go (suc a) (suc b) h = ap (λ (l : List ℕ). 0 ∷ l) (go a b (omega arith))
+
+pub front-in : {A : Type 0} (n : ℕ) (v rest : List A) → length v ≡ n → n ≤ length (v ++ rest)
+front-in n v rest e = rw length-append (omega arith)
+
+pub front-is : {A : Type 0} (n : ℕ) (v rest : List A) → length v ≡ n → take (n - 0) (v ++ rest) ≡ v
+front-is n v rest e = rw sub-zero (take-at v rest n e)

@@ -1,31 +1,27 @@
 // The call Read. 01 "Buffers and state" and "Operations".
-use cellrows::refusal;
-use cellrows::rows::next_count;
-use cellrows::rows::next_modulo;
-use channels::readers::read_sdc;
+use crate::Fault;
+use crate::faults::lost_fault;
+use crate::faults::point_fault;
+use crate::places::read_blocks;
+use block::buffers::MOST_MEMORY;
+use block::buffers::MOST_MSC_BYTES;
+use block::buffers::MOST_SDC_BYTES;
+use cellmemory::refusal;
 use lists::bytes::copy as copy_bytes;
 use lists::numbers::copy as copy_numbers;
-use readblocks::blocks::read_fac_blocks;
-use readblocks::blocks::read_rows;
-use readblocks::faults::point_fault;
 use settings::Settings;
 use settings::answers;
+use settings::tables::FAC_BYTES;
 use superframe::Answer;
 use superframe::Reading;
 use superframe::State;
-use superframe::answers::blocks_answer;
 ghost use mathlib.Core.Path.{_≡_};
-ghost use mathlib.Core.List.{List, [], _∷_};
-ghost use Prim.Native.Nat.{_<_};
 ghost use lib.ListN.{replicate};
-ghost use lib.IntN.{ℤ};
-ghost use Rattle.settings.specs.Sizes.{depth};
-ghost use Rattle.superframe.specs.Interleaving.{afterRows};
-ghost use Rattle.superframe.specs.Code.{byteLengths, cellLengths, progressOf, stateOf};
+ghost use Rattle.lists.specs.Buffers.{Long};
+ghost use Rattle.superframe.specs.Code.{byteLengths, cellLengths};
 ghost use Rattle.superframe.specs.Read.{orderRefusal, readOf};
-ghost use Rattle.cellrows.specs.Refusals.{refusalThen};
-ghost use Rattle.readblocks.specs.Finishing.{readCall};
-ghost use Rattle.readcall.specs.Working.{readYield, Answered, FramesLent, FramesWork, FramesRead, SdcFramesLent, SdcFramesRead, ReadPasses, BlocksRead};
+ghost use Rattle.cellmemory.specs.Contracts.{refusalThen};
+ghost use Rattle.readcall.specs.Contracts.{readCall, readYield, ReadPasses};
 
 // 1 to 10: the cells come in, and bytes go out.
 fn read_lengths(
@@ -38,7 +34,9 @@ fn read_lengths(
     sdc: &[u8],
     msc: &[u8],
 ) -> u8
-    ensures { λ r. ⌜ r ≡ refusalThen s (now (memory .entry)) (cellLengths s (now (faccells .entry)) (now (sdccells .entry)) (now (msccells .entry))) (byteLengths s (now (fac .entry)) (now (sdc .entry)) (now (msc .entry))) 0 ⌝ }
+    ensures { λ r. ⌜ r ≡ refusalThen s (now (memory .entry))
+        (cellLengths s (now (faccells .entry)) (now (sdccells .entry)) (now (msccells .entry)))
+        (byteLengths s (now (fac .entry)) (now (sdc .entry)) (now (msc .entry))) 0 ⌝ }
 {
     let z = answers::sizes(s);
     let nine = refusal::cells_long(z, faccells.len(), sdccells.len(), msccells.len());
@@ -57,7 +55,8 @@ fn order_refusal(
     sdc: &[u8],
     msc: &[u8],
 ) -> u8
-    ensures { λ r. ⌜ r ≡ orderRefusal state (now (memory .entry)) (readCall (now (faccells .entry)) (now (sdccells .entry)) (now (msccells .entry)) (now (fac .entry)) (now (sdc .entry)) (now (msc .entry))) ⌝ }
+    ensures { λ r. ⌜ r ≡ orderRefusal state (now (memory .entry))
+        (readCall (now (faccells .entry)) (now (sdccells .entry)) (now (msccells .entry)) (now (fac .entry)) (now (sdc .entry)) (now (msc .entry))) ⌝ }
 {
     let number = read_lengths(
         state.settings,
@@ -78,130 +77,33 @@ fn order_refusal(
     0
 }
 
-// The state after three rows, whatever they hold.
-fn after_rows(state: State) -> State
-    requires { ⌜ (state .position < depth (state .settings)) × (state .count < depth (state .settings)) ⌝ }
-    ensures { λ r. ⌜ ((memory a b c : List ℤ) → r ≡ stateOf (state .settings) (afterRows (state .settings) (progressOf state memory) (a ∷ b ∷ c ∷ []))) ⌝ }
-{
-    let s = state.settings;
-    let depth = answers::depth(s);
-    let p = next_modulo(
-        depth,
-        next_modulo(depth, next_modulo(depth, state.position as usize)),
-    );
-    let c = next_count(
-        depth,
-        next_count(depth, next_count(depth, state.count as usize)),
-    );
-    State {
-        settings: s,
-        position: p as u8,
-        count: c as u8,
-    }
-}
-
-// The answer with the state that follows it: a refusal leaves the state as it was.
-fn answered(state: State, answer: Answer) -> Reading
-    requires { ⌜ (state .position < depth (state .settings)) × (state .count < depth (state .settings)) ⌝ }
-    ensures { λ r. ⌜ Answered state answer r ⌝ }
-{
-    if let Answer::Refused(_, _) = answer {
-        return Reading { answer, state };
-    }
-    Reading {
-        answer,
-        state: after_rows(state),
-    }
-}
-
 // Working buffers for the largest settings, each from a function of its own: proofs then take its length and do not write it out.
-fn memory_buffer() -> [i16; 61180] {
-    [0i16; 61180]
+fn memory_buffer() -> [i16; MOST_MEMORY]
+    ensures { λ r. ⌜ Long 61180 r ⌝ }
+{
+    [0i16; MOST_MEMORY]
 }
 
-fn fac_buffer() -> [u8; 27] {
-    [0u8; 27]
+fn fac_buffer() -> [u8; 3 * FAC_BYTES]
+    ensures { λ r. ⌜ r ≡ replicate 27 0 ⌝ }
+{
+    [0u8; 3 * FAC_BYTES]
 }
 
-fn sdc_buffer() -> [u8; 210] {
-    [0u8; 210]
+fn sdc_buffer() -> [u8; MOST_SDC_BYTES]
+    ensures { λ r. ⌜ r ≡ replicate 210 0 ⌝ }
+{
+    [0u8; MOST_SDC_BYTES]
 }
 
-// Zeros, since bytes beyond the finished frames are zero.
-fn msc_buffer() -> [u8; 13767]
+fn msc_buffer() -> [u8; MOST_MSC_BYTES]
     ensures { λ r. ⌜ r ≡ replicate 13767 0 ⌝ }
 {
-    [0u8; 13767]
+    [0u8; MOST_MSC_BYTES]
 }
 
-// The frames that a call's rows finish, read on a copy of memory; memory and bytes are handed out where bits give every frame.
-fn read_frames_with(
-    state: State,
-    msccells: &[i16],
-    memory: &mut [i16],
-    msc: &mut [u8],
-    work: &mut [i16],
-    mscwork: &mut [u8],
-) -> usize
-    requires { ⌜ FramesWork state (now msccells) (now memory) (now msc) (now work) (now mscwork) ⌝ }
-    ensures { λ r. ⌜ FramesRead state (now (msccells .entry)) (now (memory .entry)) (now (msc .entry)) r (now (memory .exit)) (now (msc .exit)) ⌝ }
-{
-    copy_numbers(memory, work);
-    let number = read_rows(state, msccells, work, mscwork);
-    if number < 8 {
-        return number;
-    }
-    copy_numbers(work, memory);
-    copy_bytes(mscwork, msc);
-    number
-}
-
-// The same with working buffers for the largest settings.
-fn read_frames(state: State, msccells: &[i16], memory: &mut [i16], msc: &mut [u8]) -> usize
-    requires { ⌜ FramesLent state (now msccells) (now memory) (now msc) ⌝ }
-    ensures { λ r. ⌜ FramesRead state (now (msccells .entry)) (now (memory .entry)) (now (msc .entry)) r (now (memory .exit)) (now (msc .exit)) ⌝ }
-{
-    let mut work = memory_buffer();
-    let mut mscwork = msc_buffer();
-    let numbers = memory.len();
-    let bytes = msc.len();
-    read_frames_with(
-        state,
-        msccells,
-        memory,
-        msc,
-        &mut work[0..numbers],
-        &mut mscwork[0..bytes],
-    )
-}
-
-// The SDC block and the frames: bytes of the block are handed out where bits give it and every frame.
-fn read_sdc_frames(
-    state: State,
-    sdccells: &[i16],
-    msccells: &[i16],
-    memory: &mut [i16],
-    sdc: &mut [u8],
-    msc: &mut [u8],
-) -> usize
-    requires { ⌜ SdcFramesLent state (now sdccells) (now msccells) (now memory) (now sdc) (now msc) ⌝ }
-    ensures { λ r. ⌜ SdcFramesRead state (now (sdccells .entry)) (now (msccells .entry)) (now (memory .entry)) (now (sdc .entry)) (now (msc .entry)) r (now (memory .exit)) (now (sdc .exit)) (now (msc .exit)) ⌝ }
-{
-    let mut sdcwork = sdc_buffer();
-    let bytes = sdc.len();
-    if !read_sdc(state.settings, sdccells, &mut sdcwork[0..bytes]) {
-        return 3;
-    }
-    let number = read_frames(state, msccells, memory, msc);
-    if number < 8 {
-        return number;
-    }
-    copy_bytes(&sdcwork[0..bytes], sdc);
-    number
-}
-
-// All blocks of a call that no number from 1 to 13 refuses: the one at fault, or 8 and the number of finished frames.
-fn read_blocks(
+// A call that no number up to 13 refuses: all blocks are read first, on a copy of memory and into buffers of zeros; then 14, or everything is handed out.
+fn read_whole(
     state: State,
     faccells: &[i16],
     sdccells: &[i16],
@@ -210,21 +112,46 @@ fn read_blocks(
     fac: &mut [u8],
     sdc: &mut [u8],
     msc: &mut [u8],
-) -> usize
+) -> Reading
     requires { ⌜ ReadPasses state (now memory) (readCall (now faccells) (now sdccells) (now msccells) (now fac) (now sdc) (now msc)) ⌝ }
-    ensures { λ r. ⌜ BlocksRead state (now (memory .entry)) (readCall (now (faccells .entry)) (now (sdccells .entry)) (now (msccells .entry)) (now (fac .entry)) (now (sdc .entry)) (now (msc .entry))) r (now (memory .exit)) (now (fac .exit)) (now (sdc .exit)) (now (msc .exit)) ⌝ }
+    ensures { λ r. ⌜ readYield r (now (memory .exit)) (now (fac .exit)) (now (sdc .exit)) (now (msc .exit))
+        ≡ readOf state (now (memory .entry))
+        (readCall (now (faccells .entry)) (now (sdccells .entry)) (now (msccells .entry)) (now (fac .entry)) (now (sdc .entry)) (now (msc .entry))) ⌝ }
 {
+    let mut work = memory_buffer();
     let mut facwork = fac_buffer();
-    let fault = read_fac_blocks(faccells, &mut facwork);
-    if fault < 3 {
-        return fault;
+    let mut sdcwork = sdc_buffer();
+    let mut mscwork = msc_buffer();
+    let n = memory.len();
+    let b = sdc.len();
+    let m = msc.len();
+    copy_numbers(memory, &mut work[0..n]);
+    let blocks = read_blocks(
+        state,
+        faccells,
+        sdccells,
+        msccells,
+        &mut work[0..n],
+        &mut facwork,
+        &mut sdcwork[0..b],
+        &mut mscwork[0..m],
+    );
+    let given = blocks.given;
+    let fault = lost_fault(given);
+    if let Fault::At(block) = fault {
+        let answer = Answer::Refused(14, block);
+        return Reading { answer, state };
     }
-    let number = read_sdc_frames(state, sdccells, msccells, memory, sdc, msc);
-    if number < 8 {
-        return number;
-    }
+    copy_numbers(&work[0..n], memory);
     copy_bytes(&facwork, fac);
-    number
+    copy_bytes(&sdcwork[0..b], sdc);
+    copy_bytes(&mscwork[0..m], msc);
+    let answer = Answer::Finished(blocks.finished);
+    let after = blocks.after;
+    Reading {
+        answer,
+        state: after,
+    }
 }
 
 // The cells of a super frame to three FAC blocks, an SDC block and the multiplex frames that it finishes; a refusal leaves everything as it was.
@@ -238,7 +165,9 @@ pub fn read(
     sdc: &mut [u8],
     msc: &mut [u8],
 ) -> Reading
-    ensures { λ r. ⌜ readYield r (now (memory .exit)) (now (fac .exit)) (now (sdc .exit)) (now (msc .exit)) ≡ readOf state (now (memory .entry)) (readCall (now (faccells .entry)) (now (sdccells .entry)) (now (msccells .entry)) (now (fac .entry)) (now (sdc .entry)) (now (msc .entry))) ⌝ }
+    ensures { λ r. ⌜ readYield r (now (memory .exit)) (now (fac .exit)) (now (sdc .exit)) (now (msc .exit))
+        ≡ readOf state (now (memory .entry))
+        (readCall (now (faccells .entry)) (now (sdccells .entry)) (now (msccells .entry)) (now (fac .entry)) (now (sdc .entry)) (now (msc .entry))) ⌝ }
 {
     let number = order_refusal(state, faccells, sdccells, msccells, memory, fac, sdc, msc);
     if number != 0 {
@@ -254,12 +183,9 @@ pub fn read(
         sdccells,
         msccells,
     );
-    if fault < 8 {
-        return Reading {
-            answer: Answer::Refused(13, fault as u8),
-            state,
-        };
+    if let Fault::At(block) = fault {
+        let answer = Answer::Refused(13, block);
+        return Reading { answer, state };
     }
-    let number = read_blocks(state, faccells, sdccells, msccells, memory, fac, sdc, msc);
-    answered(state, blocks_answer(number))
+    read_whole(state, faccells, sdccells, msccells, memory, fac, sdc, msc)
 }

@@ -16,18 +16,18 @@ use Rattle.block.specs.Reading.{bytesRead}
 use Rattle.block.specs.Fits.{BlockFits}
 use Rattle.block.proofs.Blocks.{candidate-cells, points-cells, bytes-block, unpacked-block}
 use Rattle.block.proofs.Reader.{reads-bytes}
-use Rattle.frame.specs.Fac.{facBlock}
-use Rattle.frame.specs.Sdc.{sdcBlock}
-use Rattle.frame.specs.Msc.{mscBlock}
-use Rattle.frame.proofs.Fac.{fac-bits, fac-fits}
-use Rattle.frame.proofs.Sdc.{sdc-bits, sdc-fits}
-use Rattle.frame.proofs.Msc.{msc-bits, msc-fits}
+use Rattle.channels.specs.Fac.{facBlock}
+use Rattle.channels.specs.Sdc.{sdcBlock}
+use Rattle.channels.specs.Msc.{mscBlock}
+use Rattle.channels.proofs.Fac.{fac-bits, fac-fits}
+use Rattle.channels.proofs.Sdc.{sdc-bits, sdc-fits}
+use Rattle.channels.proofs.Msc.{msc-bits, msc-fits}
 use Rattle.superframe.specs.Runs.{bitsOf}
-use Rattle.superframe.specs.Demand2.{Demand2}
-use Rattle.superframe.specs.Demand3.{Demand3}
+use Rattle.superframe.specs.SingleCalls.{SingleCalls}
+use Rattle.superframe.specs.WholeRuns.{WholeRuns}
 use Rattle.superframe.proofs.Coding.{Recovers, Coding}
-use Rattle.superframe.proofs.Demand2.{demand2-of}
-use Rattle.superframe.proofs.Demand3.{demand3-of}
+use Rattle.superframe.proofs.SingleCalls.{single-calls-of}
+use Rattle.superframe.proofs.WholeRuns.{whole-runs-of}
 
 -- A block whose levels and constellation fit is recovered.
 pub recovers : {k : Block} → BlockFits k → (bytes : ℕ) → bytesFor (bitCount k) ≡ bytes → Recovers k bytes
@@ -70,9 +70,9 @@ coding s h =
     }
 
 -- Demand 2 on the definitions.
-pub demand2 : Demand2
-demand2 = demand2-of coding
+pub single-calls : SingleCalls
+single-calls = single-calls-of coding
 
 -- Demand 3.
-pub demand3 : Demand3
-demand3 = demand3-of coding
+pub whole-runs : WholeRuns
+whole-runs = whole-runs-of coding

@@ -1,36 +1,30 @@
 -- Refusal 0 as facts and back, and what accepted and refused calls yield, one equation each. Assumes nothing.
 use Prim.Native.Nat.{ℕ, zero, suc, _*_, _<_}
-use mathlib.Core.Path.{_≡_, refl, sym, _∙_}
+use mathlib.Core.Path.{_≡_, refl}
 use mathlib.Core.Bool.{Bool, true, false, not, _&&_}
 use mathlib.Core.List.{List}
 use native.Mathlib.Omega.{arith}
 use lib.ListN.{length}
 use lib.IntN.{ℤ}
 use lib.Dec.{eqb, ltb}
-use borrow.Author.Tests.{lt-ltb, le-ltb, ltb-true, eq-eqb, ne-eqb, eqb-true, not-false}
+use borrow.Author.Tests.{lt-ltb, ltb-true, eq-eqb, ne-eqb, eqb-true, not-false}
 use Rattle.lists.specs.Lists.{table}
 use Rattle.settings.specs.declared.Settings.{Settings}
 use Rattle.settings.specs.Refusal.{first, refusal}
-use Rattle.settings.specs.Cells.{facCells}
-use Rattle.settings.specs.Lengths.{nMux, nSdc, nSfa}
-use Rattle.settings.specs.Sizes.{depth, frameBytes, sdcBytes}
-use Rattle.block.specs.Points.{every}
+use Rattle.settings.specs.Lengths.{nMux}
+use Rattle.settings.specs.Sizes.{depth}
+use Rattle.lists.specs.Bools.{every, firstFault}
 use Rattle.superframe.specs.declared.State.{State}
 use Rattle.superframe.specs.declared.Answer.the-variants.{Finished, Refused}
 use Rattle.superframe.specs.Call.{memoryLength, memoryCell, inOrder}
 use Rattle.superframe.specs.Interleaving.{finishedFrames}
 use Rattle.superframe.specs.Reset.{resetRefusal, resetOf, startState, startMemory}
 use Rattle.superframe.specs.Code.{CodeCall, byteLengths, cellLengths, sparesZero, codeRefusal, codeAccepted, codeRefused, codeOf, progressOf}
-use Rattle.superframe.specs.Read.{ReadCall, answerNumber, rowsOf, pointTests, givenTests, firstFault, orderRefusal, answerOf, readAccepted, readRefused, readOf}
-use Rattle.superframe.specs.Facts.{Fits, Ordered, BytesFit, CellsFit, CodeFits, ReadFits}
-use Rattle.superframe.proofs.Lists.{both}
-use Rattle.lists.proofs.Bools.{and-left, and-right}
+use Rattle.superframe.specs.Read.{ReadCall, answerNumber, rowsOf, pointTests, givenTests, orderRefusal, answerOf, readAccepted, readRefused, readOf}
+use Rattle.superframe.specs.Contracts.{Fits, Ordered, BytesFit, CellsFit, CodeFits, ReadFits}
+use Rattle.lists.proofs.Bools.{both, and-left, and-right}
 
--- A test that fails is passed over; the first that holds gives its number.
-pub first-pass : (t : Bool) (n m : ℕ) → t ≡ false → first t n m ≡ m
-unfolding first
-first-pass t n m h = rw h
-
+-- The first test that holds gives its number.
 pub first-hold : (t : Bool) (n m : ℕ) → t ≡ true → first t n m ≡ n
 unfolding first
 first-hold t n m h = rw h
@@ -42,29 +36,25 @@ first-zero true n m h e = absurd (omega arith)
 first-zero false n m h e = (refl, e)
 
 pub first-own : (r m : ℕ) → first (ltb 0 r) r m ≡ 0 → (r ≡ 0) × (m ≡ 0)
-first-own zero m e = (refl, e')
-  where
-    e' : m ≡ 0
-    e' = sym (first-pass (ltb 0 0) 0 m (le-ltb 0 0 (omega arith))) ∙ e
-first-own (suc r) m e = absurd (let g = sym (first-hold (ltb 0 (suc r)) (suc r) m (lt-ltb 0 (suc r) (omega arith))) ∙ e in omega arith)
+unfolding first
+first-own zero m e = (refl, e)
+first-own (suc r) m e = absurd (omega (arith, first-hold (ltb 0 (suc r)) (suc r) m (lt-ltb 0 (suc r) (omega arith))))
 
 pub first-own-pass : (r m : ℕ) → r ≡ 0 → first (ltb 0 r) r m ≡ m
-first-own-pass r m h = first-pass (ltb 0 r) r m (le-ltb 0 r (omega arith))
+unfolding first
+first-own-pass r m h = rw h
 
-not-not : (t : Bool) → t ≡ true → not t ≡ false
-not-not t h = rw h
+-- Three numbers are as they must be.
+three-equal : (a b c x y z : ℕ) → (eqb a x && (eqb b y && eqb c z)) ≡ true → (a ≡ x) × (b ≡ y) × (c ≡ z)
+three-equal a b c x y z h =
+    let r = and-right (eqb a x) _ h in
+    (eqb-true a x (and-left _ (eqb b y && eqb c z) h), eqb-true b y (and-left _ (eqb c z) r), eqb-true c z (and-right (eqb b y) _ r))
 
 -- The tests of lengths and of order as facts, and back.
 module _ (s : Settings) where
   pub bytes-fit : (fac sdc msc : List ℕ) → byteLengths s fac sdc msc ≡ true → BytesFit s fac sdc msc
   unfolding byteLengths
-  bytes-fit fac sdc msc h =
-      let r = and-right (eqb (length fac) 27) _ h in
-      record {
-        faclong = eqb-true _ _ (and-left _ (eqb (length sdc) (sdcBytes s) && eqb (length msc) (3 * frameBytes s)) h);
-        sdclong = eqb-true _ _ (and-left _ (eqb (length msc) (3 * frameBytes s)) r);
-        msclong = eqb-true _ _ (and-right (eqb (length sdc) (sdcBytes s)) _ r);
-      }
+  bytes-fit fac sdc msc h = let r = three-equal _ _ _ _ _ _ h in record { faclong = r .0; sdclong = r .1; msclong = r .2 }
 
   pub fit-bytes : (fac sdc msc : List ℕ) → BytesFit s fac sdc msc → byteLengths s fac sdc msc ≡ true
   unfolding byteLengths
@@ -72,13 +62,7 @@ module _ (s : Settings) where
 
   pub cells-fit : (fac sdc msc : List ℤ) → cellLengths s fac sdc msc ≡ true → CellsFit s fac sdc msc
   unfolding cellLengths
-  cells-fit fac sdc msc h =
-      let r = and-right (eqb (length fac) (3 * (2 * facCells))) _ h in
-      record {
-        faclong = eqb-true _ _ (and-left _ (eqb (length sdc) (2 * nSdc s) && eqb (length msc) (2 * nSfa s)) h);
-        sdclong = eqb-true _ _ (and-left _ (eqb (length msc) (2 * nSfa s)) r);
-        msclong = eqb-true _ _ (and-right (eqb (length sdc) (2 * nSdc s)) _ r);
-      }
+  cells-fit fac sdc msc h = let r = three-equal _ _ _ _ _ _ h in record { faclong = r .0; sdclong = r .1; msclong = r .2 }
 
   pub fit-cells : (fac sdc msc : List ℤ) → CellsFit s fac sdc msc → cellLengths s fac sdc msc ≡ true
   unfolding cellLengths
@@ -110,8 +94,8 @@ module _ (old : State) (s : Settings) (memory : List ℤ) where
       record { settings = a .0; long = eqb-true _ _ (not-false _ (b .0)) }
 
   pub fits-reset : Fits s memory → resetRefusal s memory ≡ 0
-  unfolding resetRefusal
-  fits-reset h = first-own-pass (refusal s) _ (h .settings) ∙ first-pass _ 8 0 (not-not _ (eq-eqb _ _ (h .long)))
+  unfolding resetRefusal first
+  fits-reset h = rw (h .settings, eq-eqb _ _ (h .long))
 
   -- What an accepted and what a refused Reset yields.
   pub reset-accepts : resetRefusal s memory ≡ 0
@@ -124,7 +108,7 @@ module _ (old : State) (s : Settings) (memory : List ℤ) where
   unfolding resetOf
   reset-refuses r h p = rw (ne-eqb (resetRefusal s memory) 0 (λ e. omega arith), h)
 
--- Code: 0 gives all the facts, and they give 0.
+-- Code: 0 exactly if all the facts hold.
 module _ (state : State) (memory : List ℤ) (c : CodeCall) where
   pub code-fits : codeRefusal state memory c ≡ 0 → CodeFits state memory c
   unfolding codeRefusal
@@ -145,14 +129,10 @@ module _ (state : State) (memory : List ℤ) (c : CodeCall) where
       }
 
   pub fits-code : CodeFits state memory c → codeRefusal state memory c ≡ 0
-  unfolding codeRefusal
+  unfolding codeRefusal first
   fits-code h =
-      first-own-pass (refusal (state .settings)) _ (h .fits .settings)
-      ∙ first-pass _ 8 _ (not-not _ (eq-eqb _ _ (h .fits .long)))
-      ∙ first-pass _ 9 _ (not-not _ (fit-bytes (state .settings) _ _ _ (h .bytes)))
-      ∙ first-pass _ 10 _ (not-not _ (fit-cells (state .settings) _ _ _ (h .cells)))
-      ∙ first-pass _ 11 _ (not-not _ (h .spares))
-      ∙ first-pass _ 12 0 (not-not _ (in-order state memory (h .order)))
+      let s = state .settings in
+      rw (h .fits .settings, eq-eqb _ _ (h .fits .long), fit-bytes s _ _ _ (h .bytes), fit-cells s _ _ _ (h .cells), h .spares, in-order state memory (h .order))
 
   -- What an accepted and what a refused call yields.
   pub code-accepts : codeRefusal state memory c ≡ 0 → codeOf state memory c ≡ codeAccepted state memory c
@@ -163,7 +143,7 @@ module _ (state : State) (memory : List ℤ) (c : CodeCall) where
   unfolding codeOf
   code-refuses r h p = rw (ne-eqb (codeRefusal state memory c) 0 (λ e. omega arith), h)
 
--- Read: the same of the numbers up to 12.
+-- Read: no number up to 12 exactly if all the facts hold.
 module _ (state : State) (memory : List ℤ) (c : ReadCall) where
   pub read-fits : orderRefusal state memory c ≡ 0 → ReadFits state memory c
   unfolding orderRefusal
@@ -182,13 +162,10 @@ module _ (state : State) (memory : List ℤ) (c : ReadCall) where
       }
 
   pub fits-read : ReadFits state memory c → orderRefusal state memory c ≡ 0
-  unfolding orderRefusal
+  unfolding orderRefusal first
   fits-read h =
-      first-own-pass (refusal (state .settings)) _ (h .fits .settings)
-      ∙ first-pass _ 8 _ (not-not _ (eq-eqb _ _ (h .fits .long)))
-      ∙ first-pass _ 9 _ (not-not _ (fit-cells (state .settings) _ _ _ (h .cells)))
-      ∙ first-pass _ 10 _ (not-not _ (fit-bytes (state .settings) _ _ _ (h .bytes)))
-      ∙ first-pass _ 12 0 (not-not _ (in-order state memory (h .order)))
+      let s = state .settings in
+      rw (h .fits .settings, eq-eqb _ _ (h .fits .long), fit-cells s _ _ _ (h .cells), fit-bytes s _ _ _ (h .bytes), in-order state memory (h .order))
 
   -- The answer, case by case.
   pub answer-order : (r : ℕ) → orderRefusal state memory c ≡ r → 0 < r → answerOf state memory c ≡ Refused r 0

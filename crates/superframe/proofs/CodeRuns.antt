@@ -1,7 +1,6 @@
 -- Runs of Code calls: the bits that they bring, and that the cells which they send are the standard's. Assumes the coding's record.
 use Prim.Native.Nat.{ℕ, suc, _+_, _*_, _≤_, _<_}
 use mathlib.Core.Path.{_≡_, refl, sym, ap, ap₂, _∙_}
-use mathlib.Core.Logic.{_⊎_, inl, inr}
 use mathlib.Core.Bool.{Bool, true, false, not}
 use mathlib.Core.List.{List, [], _∷_, _++_, map}
 use native.Mathlib.Nat.{add-zero, zero-add}
@@ -12,31 +11,32 @@ use lib.Seq.{getD-drop, drop-drop, drop-at}
 use lib.IntN.{ℤ}
 use borrow.Author.Tests.{ne-eqb, eq-eqb}
 use Rattle.lists.specs.Lists.{table}
-use Rattle.lists.proofs.Tables.{length-table, table-at, table-ext, table-from, map-table}
+use Rattle.lists.proofs.Tables.{length-table, table-at, table-ext, table-from}
 use Rattle.settings.specs.declared.Settings.{Settings}
 use Rattle.settings.specs.Refusal.{first, refusal}
 use Rattle.settings.specs.Sizes.{frameBytes}
 use Rattle.block.specs.declared.Block.{Block}
 use Rattle.block.specs.Block.{cellsOf, cellsFrom}
-use Rattle.block.specs.Points.{every}
-use Rattle.frame.specs.Fac.{facBlock}
-use Rattle.frame.specs.Sdc.{sdcBlock}
-use Rattle.frame.specs.Msc.{mscBlock}
+use Rattle.lists.specs.Bools.{every}
+use Rattle.channels.specs.Fac.{facBlock}
+use Rattle.channels.specs.Sdc.{sdcBlock}
+use Rattle.channels.specs.Msc.{mscBlock}
 use Rattle.superframe.specs.Interleaving.{Progress, afterFrames, sentRows, fillers}
 use Rattle.superframe.specs.declared.State.{State}
 use Rattle.superframe.specs.Call.{part, parts, joined, memoryLength}
 use Rattle.superframe.specs.Code.{CodeCall, codeRefusal, codeAccepted, codeRefused, codeOf, progressOf, stateOf, frameCells, byteLengths, cellLengths, sparesZero}
-use Rattle.superframe.specs.Facts.{Fits, Ordered}
+use Rattle.superframe.specs.Contracts.{Fits, Ordered}
 use Rattle.superframe.specs.Runs.{Bits, noBits, bitsOf, codes, brought, sent, refusals}
 use Rattle.superframe.specs.Standard.{standardRow, superFrame}
-use Rattle.superframe.specs.Demand3.{runNumber}
+use Rattle.superframe.specs.WholeRuns.{runNumber}
 use Rattle.block.proofs.Blocks.{bits-block}
-use Rattle.superframe.proofs.Lists.{both}
+use Rattle.lists.proofs.Bools.{both}
 use Rattle.block.specs.Fits.{BlockBits}
+use Rattle.superframe.proofs.Lists.{map-parts}
 use Rattle.superframe.proofs.Coding.{AllBits, none, more, all-at, all-append, Coding}
-use Rattle.superframe.proofs.History.{frameAt, Keeps, keeps-ordered}
+use Rattle.superframe.proofs.History.{frameAt, frame-good, Keeps, keeps-ordered}
 use Rattle.superframe.proofs.Coder.{storedAge, coder-rows, coder-after}
-use Rattle.superframe.proofs.Calls.{code-accepts, code-refuses, first-own-pass, in-order}
+use Rattle.superframe.proofs.Calls.{code-accepts, code-refuses, in-order}
 
 -- What an accepted call brings, before what the calls after it bring.
 unfoldable pub bringing : Settings → CodeCall → Bits → Bits
@@ -53,26 +53,10 @@ coded s q c = afterFrames s q (frameCells s (c .msc))
 
 -- An accepted call, and a refused one, in a list of calls.
 module _ (s : Settings) (q : Progress) (c : CodeCall) (cs : List CodeCall) where
-  pub accepts-or : (codeRefusal (stateOf s q) (q .memory) c ≡ 0) ⊎ (0 < codeRefusal (stateOf s q) (q .memory) c)
-  accepts-or = elim (ℕ-discrete (codeRefusal (stateOf s q) (q .memory) c) 0) [ yes h ↦ inl h | no h ↦ inr (omega arith) ]
-
   module _ (h : codeRefusal (stateOf s q) (q .memory) c ≡ 0) where
     pub brought-accepted : brought (stateOf s q) (q .memory) (c ∷ cs) ≡ bringing s c (brought (stateOf s (coded s q c)) (coded s q c .memory) cs)
     unfolding brought codes bringing codeAccepted coded stateOf progressOf
     brought-accepted = rw (code-accepts (stateOf s q) (q .memory) c h)
-
-    pub sent-accepted : sent (stateOf s q) (q .memory) (c ∷ cs)
-        ≡ record {
-          fac = joined (map (cellsFrom facBlock) (parts 9 (c .fac)));
-          sdc = cellsFrom (sdcBlock s) (c .sdc);
-          msc = sentRows s q (frameCells s (c .msc)) ++ fillers s;
-        } ∷ sent (stateOf s (coded s q c)) (coded s q c .memory) cs
-    unfolding sent codes codeAccepted coded stateOf progressOf
-    sent-accepted = rw (code-accepts (stateOf s q) (q .memory) c h)
-
-    pub refusals-accepted : refusals (stateOf s q) (q .memory) (c ∷ cs) ≡ 0 ∷ refusals (stateOf s (coded s q c)) (coded s q c .memory) cs
-    unfolding refusals codeAccepted coded stateOf progressOf
-    refusals-accepted = rw (code-accepts (stateOf s q) (q .memory) c h)
 
   module _ (h : 0 < codeRefusal (stateOf s q) (q .memory) c) where
     refused : codeOf (stateOf s q) (q .memory) c ≡ codeRefused (codeRefusal (stateOf s q) (q .memory) c) (stateOf s q) (q .memory) c
@@ -86,13 +70,18 @@ module _ (s : Settings) (q : Progress) (c : CodeCall) (cs : List CodeCall) where
     unfolding brought codeRefused
     brought-refused = rw (not-coded, refused)
 
-    pub sent-refused : sent (stateOf s q) (q .memory) (c ∷ cs) ≡ sent (stateOf s q) (q .memory) cs
-    unfolding sent codeRefused
-    sent-refused = rw (not-coded, refused)
-
-    pub refusals-refused : refusals (stateOf s q) (q .memory) (c ∷ cs) ≡ codeRefusal (stateOf s q) (q .memory) c ∷ refusals (stateOf s q) (q .memory) cs
-    unfolding refusals codeRefused
-    refusals-refused = rw refused
+-- What holds of no calls, and of a call before others, accepted or refused, if it holds of the others, holds of every list of calls.
+calls-all : (s : Settings) (P : List CodeCall → Progress → Type 0)
+    → ((q : Progress) → P [] q)
+    → ((c : CodeCall) (cs : List CodeCall) (q : Progress) → codeRefusal (stateOf s q) (q .memory) c ≡ 0 → P cs (coded s q c) → P (c ∷ cs) q)
+    → ((c : CodeCall) (cs : List CodeCall) (q : Progress) → 0 < codeRefusal (stateOf s q) (q .memory) c → P cs q → P (c ∷ cs) q)
+    → (cs : List CodeCall) (q : Progress) → P cs q
+calls-all s P empty takes leaves [] q = empty q
+calls-all s P empty takes leaves (c ∷ cs) q =
+    elim (ℕ-discrete (codeRefusal (stateOf s q) (q .memory) c) 0) [
+      | yes h ↦ takes c cs q h (calls-all s P empty takes leaves cs (coded s q c))
+      | no h ↦ leaves c cs q (omega arith) (calls-all s P empty takes leaves cs q)
+    ]
 
 -- The bits b are those of B from super frame m on.
 pub record Ahead (B : Bits) (m : ℕ) (b : Bits) : Type 0 where
@@ -114,31 +103,25 @@ unfolding cellsFrom bitsOf
 from-bits k bytes = refl
 
 -- A call has three blocks of a kind.
+three-long : (k : Block) (n : ℕ) (bytes : List ℕ) → length (map (bitsOf k) (parts n bytes)) ≡ 3
+three-long k n bytes = rw (map-parts (bitsOf k) n bytes, length-table)
+
 three-more : (k : Block) (n : ℕ) (bytes : List ℕ) (ys : List (List ℕ)) → length (map (bitsOf k) (parts n bytes) ++ ys) ≡ 3 + length ys
-unfolding parts
-three-more k n bytes ys = rw (length-append, map-table (bitsOf k) (part n bytes) 0 3, length-table)
+three-more k n bytes ys = rw (length-append, three-long k n bytes)
 
 -- The bits of a call's three blocks of one kind stand in a list from place a on.
 module _ (k : Block) (n : ℕ) (bytes : List ℕ) (l ys : List (List ℕ)) (a : ℕ) (e : drop a l ≡ map (bitsOf k) (parts n bytes) ++ ys) where
-  three : map (bitsOf k) (parts n bytes) ≡ table (λ i. bitsOf k (part n bytes i)) 0 3
-  unfolding parts
-  three = map-table (bitsOf k) (part n bytes) 0 3
-
-  three-long : length (map (bitsOf k) (parts n bytes)) ≡ 3
-  three-long = ap length three ∙ length-table _ 0 3
-
   pub three-bits : (i : ℕ) → i < 3 → getD l (a + i) [] ≡ bitsOf k (part n bytes i)
   three-bits i h =
-      at-front l (map (bitsOf k) (parts n bytes)) ys a i [] e (rw three-long h)
-      ∙ ap (λ r. getD r i []) three ∙ table-at (λ i. bitsOf k (part n bytes i)) 0 3 i [] h ∙ rw zero-add
+      at-front l (map (bitsOf k) (parts n bytes)) ys a i [] e (rw (three-long k n bytes) h)
+      ∙ ap (λ r. getD r i []) (map-parts (bitsOf k) n bytes) ∙ table-at (λ i. bitsOf k (part n bytes i)) 0 3 i [] h ∙ rw zero-add
 
   pub three-after : drop (a + 3) l ≡ ys
-  three-after = past-front l (map (bitsOf k) (parts n bytes)) ys a 3 e three-long
+  three-after = past-front l (map (bitsOf k) (parts n bytes)) ys a 3 e (three-long k n bytes)
 
   pub three-cells : map (cellsFrom k) (parts n bytes) ≡ table (λ i. cellsOf k (getD l (a + i) [])) 0 3
-  unfolding parts
   three-cells =
-      map-table (cellsFrom k) (part n bytes) 0 3
+      map-parts (cellsFrom k) n bytes
       ∙ table-ext _ _ 0 3 (λ i x y. from-bits k (part n bytes i) ∙ ap (cellsOf k) (sym (three-bits i (omega arith))))
 
 -- A call that is accepted stands ahead; after it stand the bits that the calls after it bring.
@@ -179,7 +162,7 @@ module _ (s : Settings) (B : Bits) (m : ℕ) (call : CodeCall) (rest : Bits) (A 
       ∙ sym (table-from (frameAt s (B .frames)) (3 * m) 3)
 
   -- With memory as the frames before leave it, its cells are the standard's super frame m, and memory goes on.
-  module _ (c : Coding s) (q : Progress) (K : Keeps s (B .frames) storedAge (3 * m) q) where
+  module _ (c : Coding s) (q : Progress) (K : Keeps s (frameAt s (B .frames)) storedAge (3 * m) q) where
     pub frame-of : record {
       fac = joined (map (cellsFrom facBlock) (parts 9 (call .fac)));
       sdc = cellsFrom (sdcBlock s) (call .sdc);
@@ -201,52 +184,11 @@ module _ (s : Settings) (B : Bits) (m : ℕ) (call : CodeCall) (rest : Bits) (A 
             ap (λ l. l ++ fillers s)
             (ap (sentRows s q) frames-of ∙ coder-rows s c (B .frames) 3 (3 * m) q K ∙ ap joined (table-from (standardRow s (B .frames)) (3 * m) 3))
 
-    pub coded-keeps : Keeps s (B .frames) storedAge (3 * suc m) (coded s q call)
+    pub coded-keeps : Keeps s (frameAt s (B .frames)) storedAge (3 * suc m) (coded s q call)
     unfolding coded
     coded-keeps =
         let e : 3 * suc m ≡ 3 * m + 3 = omega arith in
         rw (e, frames-of) (coder-after s c (B .frames) 3 (3 * m) q K)
-
--- Nothing is brought or sent by no calls.
-module _ (s : Settings) (q : Progress) where
-  brought-none : brought (stateOf s q) (q .memory) [] ≡ noBits
-  unfolding brought
-  brought-none = refl
-
-  refusals-none : refusals (stateOf s q) (q .memory) [] ≡ []
-  unfolding refusals
-  refusals-none = refl
-
-  sent-none : sent (stateOf s q) (q .memory) [] ≡ []
-  unfolding sent
-  sent-none = refl
-
--- The cells that a list of calls sends are the standard's super frames from m on.
-module _ (s : Settings) (c : Coding s) (B : Bits) where
-  pub sent-standard : (calls : List CodeCall) (m : ℕ) (q : Progress)
-      → Keeps s (B .frames) storedAge (3 * m) q
-      → Ahead B m (brought (stateOf s q) (q .memory) calls)
-      → sent (stateOf s q) (q .memory) calls ≡ table (superFrame s B) m (length (brought (stateOf s q) (q .memory) calls .sdc))
-  unfolding table bringing noBits
-  sent-standard [] m q K A = rw (sent-none s q, brought-none s q)
-  sent-standard (call ∷ calls) m q K A = go (accepts-or s q call calls) (sent-standard calls (suc m) (coded s q call)) (sent-standard calls m q K)
-    where
-      rest : Bits
-      rest = brought (stateOf s (coded s q call)) (coded s q call .memory) calls
-
-      go : (codeRefusal (stateOf s q) (q .memory) call ≡ 0) ⊎ (0 < codeRefusal (stateOf s q) (q .memory) call)
-          → (Keeps s (B .frames) storedAge (3 * suc m) (coded s q call)
-          → Ahead B (suc m) (brought (stateOf s (coded s q call)) (coded s q call .memory) calls)
-          → sent (stateOf s (coded s q call)) (coded s q call .memory) calls
-          ≡ table (superFrame s B) (suc m) (length (brought (stateOf s (coded s q call)) (coded s q call .memory) calls .sdc)))
-          → (Ahead B m (brought (stateOf s q) (q .memory) calls)
-          → sent (stateOf s q) (q .memory) calls ≡ table (superFrame s B) m (length (brought (stateOf s q) (q .memory) calls .sdc)))
-          → sent (stateOf s q) (q .memory) (call ∷ calls) ≡ table (superFrame s B) m (length (brought (stateOf s q) (q .memory) (call ∷ calls) .sdc))
-      go (inl h) next same =
-          let a : Ahead B m (bringing s call rest) = rw (brought-accepted s q call calls h) at A in
-          rw (sent-accepted s q call calls h, brought-accepted s q call calls h)
-          (ap₂ _∷_ (frame-of s B m call rest a c q K) (next (coded-keeps s B m call rest a c q K) (ahead-next s B m call rest a)))
-      go (inr h) next same = rw (sent-refused s q call calls h, brought-refused s q call calls h) (same (rw (brought-refused s q call calls h) at A))
 
 -- Whole super frames of bits: three FAC blocks and three multiplex frames for each SDC block.
 pub record Whole (s : Settings) (B : Bits) : Type 0 where
@@ -277,17 +219,15 @@ bringing-whole s c B w =
     }
 
 -- A list of calls brings whole super frames of bits.
+none-whole : (s : Settings) (q : Progress) → Whole s (brought (stateOf s q) (q .memory) [])
+unfolding brought noBits
+none-whole s q = record { fac = refl; frames = refl; facBits = none; sdcBits = none; frameBits = none }
+
 pub brought-whole : (s : Settings) (calls : List CodeCall) (q : Progress) → Whole s (brought (stateOf s q) (q .memory) calls)
-unfolding noBits
-brought-whole s [] q = rw (brought-none s q) (record { fac = refl; frames = refl; facBits = none; sdcBits = none; frameBits = none })
-brought-whole s (c ∷ cs) q = go (accepts-or s q c cs) (brought-whole s cs (coded s q c)) (brought-whole s cs q)
-  where
-    go : (codeRefusal (stateOf s q) (q .memory) c ≡ 0) ⊎ (0 < codeRefusal (stateOf s q) (q .memory) c)
-        → Whole s (brought (stateOf s (coded s q c)) (coded s q c .memory) cs)
-        → Whole s (brought (stateOf s q) (q .memory) cs)
-        → Whole s (brought (stateOf s q) (q .memory) (c ∷ cs))
-    go (inl h) next same = rw (brought-accepted s q c cs h) (bringing-whole s c _ next)
-    go (inr h) next same = rw (brought-refused s q c cs h) same
+brought-whole s =
+    calls-all s (λ cs q. Whole s (brought (stateOf s q) (q .memory) cs)) (none-whole s)
+    (λ c cs q h next. rw (brought-accepted s q c cs h) (bringing-whole s c _ next))
+    (λ c cs q h same. rw (brought-refused s q c cs h) same)
 
 -- With allowed settings, and memory of their length and in order, a call is refused by 9, 10 or 11 only.
 of-a-run : (a b d : Bool) → runNumber (first (not a) 9 (first (not b) 10 (first (not d) 11 0))) ≡ true
@@ -301,42 +241,47 @@ run-refusal : (state : State) (memory : List ℤ) (c : CodeCall) → Fits (state
 unfolding codeRefusal first
 run-refusal state memory c f o =
     let s = state .settings in
-    rw (first-own-pass (refusal s) _ (f .settings), eq-eqb _ _ (f .long), in-order state memory o)
+    rw (f .settings, eq-eqb _ _ (f .long), in-order state memory o)
     (of-a-run (byteLengths s (c .fac) (c .sdc) (c .msc)) (cellLengths s (c .faccells) (c .sdccells) (c .msccells)) (sparesZero s (c .sdc) (c .msc)))
 
--- So are the calls of a run, at each of which memory keeps the frames before.
+-- A list of calls from super frame m on, whose memory keeps the frames before: its cells are the standard's super frames, and it is refused by 9, 10 or 11 only.
 module _ (s : Settings) (c : Coding s) (allowed : refusal s ≡ 0) (B : Bits) (w : Whole s B) where
-  keeps-run : (m : ℕ) (q : Progress) → Keeps s (B .frames) storedAge (3 * m) q → 3 * m ≤ length (B .frames) → (call : CodeCall)
+  keeps-run : (m : ℕ) (q : Progress) → Keeps s (frameAt s (B .frames)) storedAge (3 * m) q → 3 * m ≤ length (B .frames) → (call : CodeCall)
       → runNumber (codeRefusal (stateOf s q) (q .memory) call) ≡ true
   unfolding stateOf memoryLength
   keeps-run m q K low call =
       run-refusal (stateOf s q) (q .memory) call
       (record { settings = allowed; long = K .long })
-      (keeps-ordered s c (B .frames) storedAge (λ d i. refl) (3 * m) q K (λ i h. all-at (w .frameBits) i (omega arith)))
+      (keeps-ordered s c (frameAt s (B .frames)) storedAge (λ d i. refl) (3 * m) q K (λ i h. frame-good s c (B .frames) i (all-at (w .frameBits) i (omega arith))))
 
-  pub run-refusals : (calls : List CodeCall) (m : ℕ) (q : Progress)
-      → Keeps s (B .frames) storedAge (3 * m) q
-      → 3 * m ≤ length (B .frames)
-      → Ahead B m (brought (stateOf s q) (q .memory) calls)
-      → every (map runNumber (refusals (stateOf s q) (q .memory) calls)) ≡ true
-  unfolding every
-  run-refusals [] m q K low A = rw (refusals-none s q)
-  run-refusals (call ∷ calls) m q K low A = go (accepts-or s q call calls) (run-refusals calls (suc m) (coded s q call)) (run-refusals calls m q K low)
-    where
-      rest : Bits
-      rest = brought (stateOf s (coded s q call)) (coded s q call .memory) calls
+  abbrev Coded : List CodeCall → Progress → Type 0
+  Coded calls q =
+      (m : ℕ) → Keeps s (frameAt s (B .frames)) storedAge (3 * m) q → 3 * m ≤ length (B .frames) → Ahead B m (brought (stateOf s q) (q .memory) calls)
+      → (sent (stateOf s q) (q .memory) calls ≡ table (superFrame s B) m (length (brought (stateOf s q) (q .memory) calls .sdc)))
+      × (every (map runNumber (refusals (stateOf s q) (q .memory) calls)) ≡ true)
 
-      go : (codeRefusal (stateOf s q) (q .memory) call ≡ 0) ⊎ (0 < codeRefusal (stateOf s q) (q .memory) call)
-          → (Keeps s (B .frames) storedAge (3 * suc m) (coded s q call)
-          → 3 * suc m ≤ length (B .frames)
-          → Ahead B (suc m) (brought (stateOf s (coded s q call)) (coded s q call .memory) calls)
-          → every (map runNumber (refusals (stateOf s (coded s q call)) (coded s q call .memory) calls)) ≡ true)
-          → (Ahead B m (brought (stateOf s q) (q .memory) calls) → every (map runNumber (refusals (stateOf s q) (q .memory) calls)) ≡ true)
-          → every (map runNumber (refusals (stateOf s q) (q .memory) (call ∷ calls))) ≡ true
-      go (inl h) next same =
-          let a : Ahead B m (bringing s call rest) = rw (brought-accepted s q call calls h) at A in
-          let run = keeps-run m q K low call in
-          rw (refusals-accepted s q call calls h)
-          (both (rw h at run) (next (coded-keeps s B m call rest a c q K) (more-frames s B m call rest a) (ahead-next s B m call rest a)))
-      go (inr h) next same =
-          rw (refusals-refused s q call calls h) (both (keeps-run m q K low call) (same (rw (brought-refused s q call calls h) at A)))
+  coded-none : (q : Progress) → Coded [] q
+  unfolding sent brought refusals noBits table every
+  coded-none q m K low A = (refl, refl)
+
+  coded-accepted : (call : CodeCall) (calls : List CodeCall) (q : Progress) → codeRefusal (stateOf s q) (q .memory) call ≡ 0 → Coded calls (coded s q call) → Coded (call ∷ calls) q
+  unfolding sent refusals codes codeAccepted coded stateOf progressOf table every bringing
+  coded-accepted call calls q h next m K low A =
+      let rest = brought (stateOf s (coded s q call)) (coded s q call .memory) calls in
+      let a : Ahead B m (bringing s call rest) = rw (brought-accepted s q call calls h) at A in
+      let n = next (suc m) (coded-keeps s B m call rest a c q K) (more-frames s B m call rest a) (ahead-next s B m call rest a) in
+      let run = keeps-run m q K low call in (
+        rw (brought-accepted s q call calls h, code-accepts (stateOf s q) (q .memory) call h) (ap₂ _∷_ (frame-of s B m call rest a c q K) (n .0)),
+        rw (code-accepts (stateOf s q) (q .memory) call h) (both (rw h at run) (n .1)),
+      )
+
+  coded-refused : (call : CodeCall) (calls : List CodeCall) (q : Progress) → 0 < codeRefusal (stateOf s q) (q .memory) call → Coded calls q → Coded (call ∷ calls) q
+  unfolding sent refusals codeRefused every
+  coded-refused call calls q h same m K low A =
+      let n = same m K low (rw (brought-refused s q call calls h) at A) in (
+        rw (brought-refused s q call calls h, not-coded s q call calls h, refused s q call calls h) (n .0),
+        rw (refused s q call calls h) (both (keeps-run m q K low call) (n .1)),
+      )
+
+  pub all-coded : (calls : List CodeCall) (q : Progress) → Coded calls q
+  all-coded = calls-all s Coded coded-none coded-accepted coded-refused

@@ -1,10 +1,10 @@
 -- The coder's memory: after each frame it keeps the last D frames, so the rows that it sends are the standard's. Assumes the coding's record.
 use Prim.Native.Nat.{ℕ, zero, suc, _+_, _<_}
 use mathlib.Core.Path.{_≡_, refl, sym, ap, ap₂, _∙_}
-use mathlib.Core.List.{List, [], _++_}
+use mathlib.Core.List.{List, _++_}
 use native.Mathlib.Nat.{add-zero, add-suc, suc-add}
 use native.Mathlib.Omega.{arith}
-use lib.ListN.{length, getD}
+use lib.ListN.{getD}
 use lib.IntN.{pos}
 use Rattle.lists.specs.Lists.{table}
 use Rattle.settings.specs.declared.Settings.{Settings}
@@ -18,36 +18,32 @@ use Rattle.lists.proofs.Tables.{table-ext}
 use Rattle.superframe.proofs.Memory.{length-stored, stored-same, stored-other}
 use Rattle.superframe.proofs.Slots.{slot-zero, slot-once, slot-next, next-low}
 use Rattle.superframe.proofs.Places.{delay-low, sent-low}
-use Rattle.superframe.proofs.Coding.{Coding, msc-long, depth-low}
-use Rattle.superframe.proofs.History.{frameAt, aged, aged-zero, aged-suc, earlier-aged, Keeps}
+use Rattle.superframe.proofs.Coding.{Coding, depth-low}
+use Rattle.superframe.proofs.History.{frameAt, frame-long, aged, aged-zero, aged-suc, earlier-aged, Keeps}
 
 -- In the coder's memory every number of a slot is of the frame that was stored there.
 abbrev pub storedAge : ℕ → ℕ → ℕ
 storedAge d k = d
 
 module _ (s : Settings) (c : Coding s) (F : List (List ℕ)) where
-  frame-long : (f : ℕ) → length (frameAt s F f) ≡ slotSize s
-  unfolding frameAt
-  frame-long f = msc-long s (getD F f [])
-
   place-low : (k : ℕ) → sentPlace (nMux s) k < slotSize s
   unfolding slotSize
   place-low k = sent-low (nMux s) (c .big) k
 
   -- Memory with frame f stored at the position: the slot written e frames before it has the frame of age e.
-  module _ (f : ℕ) (q : Progress) (K : Keeps s F storedAge f q) where
+  module _ (f : ℕ) (q : Progress) (K : Keeps s (frameAt s F) storedAge f q) where
     newest : (e k : ℕ) → e < depth s → k < slotSize s
         → numberIn (slotSize s) (stored (slotSize s) (q .memory) (q .position) (frameAt s F f)) (slotBefore (depth s) (q .position) e) (sentPlace (nMux s) k)
-        ≡ getD (aged s F (suc f) e) (sentPlace (nMux s) k) (pos 0)
+        ≡ getD (aged s (frameAt s F) (suc f) e) (sentPlace (nMux s) k) (pos 0)
     newest zero k h b =
-        rw (slot-zero (depth s) (q .position) (K .low), aged-zero s F f)
-        (stored-same (slotSize s) (depth s) (q .memory) (K .long) (q .position) (frameAt s F f) (sentPlace (nMux s) k) (K .low) (frame-long f) (place-low k))
+        rw (slot-zero (depth s) (q .position) (K .low), aged-zero s (frameAt s F) f)
+        (stored-same (slotSize s) (depth s) (q .memory) (K .long) (q .position) (frameAt s F f) (sentPlace (nMux s) k) (K .low) (frame-long s F f) (place-low k))
     newest (suc d) k h b =
         stored-other (slotSize s) (depth s) (q .memory) (K .long) (q .position) (slotBefore (depth s) (q .position) (suc d)) (frameAt s F f) (sentPlace (nMux s) k)
         (λ e. apart (slot-once (depth s) (q .position) (K .low) (suc d) 0 h (depth-low s) (e ∙ sym (slot-zero (depth s) (q .position) (K .low)))))
-        (frame-long f) (place-low k)
+        (frame-long s F f) (place-low k)
         ∙ K .number d k (omega arith) b
-        ∙ ap (λ l. getD l (sentPlace (nMux s) k) (pos 0)) (sym (aged-suc s F f d))
+        ∙ ap (λ l. getD l (sentPlace (nMux s) k) (pos 0)) (sym (aged-suc s (frameAt s F) f d))
       where
         apart : suc d ≡ 0 → ⊥
         apart e = omega arith
@@ -61,7 +57,7 @@ module _ (s : Settings) (c : Coding s) (F : List (List ℕ)) where
         ∙ ap (λ l. getD l (sentPlace (nMux s) k) (pos 0)) (sym (earlier-aged s F f (delay (depth s) k))))
 
     -- And memory keeps the frames before the next one.
-    pub coder-keeps : Keeps s F storedAge (suc f) (advanced (depth s) (stored (slotSize s) (q .memory) (q .position) (frameAt s F f)) q)
+    pub coder-keeps : Keeps s (frameAt s F) storedAge (suc f) (advanced (depth s) (stored (slotSize s) (q .memory) (q .position) (frameAt s F f)) q)
     unfolding advanced
     coder-keeps =
         record {
@@ -72,13 +68,13 @@ module _ (s : Settings) (c : Coding s) (F : List (List ℕ)) where
         }
 
   -- Frames coded one after the other: the rows are the standard's, and memory keeps the frames.
-  pub coder-rows : (n f : ℕ) (q : Progress) → Keeps s F storedAge f q
+  pub coder-rows : (n f : ℕ) (q : Progress) → Keeps s (frameAt s F) storedAge f q
       → sentRows s q (table (frameAt s F) f n) ≡ joined (table (standardRow s F) f n)
   unfolding table sentRows joined
   coder-rows zero f q K = refl
   coder-rows (suc n) f q K = ap₂ _++_ (coder-row f q K) (coder-rows n (suc f) _ (coder-keeps f q K))
 
-  pub coder-after : (n f : ℕ) (q : Progress) → Keeps s F storedAge f q → Keeps s F storedAge (f + n) (afterFrames s q (table (frameAt s F) f n))
+  pub coder-after : (n f : ℕ) (q : Progress) → Keeps s (frameAt s F) storedAge f q → Keeps s (frameAt s F) storedAge (f + n) (afterFrames s q (table (frameAt s F) f n))
   unfolding table afterFrames
   coder-after zero f q K = rw add-zero K
   coder-after (suc n) f q K = rw (add-suc, ← suc-add) (coder-after n (suc f) _ (coder-keeps f q K))

@@ -1,9 +1,8 @@
 -- What the laws of runs use of a settings' coding: of each kind of block that reading undoes coding, and of the sizes how they fit.
 use Prim.Native.Nat.{ℕ, zero, suc, _+_, _*_, _%_, _≤_, _<_}
-use mathlib.Core.Path.{_≡_, sym, _∙_}
+use mathlib.Core.Path.{_≡_}
 use mathlib.Core.Bool.{Bool, true, false, cond}
 use mathlib.Core.List.{List, [], _∷_, _++_}
-use native.Mathlib.Nat.{zero-add}
 use native.Mathlib.Omega.{arith}
 use lib.ListN.{length, getD}
 use lib.IntN.{ℤ, pos}
@@ -17,16 +16,15 @@ use Rattle.block.specs.declared.Block.{Block}
 use Rattle.block.specs.Block.{bitCount, cellsOf, pointsOf}
 use Rattle.block.specs.Points.{onAxis, isPoint, arePoints}
 use Rattle.block.specs.Reading.{given, bytesRead}
-use Rattle.frame.specs.Fac.{facBlock}
-use Rattle.frame.specs.Sdc.{sdcBlock}
-use Rattle.frame.specs.Msc.{mscBlock}
+use Rattle.channels.specs.Fac.{facBlock}
+use Rattle.channels.specs.Sdc.{sdcBlock}
+use Rattle.channels.specs.Msc.{mscBlock}
 use Rattle.superframe.specs.Memory.{slotSize}
 use Rattle.superframe.specs.Runs.{bitsOf}
 use Rattle.block.specs.Fits.{BlockBits}
 use Rattle.block.specs.Reads.{ReadsBytes}
 use Rattle.block.proofs.Blocks.{length-cells}
-use Rattle.lists.proofs.Tables.{table-at}
-use Rattle.superframe.proofs.Lists.{both, every-at}
+use Rattle.lists.proofs.Bools.{both, table-every}
 
 -- Bits of a block, each of a list.
 pub data AllBits (k : Block) : List (List ℕ) → Type 0 where
@@ -94,7 +92,7 @@ depth-high s = go (eqb (s .interleaving) 0)
 -- If all cells are points then each is.
 on-axis : (k : Constellation) (cells : List ℤ) → arePoints k cells ≡ true → (j : ℕ) → j < length cells → onAxis (axis k j) (getD cells j (pos 0)) ≡ true
 unfolding arePoints
-on-axis k cells h j b = sym (table-at (λ j. onAxis (axis k j) (getD cells j (pos 0))) 0 (length cells) j true b ∙ rw zero-add) ∙ every-at _ h j
+on-axis k cells h = table-every (λ j. onAxis (axis k j) (getD cells j (pos 0))) (length cells) h
 
 axis-real : (k : Constellation) (j : ℕ) → axis k (2 * j) ≡ k .real
 unfolding axis

@@ -1,85 +1,80 @@
--- Refusals 13 and 14 by block, how many frames finish, and the answer that follows. Assumes the coding's record.
-use Prim.Native.Nat.{ℕ, zero, suc, _+_, _-_, _*_, _/_, _%_, _≤_, _<_, min}
+-- Refusals 13 and 14 by block, and how many frames finish. Assumes the coding's record.
+use Prim.Native.Nat.{ℕ, zero, suc, _+_, _-_, _*_, _/_, _%_, _≤_, _<_}
 use mathlib.Core.Path.{_≡_, refl, sym, ap, _∙_}
 use mathlib.Core.Logic.{_⊎_, inl, inr, _↔_}
-use mathlib.Core.Bool.{Bool, true, false, not, _||_}
-use mathlib.Core.List.{List, [], _∷_, _++_, map}
-use native.Mathlib.Nat.{zero-add}
+use mathlib.Core.Bool.{Bool, true, false, not}
+use mathlib.Core.List.{List, [], _∷_, map}
 use native.Mathlib.Omega.{arith}
-use lib.ListN.{length, getD, length-take, length-drop, length-append, length-map, List·getD-eq-default}
+use lib.ListN.{length, getD, length-take, length-drop, length-append, length-map, List·getD-map, List·getD-eq-default}
 use lib.IntN.{ℤ, pos}
 use lib.Dec.{leb}
 use borrow.Author.Tests.{leb-true, le-leb, not-false, eq-eqb, ne-eqb}
 use Rattle.lists.specs.Lists.{table}
 use Rattle.lists.proofs.Counting.{below-or}
-use Rattle.lists.proofs.Tables.{length-table, table-at}
+use Rattle.lists.proofs.Parts.{getD-any}
+use Rattle.lists.proofs.Tables.{length-table}
 use Rattle.settings.specs.declared.Settings.{Settings}
-use Rattle.settings.specs.Refusal.{refusal}
 use Rattle.settings.specs.Cells.{facCells}
 use Rattle.settings.specs.Lengths.{nMux, nSdc}
 use Rattle.settings.specs.Sizes.{depth}
 use Rattle.block.specs.Mapping.{Constellation, axis}
 use Rattle.block.specs.declared.Block.{Block}
-use Rattle.block.specs.Block.{cellsOf, cellsFrom, pointsOf}
-use Rattle.block.specs.Points.{onAxis, isPoint, arePoints, every}
-use Rattle.lists.specs.Same.{sameNumbers}
+use Rattle.block.specs.Block.{cellsFrom, pointsOf}
+use Rattle.lists.specs.Bools.{every, firstFault}
+use Rattle.block.specs.Points.{onAxis, isPoint, arePoints}
 use Rattle.block.specs.Reading.{given, bytesRead}
-use Rattle.block.specs.Fits.{BlockBits}
 use Rattle.block.specs.Reads.{NoBits}
 use Rattle.block.proofs.Blocks.{bits-block}
 use Rattle.lists.proofs.Same.{sameNumbers-refl, sameNumbers-true}
-use Rattle.frame.specs.Fac.{facBlock}
-use Rattle.frame.specs.Sdc.{sdcBlock}
-use Rattle.frame.specs.Msc.{mscBlock}
+use Rattle.channels.specs.Fac.{facBlock}
+use Rattle.channels.specs.Sdc.{sdcBlock}
+use Rattle.channels.specs.Msc.{mscBlock}
 use Rattle.superframe.specs.declared.State.{State}
-use Rattle.superframe.specs.declared.Answer.{Answer}
-use Rattle.superframe.specs.declared.Answer.the-variants.{Finished, Refused}
 use Rattle.superframe.specs.Memory.{slotSize}
 use Rattle.superframe.specs.Interleaving.{Progress, advanced, delay, taken, finishedBy, finishedFrames, fillers}
 use Rattle.superframe.specs.Call.{part, parts}
 use Rattle.superframe.specs.Code.{progressOf}
-use Rattle.superframe.specs.Read.{ReadCall, rowsOf, fillersOf, rowCell, rowPoints, countAt, pointTests, givenTests, firstFault, orderRefusal, answerOf}
-use Rattle.superframe.specs.Facts.{CellsFit, ReadFits}
-use Rattle.superframe.specs.Demand2.{cellIsPoint, NoPoint, inFac, inSdc, inRow, inFillers, NotGiven, ofFac, ofSdc, ofFrame, Lowest, Nowhere, finishedOf, Thirteen, Fourteen}
+use Rattle.superframe.specs.Read.{ReadCall, rowsOf, fillersOf, rowCell, rowPoints, countAt, pointTests, givenTests}
+use Rattle.superframe.specs.Contracts.{CellsFit}
+use Rattle.superframe.specs.SingleCalls.{cellIsPoint, NoPoint, inFac, inSdc, inRow, inFillers, NotGiven, ofFac, ofSdc, ofFrame, Lowest, Nowhere, finishedOf}
 use Rattle.superframe.proofs.Coding.{Recovers, Coding, point-at}
-use Rattle.lists.proofs.Bools.{never-both, and-left, and-right}
-use Rattle.superframe.proofs.Lists.{every-at}
-use Rattle.superframe.proofs.Calls.{fits-read, answer-points, answer-blocks, answer-finished}
-use Rattle.superframe.proofs.Tests.{holds-or, fails-at, first-lowest, all-nowhere}
+use Rattle.lists.proofs.Bools.{never-both, unless-false, unless-true, and-left, and-right, or-false, every-all, every-at, table-every, fails-at, first-fails, first-holds, first-is}
+
+-- The first fault of tests is the lowest block at fault, and all tests hold where none is.
+module _ (fault : ℕ → Type 0) (l : List Bool) (means : (i : ℕ) → (getD l i true ≡ false) ↔ fault i) where
+  pub first-lowest : (b : ℕ) → ((every l ≡ false) × (firstFault l ≡ b)) ↔ Lowest fault b
+  first-lowest b = (
+    λ p. record { here = means b .0 (rw (p .1) at (first-fails l (p .0))); before = λ i h x. never-both (getD l i true) (first-holds l i (rw (p .1) h)) (means i .1 x) },
+    λ r. first-is l b (means b .1 (r .here)) (λ i h. unless-false (getD l i true) (λ e. r .before i h (means i .0 e))),
+  )
+
+  pub all-nowhere : (every l ≡ true) ↔ Nowhere fault
+  all-nowhere = (
+    λ h. record { none = λ b x. never-both (getD l b true) (every-at l h b) (means b .1 x) },
+    λ r. every-all l (λ i. unless-false (getD l i true) (λ e. r .none i (means i .0 e))),
+  )
 
 -- All cells are points unless one is none.
 cell-holds : (k : Constellation) (cells : List ℤ) (i : ℕ) → cellIsPoint k cells (i / 2) ≡ true → onAxis (axis k i) (getD cells i (pos 0)) ≡ true
 unfolding cellIsPoint isPoint axis
-cell-holds k cells i h = go (below-or (i % 2) 1)
-  where
-    re : onAxis (k .real) (getD cells (2 * (i / 2)) (pos 0)) ≡ true
-    re = and-left _ (onAxis (k .imaginary) (getD cells (2 * (i / 2) + 1) (pos 0))) h
-
-    im : onAxis (k .imaginary) (getD cells (2 * (i / 2) + 1) (pos 0)) ≡ true
-    im = and-right (onAxis (k .real) (getD cells (2 * (i / 2)) (pos 0))) _ h
-
-    go : (i % 2 < 1) ⊎ (1 ≤ i % 2) → onAxis (axis k i) (getD cells i (pos 0)) ≡ true
-    go (inl x) = let e : i % 2 ≡ 0 = omega arith in let g : 2 * (i / 2) ≡ i = omega arith in rw e (rw g at re)
-    go (inr x) = let e : i % 2 ≡ 1 = omega arith in let g : 2 * (i / 2) + 1 ≡ i = omega arith in rw e (rw g at im)
+cell-holds k cells i h =
+    let re : onAxis (k .real) (getD cells (2 * (i / 2)) (pos 0)) ≡ true = and-left _ (onAxis (k .imaginary) (getD cells (2 * (i / 2) + 1) (pos 0))) h in
+    let im : onAxis (k .imaginary) (getD cells (2 * (i / 2) + 1) (pos 0)) ≡ true = and-right (onAxis (k .real) (getD cells (2 * (i / 2)) (pos 0))) _ h in
+    elim (below-or (i % 2) 1) [
+      | inl x ↦ let e : i % 2 ≡ 0 = omega arith in let g : 2 * (i / 2) ≡ i = omega arith in rw e (rw g at re)
+      | inr x ↦ let e : i % 2 ≡ 1 = omega arith in let g : 2 * (i / 2) + 1 ≡ i = omega arith in rw e (rw g at im)
+    ]
 
 pub cells-fail : (k : Constellation) (cells : List ℤ) (n : ℕ) → length cells ≡ 2 * n → arePoints k cells ≡ false → (j : ℕ) × (j < n) × (cellIsPoint k cells j ≡ false)
 unfolding arePoints
 cells-fail k cells n e h =
     let r = fails-at (λ j. onAxis (axis k j) (getD cells j (pos 0))) 0 (length cells) h in
     let b = r .2 in
-    (r .0 / 2, omega arith, no-point (r .0) (r .3) (holds-or (cellIsPoint k cells (r .0 / 2))))
-  where
-    no-point : (i : ℕ) → onAxis (axis k i) (getD cells i (pos 0)) ≡ false → (cellIsPoint k cells (i / 2) ≡ true) ⊎ (cellIsPoint k cells (i / 2) ≡ false) → cellIsPoint k cells (i / 2) ≡ false
-    no-point i e (inl x) = absurd (never-both _ (cell-holds k cells i x) e)
-    no-point i e (inr x) = x
+    (r .0 / 2, omega arith, unless-true _ (λ x. never-both _ (cell-holds k cells (r .0) x) (r .3)))
 
 pub fail-cells : (k : Constellation) (cells : List ℤ) (n : ℕ) → length cells ≡ 2 * n → (j : ℕ) → j < n → cellIsPoint k cells j ≡ false → arePoints k cells ≡ false
 unfolding cellIsPoint
-fail-cells k cells n e j h f = go (holds-or (arePoints k cells))
-  where
-    go : (arePoints k cells ≡ true) ⊎ (arePoints k cells ≡ false) → arePoints k cells ≡ false
-    go (inl x) = absurd (never-both _ (point-at k cells x j (omega arith)) f)
-    go (inr x) = x
+fail-cells k cells n e j h f = unless-true _ (λ x. never-both _ (point-at k cells x j (omega arith)) f)
 
 -- A part of a buffer has its length.
 pub part-long : {A : Type 0} (n : ℕ) (l : List A) → 3 * n ≤ length l → (i : ℕ) → i < 3 → length (part n l i) ≡ n
@@ -88,10 +83,6 @@ part-long n l h zero b = rw (length-take, length-drop) (omega arith)
 part-long n l h (suc zero) b = rw (length-take, length-drop) (omega arith)
 part-long n l h (suc (suc zero)) b = rw (length-take, length-drop) (omega arith)
 part-long n l h (suc (suc (suc i))) b = absurd (omega arith)
-
-or-false : (a b : Bool) → (a || b) ≡ false → (a ≡ false) × (b ≡ false)
-or-false true b h = absurd (never-both true refl h)
-or-false false b h = (refl, h)
 
 -- A row fails by a cell that is not ignored and is no point.
 rows-fail : (s : Settings) (count : ℕ) (row : List ℤ) → rowPoints s count row ≡ false
@@ -105,16 +96,8 @@ rows-fail s count row h =
 
 fail-rows : (s : Settings) (count : ℕ) (row : List ℤ) (j : ℕ) → j < nMux s → delay (depth s) (2 * j) ≤ count → cellIsPoint (pointsOf (mscBlock s)) row j ≡ false → rowPoints s count row ≡ false
 unfolding rowPoints rowCell cellIsPoint
-fail-rows s count row j h d f = go (holds-or (rowPoints s count row))
-  where
-    cell : rowCell s count row j ≡ false
-    cell = rw (le-leb (delay (depth s) (2 * j)) count d, f)
-
-    go : (rowPoints s count row ≡ true) ⊎ (rowPoints s count row ≡ false) → rowPoints s count row ≡ false
-    go (inl x) =
-        absurd (never-both (rowCell s count row j)
-        (sym (table-at (rowCell s count row) 0 (nMux s) j true h ∙ rw zero-add) ∙ every-at (table (rowCell s count row) 0 (nMux s)) x j) cell)
-    go (inr x) = x
+fail-rows s count row j h d f =
+    unless-true _ (λ x. never-both (rowCell s count row j) (table-every (rowCell s count row) (nMux s) x j h) (rw (le-leb (delay (depth s) (2 * j)) count d, f)))
 
 -- 13 by block.
 module _ (s : Settings) (count : ℕ) (c : ReadCall) (fits : CellsFit s (c .faccells) (c .sdccells) (c .msccells)) where
@@ -125,10 +108,6 @@ module _ (s : Settings) (count : ℕ) (c : ReadCall) (fits : CellsFit s (c .facc
   test-fac (suc (suc zero)) h = refl
   test-fac (suc (suc (suc b))) h = absurd (omega arith)
 
-  test-sdc : getD (pointTests s count c) 3 true ≡ arePoints (pointsOf (sdcBlock s)) (c .sdccells)
-  unfolding pointTests parts table
-  test-sdc = refl
-
   test-row : (i : ℕ) → i < 3 → getD (pointTests s count c) (4 + i) true ≡ rowPoints s (countAt s count i) (part (slotSize s) (c .msccells) i)
   unfolding pointTests parts table
   test-row zero h = refl
@@ -136,18 +115,11 @@ module _ (s : Settings) (count : ℕ) (c : ReadCall) (fits : CellsFit s (c .facc
   test-row (suc (suc zero)) h = refl
   test-row (suc (suc (suc b))) h = absurd (omega arith)
 
-  test-filler : getD (pointTests s count c) 7 true ≡ sameNumbers (fillersOf s (c .msccells)) (fillers s)
-  unfolding pointTests parts table
-  test-filler = refl
-
-  test-out : (b : ℕ) → 8 ≤ b → getD (pointTests s count c) b true ≡ true
-  unfolding pointTests parts table
-  test-out b h = List·getD-eq-default (pointTests s count c) true {n = b} h
-
   fac-room : (b : ℕ) → b < 3 → length (part (2 * facCells) (c .faccells) b) ≡ 2 * facCells
   fac-room b h = part-long (2 * facCells) (c .faccells) (omega (arith, fits .faclong)) b h
 
   fails-point : (b : ℕ) → getD (pointTests s count c) b true ≡ false → NoPoint s count c b
+  unfolding pointTests parts table
   fails-point b h = go (below-or b 3) (below-or b 4) (below-or b 7) (below-or b 8)
     where
       go : (b < 3) ⊎ (3 ≤ b) → (b < 4) ⊎ (4 ≤ b) → (b < 7) ⊎ (7 ≤ b) → (b < 8) ⊎ (8 ≤ b) → NoPoint s count c b
@@ -156,7 +128,7 @@ module _ (s : Settings) (count : ℕ) (c : ReadCall) (fits : CellsFit s (c .facc
           inFac (r .0) x (r .1) (r .2)
       go (inr x) (inl y) z w =
           let e : b ≡ 3 = omega arith in
-          let r = cells-fail (pointsOf (sdcBlock s)) (c .sdccells) (nSdc s) (fits .sdclong) (sym test-sdc ∙ rw e at h) in
+          let r = cells-fail (pointsOf (sdcBlock s)) (c .sdccells) (nSdc s) (fits .sdclong) (rw e at h) in
           inSdc (r .0) e (r .1) (r .2)
       go (inr x) (inr y) (inl z) w =
           let i = b - 4 in
@@ -167,18 +139,15 @@ module _ (s : Settings) (count : ℕ) (c : ReadCall) (fits : CellsFit s (c .facc
           inRow i (r .0) e l (r .1) (r .2) (r .3)
       go (inr x) (inr y) (inr z) (inl w) =
           let e : b ≡ 7 = omega arith in
-          inFillers e (λ p. never-both _ (rw p (sameNumbers-refl (fillers s))) (sym test-filler ∙ rw e at h))
-      go (inr x) (inr y) (inr z) (inr w) = absurd (never-both _ (test-out b w) h)
+          inFillers e (λ p. never-both _ (rw p (sameNumbers-refl (fillers s))) (rw e at h))
+      go (inr x) (inr y) (inr z) (inr w) = absurd (never-both _ (List·getD-eq-default (pointTests s count c) true {n = b} w) h)
 
   point-fails : (b : ℕ) → NoPoint s count c b → getD (pointTests s count c) b true ≡ false
+  unfolding pointTests parts table
   point-fails b (inFac j l h f) = test-fac b l ∙ fail-cells (pointsOf facBlock) (part (2 * facCells) (c .faccells) b) facCells (fac-room b l) j h f
-  point-fails b (inSdc j e h f) = rw e (test-sdc ∙ fail-cells (pointsOf (sdcBlock s)) (c .sdccells) (nSdc s) (fits .sdclong) j h f)
+  point-fails b (inSdc j e h f) = rw e (fail-cells (pointsOf (sdcBlock s)) (c .sdccells) (nSdc s) (fits .sdclong) j h f)
   point-fails b (inRow i j e l h d f) = rw e (test-row i l ∙ fail-rows s (countAt s count i) (part (slotSize s) (c .msccells) i) j h d f)
-  point-fails b (inFillers e f) = rw e (test-filler ∙ go (holds-or (sameNumbers (fillersOf s (c .msccells)) (fillers s))))
-    where
-      go : (sameNumbers (fillersOf s (c .msccells)) (fillers s) ≡ true) ⊎ (sameNumbers (fillersOf s (c .msccells)) (fillers s) ≡ false) → sameNumbers (fillersOf s (c .msccells)) (fillers s) ≡ false
-      go (inl x) = absurd (f (sameNumbers-true (fillersOf s (c .msccells)) (fillers s) x))
-      go (inr x) = x
+  point-fails b (inFillers e f) = rw e (unless-true _ (λ x. f (sameNumbers-true (fillersOf s (c .msccells)) (fillers s) x)))
 
   -- A test of 13 fails exactly if its block has a cell not ignored that is no point, or a wrong filler.
   pub points-mean : (b : ℕ) → (getD (pointTests s count c) b true ≡ false) ↔ NoPoint s count c b
@@ -189,18 +158,12 @@ pub given-means : {k : Block} {n : ℕ} → Recovers k n → (cells : List ℤ) 
 unfolding NoBits cellsFrom
 given-means {k} r cells = (
   λ h x b e. never-both (given k cells) (rw e at (r .gives x b)) h,
-  λ none. go (holds-or (given k cells)) none,
+  λ none. unless-true _ (λ x. none _ (bits-block (bytesRead k cells)) (r .reads .gives cells x)),
 )
-  where
-    go : (given k cells ≡ true) ⊎ (given k cells ≡ false) → ((bits : List ℕ) → BlockBits k bits → cellsOf k bits ≡ cells → ⊥) → given k cells ≡ false
-    go (inl x) none = absurd (none _ (bits-block (bytesRead k cells)) (r .reads .gives cells x))
-    go (inr x) none = x
 
 -- An element of a list's values.
 pub getD-map : {A B : Type 0} (f : A → B) (l : List A) (i : ℕ) (d : A) (z : B) → i < length l → getD (map f l) i z ≡ f (getD l i d)
-getD-map f [] i d z h = absurd (omega arith)
-getD-map f (a ∷ l) zero d z h = refl
-getD-map f (a ∷ l) (suc i) d z h = getD-map f l i d z (omega arith)
+getD-map f l i d z h = getD-any (map f l) i z (f d) (rw length-map h) ∙ List·getD-map f l i d
 
 -- 14 by block.
 module _ (s : Settings) (C : Coding s) (q : Progress) (c : ReadCall) where
@@ -265,102 +228,21 @@ pub finished-count : (s : Settings) (rows : List (List ℤ)) (q : Progress) → 
     → length (finishedFrames s q rows) ≡ q .count + length rows - (depth s - 1)
 unfolding finishedFrames advanced
 finished-count s [] q h = omega arith
-finished-count s (r ∷ rows) q h = go (below-or (q .count) (depth s - 1)) (finished-count s rows (advanced (depth s) (taken s q r) q) (omega arith))
-  where
-    go : (q .count < depth s - 1) ⊎ (depth s - 1 ≤ q .count)
-        → length (finishedFrames s (advanced (depth s) (taken s q r) q) rows) ≡ min (q .count + 1) (depth s - 1) + length rows - (depth s - 1)
-        → length (finishedBy s q (taken s q r) ++ finishedFrames s (advanced (depth s) (taken s q r) q) rows) ≡ q .count + suc (length rows) - (depth s - 1)
-    go (inl x) ih = rw (finished-none s q (taken s q r) x) (ih ∙ omega arith)
-    go (inr x) ih = rw (length-append, finished-one s q (taken s q r) (omega arith)) (omega arith)
+finished-count s (r ∷ rows) q h =
+    let ih = finished-count s rows (advanced (depth s) (taken s q r) q) (omega arith) in
+    elim (below-or (q .count) (depth s - 1)) [
+      | inl x ↦ rw (finished-none s q (taken s q r) x) (ih ∙ omega arith)
+      | inr x ↦ rw (length-append, finished-one s q (taken s q r) (omega arith)) (omega arith)
+    ]
 
 three-rows : (s : Settings) (cells : List ℤ) → length (rowsOf s cells) ≡ 3
 unfolding rowsOf parts
 three-rows s cells = length-table _ 0 3
 
-module _ (coding : (s : Settings) → refusal s ≡ 0 → Coding s) (state : State) (memory : List ℤ) (c : ReadCall) where
-  unfoldable pub points : List Bool
-  points = pointTests (state .settings) (state .count) c
-
-  unfoldable pub blocks : List Bool
-  blocks = givenTests (state .settings) (progressOf state memory) c
-
-  -- Where no number up to 12 refuses, one of three answers is given.
-  pub data Case (n : ℕ) (a : Answer) : Type 0 where
-    bad : every points ≡ false → a ≡ Refused 13 (firstFault points) → Case n a
-    wrong : every points ≡ true → every blocks ≡ false → a ≡ Refused 14 (firstFault blocks) → Case n a
-    good : every points ≡ true → every blocks ≡ true → a ≡ Finished n → Case n a
-
-  pub answer-case : orderRefusal state memory c ≡ 0 → Case (length (finishedOf state memory c)) (answerOf state memory c)
-  unfolding points blocks finishedOf
-  answer-case z = go (holds-or (every points)) (holds-or (every blocks))
-    where
-      go : (every points ≡ true) ⊎ (every points ≡ false) → (every blocks ≡ true) ⊎ (every blocks ≡ false) → Case (length (finishedOf state memory c)) (answerOf state memory c)
-      go (inr p) g = bad p (answer-points state memory c z p)
-      go (inl p) (inr g) = wrong p g (answer-blocks state memory c z p g)
-      go (inl p) (inl g) = good p g (answer-finished state memory c z p g)
-
-  module _ (F : ReadFits state memory c) where
-    zero-order : orderRefusal state memory c ≡ 0
-    zero-order = fits-read state memory c F
-
-    lowest13 : (b : ℕ) → ((every points ≡ false) × (firstFault points ≡ b)) ↔ Lowest (Thirteen state c) b
-    unfolding points
-    lowest13 b = first-lowest (Thirteen state c) points (points-mean (state .settings) (state .count) c (F .cells)) b
-
-    none13 : (every points ≡ true) ↔ Nowhere (Thirteen state c)
-    unfolding points
-    none13 = all-nowhere (Thirteen state c) points (points-mean (state .settings) (state .count) c (F .cells))
-
-    lowest14 : (b : ℕ) → ((every blocks ≡ false) × (firstFault blocks ≡ b)) ↔ Lowest (Fourteen state memory c) b
-    unfolding blocks finishedOf
-    lowest14 b = first-lowest (Fourteen state memory c) blocks (blocks-mean (state .settings) (coding (state .settings) (F .fits .settings)) (progressOf state memory) c) b
-
-    none14 : (every blocks ≡ true) ↔ Nowhere (Fourteen state memory c)
-    unfolding blocks finishedOf
-    none14 = all-nowhere (Fourteen state memory c) blocks (blocks-mean (state .settings) (coding (state .settings) (F .fits .settings)) (progressOf state memory) c)
-
-    -- Three rows finish count + 3 - (D - 1) frames.
-    pub count-is : length (finishedOf state memory c) ≡ state .count + 3 - (depth (state .settings) - 1)
-    unfolding finishedOf progressOf
-    count-is =
-        let l = F .order .count in
-        finished-count (state .settings) (rowsOf (state .settings) (c .msccells)) (progressOf state memory) (omega arith)
-        ∙ ap (λ n. state .count + n - (depth (state .settings) - 1)) (three-rows (state .settings) (c .msccells))
-
-    pub answers13 : (b : ℕ) → (answerOf state memory c ≡ Refused 13 b) ↔ Lowest (Thirteen state c) b
-    unfolding points
-    answers13 b = (to (answer-case zero-order), from)
-      where
-        to : Case (length (finishedOf state memory c)) (answerOf state memory c) → answerOf state memory c ≡ Refused 13 b → Lowest (Thirteen state c) b
-        to (bad p a) e = lowest13 b .0 (p, (cc))
-        to (wrong p g a) e = absurd (let z : _≡_ {A = ℕ} 13 14 = cc in omega arith)
-        to (good p g a) e = absurd (let z : _≡_ {A = ℕ} 0 1 = cc in omega arith)
-
-        from : Lowest (Thirteen state c) b → answerOf state memory c ≡ Refused 13 b
-        from r = let p = lowest13 b .1 r in answer-points state memory c zero-order (p .0) ∙ ap (Refused 13) (p .1)
-
-    pub answers14 : (b : ℕ) → (answerOf state memory c ≡ Refused 14 b) ↔ (Nowhere (Thirteen state c) × Lowest (Fourteen state memory c) b)
-    unfolding points blocks
-    answers14 b = (to (answer-case zero-order), from)
-      where
-        to : Case (length (finishedOf state memory c)) (answerOf state memory c) → answerOf state memory c ≡ Refused 14 b → Nowhere (Thirteen state c) × Lowest (Fourteen state memory c) b
-        to (bad p a) e = absurd (let z : _≡_ {A = ℕ} 13 14 = cc in omega arith)
-        to (wrong p g a) e = (none13 .0 p, lowest14 b .0 (g, (cc)))
-        to (good p g a) e = absurd (let z : _≡_ {A = ℕ} 0 1 = cc in omega arith)
-
-        from : Nowhere (Thirteen state c) × Lowest (Fourteen state memory c) b → answerOf state memory c ≡ Refused 14 b
-        from (n, r) = let p = lowest14 b .1 r in answer-blocks state memory c zero-order (none13 .1 n) (p .0) ∙ ap (Refused 14) (p .1)
-
-    pub answers0 : (n : ℕ) → (answerOf state memory c ≡ Finished n)
-        ↔ (Nowhere (Thirteen state c) × Nowhere (Fourteen state memory c) × (n ≡ state .count + 3 - (depth (state .settings) - 1)))
-    unfolding points blocks finishedOf
-    answers0 n = (to (answer-case zero-order), from)
-      where
-        to : Case (length (finishedOf state memory c)) (answerOf state memory c) → answerOf state memory c ≡ Finished n
-            → Nowhere (Thirteen state c) × Nowhere (Fourteen state memory c) × (n ≡ state .count + 3 - (depth (state .settings) - 1))
-        to (bad p a) e = absurd (let z : _≡_ {A = ℕ} 0 1 = cc in omega arith)
-        to (wrong p g a) e = absurd (let z : _≡_ {A = ℕ} 0 1 = cc in omega arith)
-        to (good p g a) e = let z : n ≡ length (finishedOf state memory c) = cc in (none13 .0 p, none14 .0 g, z ∙ count-is)
-
-        from : Nowhere (Thirteen state c) × Nowhere (Fourteen state memory c) × (n ≡ state .count + 3 - (depth (state .settings) - 1)) → answerOf state memory c ≡ Finished n
-        from (p, g, e) = answer-finished state memory c zero-order (none13 .1 p) (none14 .1 g) ∙ ap Finished (count-is ∙ sym e)
+-- Three rows finish count + 3 - (D - 1) frames.
+pub count-is : (state : State) (memory : List ℤ) (c : ReadCall) → state .count < depth (state .settings)
+    → length (finishedOf state memory c) ≡ state .count + 3 - (depth (state .settings) - 1)
+unfolding finishedOf progressOf
+count-is state memory c h =
+    finished-count (state .settings) (rowsOf (state .settings) (c .msccells)) (progressOf state memory) (omega arith)
+    ∙ ap (λ n. state .count + n - (depth (state .settings) - 1)) (three-rows (state .settings) (c .msccells))

@@ -1,10 +1,10 @@
--- The frames of a run before a frame, newest first, and what memory keeps of them. Assumes the coding's record.
+-- Frames before a frame by their age, the rows that carry frames, and what memory keeps of them. Assumes the coding's record.
 use Prim.Native.Nat.{ℕ, zero, suc, _+_, _-_, _*_, _/_, _%_, _≤_, _<_, min}
 use mathlib.Core.Path.{_≡_, refl, sym, ap, _∙_}
-use mathlib.Core.Logic.{_⊎_, inl, inr}
-use mathlib.Core.Bool.{Bool, true, false, _||_}
+use mathlib.Core.Logic.{inl, inr}
+use mathlib.Core.Bool.{Bool, true, _||_}
 use mathlib.Core.List.{List, [], _∷_, append-nil}
-use native.Mathlib.Nat.{zero-add, mul-comm, suc-sub-suc, div-add-mod', mod-lt, div-lt-iff-lt-mul}
+use native.Mathlib.Nat.{zero-add, mul-comm, sub-zero, suc-sub-suc, div-add-mod', mod-lt, div-lt-iff-lt-mul}
 use native.Mathlib.Omega.{arith}
 use lib.ListN.{length, getD, length-replicate, getD-replicate}
 use lib.IntN.{ℤ, pos}
@@ -15,95 +15,110 @@ use Rattle.settings.specs.declared.Settings.{Settings}
 use Rattle.settings.specs.Lengths.{nMux}
 use Rattle.settings.specs.Sizes.{depth}
 use Rattle.block.specs.Block.{cellsOf, pointsOf}
-use Rattle.block.specs.Points.{isPoint, every}
+use Rattle.lists.specs.Bools.{every}
+use Rattle.block.specs.Points.{isPoint}
 use Rattle.lists.specs.Same.{sameNumber}
-use Rattle.frame.specs.Msc.{mscBlock}
+use Rattle.channels.specs.Msc.{mscBlock}
 use Rattle.superframe.specs.Memory.{slotSize, numberIn, startFrame, slotOf}
 use Rattle.superframe.specs.Interleaving.{Progress, sentPlace, delay, slotBefore}
 use Rattle.superframe.specs.Call.{part, joined, isStart, memoryCell}
 use Rattle.superframe.specs.Reset.{startMemory}
 use Rattle.superframe.specs.Code.{stateOf}
-use Rattle.superframe.specs.Facts.{Ordered}
+use Rattle.superframe.specs.Contracts.{Ordered}
 use Rattle.superframe.specs.Standard.{earlierCells, standardRow}
-use Rattle.lists.proofs.Tables.{table-at, replicate-table}
-use Rattle.superframe.proofs.Lists.{part-joined, length-joined, every-table}
+use Rattle.lists.proofs.Tables.{getD-table, replicate-table}
+use Rattle.lists.proofs.Bools.{or-right, every-table}
+use Rattle.superframe.proofs.Lists.{part-joined, length-joined}
 use Rattle.superframe.proofs.Memory.{getD-slot}
 use Rattle.superframe.proofs.Slots.{slot-low, slot-cover}
 use Rattle.superframe.proofs.Places.{sent-real, sent-imaginary, cell-sent, sent-low}
 use Rattle.block.specs.Fits.{BlockBits}
 use Rattle.superframe.proofs.Coding.{Coding, msc-long, depth-low, point-at}
 
--- The cells of frame f, and the frames before frame f, newest first.
-unfoldable pub frameAt : Settings → List (List ℕ) → ℕ → List ℤ
-frameAt s F f = cellsOf (mscBlock s) (getD F f [])
-
-unfoldable pub past : Settings → List (List ℕ) → ℕ → List (List ℤ)
-past s F zero = []
-past s F (suc f) = frameAt s F f ∷ past s F f
+-- The frames G before frame f, newest first.
+unfoldable pub past : (ℕ → List ℤ) → ℕ → List (List ℤ)
+past G zero = []
+past G (suc f) = G f ∷ past G f
 
 -- The frame of an age: 0 for the newest before frame f; a start frame before the first.
-unfoldable pub aged : Settings → List (List ℕ) → ℕ → ℕ → List ℤ
-aged s F f d = getD (past s F f) d (startFrame s)
+unfoldable pub aged : Settings → (ℕ → List ℤ) → ℕ → ℕ → List ℤ
+aged s G f d = getD (past G f) d (startFrame s)
 
 pub start-long : (s : Settings) → length (startFrame s) ≡ slotSize s
 unfolding startFrame
 start-long s = length-replicate (slotSize s) (pos 0)
 
-module _ (s : Settings) (F : List (List ℕ)) where
+module _ (s : Settings) (G : ℕ → List ℤ) where
   -- One frame later each frame is one older.
-  pub aged-zero : (f : ℕ) → aged s F (suc f) 0 ≡ frameAt s F f
+  pub aged-zero : (f : ℕ) → aged s G (suc f) 0 ≡ G f
   unfolding aged past
   aged-zero f = refl
 
-  pub aged-suc : (f d : ℕ) → aged s F (suc f) (suc d) ≡ aged s F f d
+  pub aged-suc : (f d : ℕ) → aged s G (suc f) (suc d) ≡ aged s G f d
   unfolding aged past
   aged-suc f d = refl
 
-  -- A frame of an age below f is one of the run's, any other a start frame.
-  pub aged-run : (f d : ℕ) → d < f → aged s F f d ≡ frameAt s F (f - suc d)
-  aged-run zero d h = absurd (omega arith)
-  aged-run (suc f) zero h = aged-zero f ∙ rw (suc-sub-suc) (ap (frameAt s F) (omega arith))
-  aged-run (suc f) (suc d) h = aged-suc f d ∙ aged-run f d (omega arith) ∙ rw suc-sub-suc
+  -- Frame f - d has age d before the frame after f; before the first stand start frames.
+  pub aged-run : (f d : ℕ) → d ≤ f → aged s G (suc f) d ≡ G (f - d)
+  unfolding aged past
+  aged-run f zero h = rw sub-zero
+  aged-run zero (suc d) h = absurd (omega arith)
+  aged-run (suc f) (suc d) h = rw suc-sub-suc (aged-run f d (omega arith))
 
-  pub aged-start : (f d : ℕ) → f ≤ d → aged s F f d ≡ startFrame s
+  pub aged-start : (f d : ℕ) → f ≤ d → aged s G f d ≡ startFrame s
   unfolding aged past
   aged-start zero d h = refl
   aged-start (suc f) zero h = absurd (omega arith)
   aged-start (suc f) (suc d) h = aged-start f d (omega arith)
 
-  -- Every frame has the numbers of a slot.
-  pub aged-long : (f d : ℕ) → length (aged s F f d) ≡ slotSize s
-  unfolding frameAt
-  aged-long f d = go (below-or d f)
-    where
-      go : (d < f) ⊎ (f ≤ d) → length (aged s F f d) ≡ slotSize s
-      go (inl h) = ap length (aged-run f d h) ∙ msc-long s _
-      go (inr h) = ap length (aged-start f d h) ∙ start-long s
+  -- What holds of a start frame and of every frame before frame f holds of every age.
+  pub aged-all : (P : List ℤ → Type 0) → P (startFrame s) → (f : ℕ) → ((i : ℕ) → i < f → P (G i)) → (d : ℕ) → P (aged s G f d)
+  unfolding aged past
+  aged-all P start zero each d = start
+  aged-all P start (suc f) each zero = each f (omega arith)
+  aged-all P start (suc f) each (suc d) = aged-all P start f (λ i h. each i (omega arith)) d
 
-  -- The standard's sent cells by age.
-  pub earlier-aged : (f d : ℕ) → earlierCells s F f d ≡ aged s F (suc f) d
-  unfolding earlierCells frameAt
-  earlier-aged f d = go (below-or f d)
-    where
-      go : (f < d) ⊎ (d ≤ f) → earlierCells s F f d ≡ aged s F (suc f) d
-      go (inl h) = rw (lt-leb d f h) (sym (aged-start (suc f) d h))
-      go (inr h) = rw (le-leb d f h) (sym (aged-run (suc f) d (omega arith) ∙ rw suc-sub-suc))
+-- Rows R carry frames G: each frame has the numbers of a slot, and number k of row f is of the frame sent that many rows before, where there is one.
+pub record Carries (s : Settings) (G R : ℕ → List ℤ) : Type 0 where
+  pub long : (f : ℕ) → length (G f) ≡ slotSize s
+  pub number : (f k : ℕ) → k < slotSize s → delay (depth s) k ≤ f
+      → getD (R f) k (pos 0) ≡ getD (G (f - delay (depth s) k)) (sentPlace (nMux s) k) (pos 0)
 
-  pub row-number : (f k : ℕ) → k < slotSize s
-      → getD (standardRow s F f) k (pos 0) ≡ getD (aged s F (suc f) (delay (depth s) k)) (sentPlace (nMux s) k) (pos 0)
-  unfolding standardRow
-  row-number f k h =
-      table-at (λ k. getD (earlierCells s F f (delay (depth s) k)) (sentPlace (nMux s) k) (pos 0)) 0 (slotSize s) k (pos 0) h
-      ∙ rw (zero-add, earlier-aged)
+-- The cells of frame f of a run's bits.
+unfoldable pub frameAt : Settings → List (List ℕ) → ℕ → List ℤ
+frameAt s F f = cellsOf (mscBlock s) (getD F f [])
+
+pub frame-long : (s : Settings) (F : List (List ℕ)) (f : ℕ) → length (frameAt s F f) ≡ slotSize s
+unfolding frameAt
+frame-long s F f = msc-long s (getD F f [])
+
+-- The standard's sent cells by age; so the standard's rows carry a run's frames.
+pub earlier-aged : (s : Settings) (F : List (List ℕ)) (f d : ℕ) → earlierCells s F f d ≡ aged s (frameAt s F) (suc f) d
+unfolding earlierCells frameAt
+earlier-aged s F f d =
+    elim (below-or f d) [
+      | inl h ↦ rw (lt-leb d f h) (sym (aged-start s (frameAt s F) (suc f) d h))
+      | inr h ↦ rw (le-leb d f h) (sym (aged-run s (frameAt s F) f d h))
+    ]
+
+pub standard-carries : (s : Settings) (F : List (List ℕ)) → Carries s (frameAt s F) (standardRow s F)
+unfolding standardRow earlierCells frameAt
+standard-carries s F =
+    record {
+      long = frame-long s F;
+      number = λ f k h d.
+          getD-table (pos 0) (λ k. getD (earlierCells s F f (delay (depth s) k)) (sentPlace (nMux s) k) (pos 0)) (slotSize s) k h
+          ∙ rw (le-leb (delay (depth s) k) f d);
+    }
 
 -- What memory keeps before frame f, if the number at sent place k of the slot written d + 1 frames before the position is of the frame of age a d k.
-pub record Keeps (s : Settings) (F : List (List ℕ)) (a : ℕ → ℕ → ℕ) (f : ℕ) (q : Progress) : Type 0 where
+pub record Keeps (s : Settings) (G : ℕ → List ℤ) (a : ℕ → ℕ → ℕ) (f : ℕ) (q : Progress) : Type 0 where
   pub long : length (q .memory) ≡ depth s * slotSize s
   pub low : q .position < depth s
   pub counted : q .count ≡ min f (depth s - 1)
   pub number : (d k : ℕ) → d < depth s → k < slotSize s
       → numberIn (slotSize s) (q .memory) (slotBefore (depth s) (q .position) (suc d)) (sentPlace (nMux s) k)
-      ≡ getD (aged s F f (a d k)) (sentPlace (nMux s) k) (pos 0)
+      ≡ getD (aged s G f (a d k)) (sentPlace (nMux s) k) (pos 0)
 
 -- A start frame in every slot.
 start-table : (s : Settings) → startMemory s ≡ joined (table (λ i. startFrame s) 0 (depth s))
@@ -121,16 +136,16 @@ start-number s slot r h b =
     sym (getD-slot (slotSize s) (depth s) (startMemory s) (start-memory s) slot r b) ∙ ap (λ l. getD l r (pos 0)) m
 
 -- After a reset no frame has been seen, and memory keeps start frames.
-pub keeps-start : (s : Settings) (c : Coding s) (F : List (List ℕ)) (a : ℕ → ℕ → ℕ) → Keeps s F a 0 (record { memory = startMemory s; position = 0; count = 0 })
+pub keeps-start : (s : Settings) (c : Coding s) (G : ℕ → List ℤ) (a : ℕ → ℕ → ℕ) → Keeps s G a 0 (record { memory = startMemory s; position = 0; count = 0 })
 unfolding slotSize
-keeps-start s c F a =
+keeps-start s c G a =
     record {
       long = start-memory s;
       low = depth-low s;
       counted = omega arith;
       number = λ d k h b.
           start-number s _ _ (slot-low (depth s) 0 (depth-low s) (suc d)) (sent-low (nMux s) (c .big) k)
-          ∙ ap (λ l. getD l (sentPlace (nMux s) k) (pos 0)) (sym (aged-start s F 0 (a d k) (omega arith)));
+          ∙ ap (λ l. getD l (sentPlace (nMux s) k) (pos 0)) (sym (aged-start s G 0 (a d k) (omega arith)));
     }
 
 -- A frame that memory may hold: each of its cells is (0, 0) or an MSC point.
@@ -150,66 +165,55 @@ pub twice : (s : Settings) (j : ℕ) → j < nMux s → 2 * j + 1 < slotSize s
 unfolding slotSize
 twice s j h = omega arith
 
-or-right : (a b : Bool) → b ≡ true → (a || b) ≡ true
-or-right true b h = refl
-or-right false b h = h
-
 pub good-point : (s : Settings) (re im : ℤ) → isPoint (pointsOf (mscBlock s)) re im ≡ true → goodCell s re im ≡ true
 unfolding goodCell
 good-point s re im h = or-right (isStart re im) (isPoint (pointsOf (mscBlock s)) re im) h
 
-pub bits-good : (s : Settings) (c : Coding s) (x : List ℕ) → BlockBits (mscBlock s) x → Good s (cellsOf (mscBlock s) x)
-bits-good s c x b =
-    record {
-      cell = λ j h. good-point s _ _ (point-at (pointsOf (mscBlock s)) (cellsOf (mscBlock s) x) (c .msc .points x b) j (rw (msc-long s x) (twice s j h)));
-    }
+pub frame-point : (s : Settings) → Coding s → (F : List (List ℕ)) (i : ℕ) → BlockBits (mscBlock s) (getD F i []) → (j : ℕ) → j < nMux s
+    → isPoint (pointsOf (mscBlock s)) (getD (frameAt s F i) (2 * j) (pos 0)) (getD (frameAt s F i) (2 * j + 1) (pos 0)) ≡ true
+unfolding frameAt
+frame-point s c F i b j h =
+    point-at (pointsOf (mscBlock s)) (cellsOf (mscBlock s) (getD F i [])) (c .msc .points _ b) j (rw (msc-long s (getD F i [])) (twice s j h))
 
-module _ (s : Settings) (c : Coding s) (F : List (List ℕ)) where
-  -- All frames of an age are good where those of the run are.
-  pub aged-good : (f : ℕ) → ((i : ℕ) → i < f → BlockBits (mscBlock s) (getD F i [])) → (d : ℕ) → Good s (aged s F f d)
-  unfolding frameAt
-  aged-good f ok d = go (below-or d f)
+pub frame-good : (s : Settings) → Coding s → (F : List (List ℕ)) (i : ℕ) → BlockBits (mscBlock s) (getD F i []) → Good s (frameAt s F i)
+frame-good s c F i b = record { cell = λ j h. good-point s _ _ (frame-point s c F i b j h) }
+
+-- Where all frames are good, memory is in order: each of its cells is (0, 0) or an MSC point.
+module _ (s : Settings) (c : Coding s) (G : ℕ → List ℤ) (a : ℕ → ℕ → ℕ) (same : (d i : ℕ) → a d (2 * i + 1) ≡ a d (2 * i)) where
+  pub keeps-cell : (f : ℕ) (q : Progress) → Keeps s G a f q → ((i : ℕ) → i < f → Good s (G i))
+      → (slot j : ℕ) → slot < depth s → j < nMux s
+      → goodCell s (numberIn (slotSize s) (q .memory) slot (2 * j)) (numberIn (slotSize s) (q .memory) slot (2 * j + 1)) ≡ true
+  keeps-cell f q K ok slot j h b =
+      let w = cell-sent (nMux s) (c .big) j b in
+      let i = w .index in
+      let v = slot-cover (depth s) (q .position) (K .low) slot h in
+      let r : sentPlace (nMux s) (2 * i) ≡ 2 * j = sent-real (nMux s) i ∙ ap (λ x. 2 * x) (w .value) in
+      let m : sentPlace (nMux s) (2 * i + 1) ≡ 2 * j + 1 = sent-imaginary (nMux s) i ∙ ap (λ x. 2 * x + 1) (w .value) in
+      let t = twice s i (w .low) in
+      let re = rw (v .2, r) at (K .number (v .0) (2 * i) (v .1) (omega arith)) in
+      let im = rw (v .2, m, same (v .0) i) at (K .number (v .0) (2 * i + 1) (v .1) t) in
+      rw (re, im) (aged-all s G (Good s) (start-good s) f ok (a (v .0) (2 * i)) .cell j b)
+
+  pub keeps-in-order : (f : ℕ) (q : Progress) → Keeps s G a f q → ((i : ℕ) → i < f → Good s (G i))
+      → every (table (memoryCell s (q .memory)) 0 (depth s * nMux s)) ≡ true
+  unfolding memoryCell goodCell numberIn slotSize
+  keeps-in-order f q K ok = every-table (memoryCell s (q .memory)) 0 (depth s * nMux s) (λ i x y. at i (rw zero-add at y))
     where
-      go : (d < f) ⊎ (f ≤ d) → Good s (aged s F f d)
-      go (inl h) = rw (aged-run s F f d h) (bits-good s c _ (ok (f - suc d) (omega arith)))
-      go (inr h) = rw (aged-start s F f d h) (start-good s)
+      at : (i : ℕ) → i < depth s * nMux s → memoryCell s (q .memory) i ≡ true
+      at i h =
+          let n = nMux s in
+          let p = c .big in
+          let e : i / n * n + i % n ≡ i = div-add-mod' i n in
+          let re : i / n * (2 * n) + 2 * (i % n) ≡ 2 * i = omega arith in
+          let im : i / n * (2 * n) + (2 * (i % n) + 1) ≡ 2 * i + 1 = omega arith in
+          rw (re, im) at (keeps-cell f q K ok (i / n) (i % n) (div-lt-iff-lt-mul (omega arith) .1 h) (mod-lt i (omega arith)))
 
-  -- So memory is in order: each of its cells is (0, 0) or an MSC point.
-  module _ (a : ℕ → ℕ → ℕ) (same : (d i : ℕ) → a d (2 * i + 1) ≡ a d (2 * i)) where
-    pub keeps-cell : (f : ℕ) (q : Progress) → Keeps s F a f q → ((i : ℕ) → i < f → BlockBits (mscBlock s) (getD F i []))
-        → (slot j : ℕ) → slot < depth s → j < nMux s
-        → goodCell s (numberIn (slotSize s) (q .memory) slot (2 * j)) (numberIn (slotSize s) (q .memory) slot (2 * j + 1)) ≡ true
-    keeps-cell f q K ok slot j h b =
-        let w = cell-sent (nMux s) (c .big) j b in
-        let i = w .index in
-        let v = slot-cover (depth s) (q .position) (K .low) slot h in
-        let r : sentPlace (nMux s) (2 * i) ≡ 2 * j = sent-real (nMux s) i ∙ ap (λ x. 2 * x) (w .value) in
-        let m : sentPlace (nMux s) (2 * i + 1) ≡ 2 * j + 1 = sent-imaginary (nMux s) i ∙ ap (λ x. 2 * x + 1) (w .value) in
-        let t = twice s i (w .low) in
-        let re = rw (v .2, r) at (K .number (v .0) (2 * i) (v .1) (omega arith)) in
-        let im = rw (v .2, m, same (v .0) i) at (K .number (v .0) (2 * i + 1) (v .1) t) in
-        rw (re, im) (aged-good f ok (a (v .0) (2 * i)) .cell j b)
-
-    pub keeps-in-order : (f : ℕ) (q : Progress) → Keeps s F a f q → ((i : ℕ) → i < f → BlockBits (mscBlock s) (getD F i []))
-        → every (table (memoryCell s (q .memory)) 0 (depth s * nMux s)) ≡ true
-    unfolding memoryCell goodCell numberIn slotSize
-    keeps-in-order f q K ok = every-table (memoryCell s (q .memory)) 0 (depth s * nMux s) (λ i x y. at i (rw zero-add at y))
-      where
-        at : (i : ℕ) → i < depth s * nMux s → memoryCell s (q .memory) i ≡ true
-        at i h =
-            let n = nMux s in
-            let p = c .big in
-            let e : i / n * n + i % n ≡ i = div-add-mod' i n in
-            let re : i / n * (2 * n) + 2 * (i % n) ≡ 2 * i = omega arith in
-            let im : i / n * (2 * n) + (2 * (i % n) + 1) ≡ 2 * i + 1 = omega arith in
-            rw (re, im) at (keeps-cell f q K ok (i / n) (i % n) (div-lt-iff-lt-mul (omega arith) .1 h) (mod-lt i (omega arith)))
-
-    -- Position, count and memory are those that 12 lets pass.
-    pub keeps-ordered : (f : ℕ) (q : Progress) → Keeps s F a f q → ((i : ℕ) → i < f → BlockBits (mscBlock s) (getD F i [])) → Ordered (stateOf s q) (q .memory)
-    unfolding stateOf
-    keeps-ordered f q K ok =
-        record {
-          position = K .low;
-          count = omega (arith, K .counted, depth-low s);
-          cells = keeps-in-order f q K ok;
-        }
+  -- Position, count and memory are those that 12 lets pass.
+  pub keeps-ordered : (f : ℕ) (q : Progress) → Keeps s G a f q → ((i : ℕ) → i < f → Good s (G i)) → Ordered (stateOf s q) (q .memory)
+  unfolding stateOf
+  keeps-ordered f q K ok =
+      record {
+        position = K .low;
+        count = omega (arith, K .counted, depth-low s);
+        cells = keeps-in-order f q K ok;
+      }

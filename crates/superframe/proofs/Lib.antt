@@ -7,12 +7,14 @@ pub mod History
 pub mod Coder
 pub mod Reader
 pub mod Calls
+pub mod SuperFrames
 pub mod CodeRuns
 pub mod ReadCalls
 pub mod ReadRuns
-pub mod Demand3
-pub mod Tests
+pub mod Runs
+pub mod SameBits
+pub mod WholeRuns
 pub mod Faults
 pub mod Sendable
-pub mod Demand2
+pub mod SingleCalls
 pub mod Accepted

@@ -1,25 +1,20 @@
 -- Tables, lists cut in parts and put together, and lists of tests. Assumes nothing.
-use Prim.Native.Nat.{ℕ, zero, suc, _+_, _*_, _≤_, _<_}
-use mathlib.Core.Path.{_≡_, refl, sym, ap, _∙_}
-use mathlib.Core.Bool.{Bool, true, false, _&&_}
-use mathlib.Core.List.{List, [], _∷_, _++_, append-assoc, append-nil}
+use Prim.Native.Nat.{ℕ, zero, suc, _+_, _-_, _*_, _≤_, _<_}
+use mathlib.Core.Path.{_≡_, sym, ap, _∙_}
+use mathlib.Core.List.{List, [], _++_, map, append-assoc, append-nil}
 use native.Mathlib.Nat.{add-zero, zero-add, add-suc, suc-add, mul-zero, mul-suc, zero-mul}
 use native.Mathlib.Omega.{arith}
-use lib.ListN.{length, getD, take, drop, length-append}
+use lib.ListN.{length, take, drop, length-append}
 use lib.Seq.{take-at, drop-append-add}
-use Rattle.lists.proofs.Bools.{and-left, and-right}
 use Rattle.lists.specs.Lists.{table}
-use Rattle.block.specs.Points.{every}
-use Rattle.lists.proofs.Tables.{table-ext, table-from}
+use Rattle.lists.proofs.Tables.{length-table, table-ext, table-add, table-from, map-table}
 use Rattle.superframe.specs.Call.{part, parts, joined}
 
 -- The first values of a table.
 pub take-of-table : {A : Type 0} (f : ℕ → A) (k n m : ℕ) → m ≤ n → take m (table f k n) ≡ table f k m
-unfolding table
-take-of-table f k zero zero h = refl
-take-of-table f k zero (suc m) h = absurd (omega arith)
-take-of-table f k (suc n) zero h = refl
-take-of-table f k (suc n) (suc m) h = ap (λ l. f k ∷ l) (take-of-table f (suc k) n m (omega arith))
+take-of-table f k n m h =
+    let e : n ≡ m + (n - m) = omega arith in
+    ap (λ x. take m (table f k x)) e ∙ ap (take m) (table-add f k m (n - m)) ∙ take-at (table f k m) _ m (length-table f k m)
 
 -- Parts of n put together, and cut again: the part, the rest after them, and the length.
 module _ {A : Type 0} (n : ℕ) (f : ℕ → List A) where
@@ -48,29 +43,6 @@ module _ {A : Type 0} (n : ℕ) (f : ℕ → List A) where
   length-joined k (suc m) long =
       rw (length-append, length-joined (suc k) m (λ i a b. long i (omega arith) (omega arith)), long k (omega arith) (omega arith)) (omega arith)
 
--- Two tests that hold.
-pub both : {a b : Bool} → a ≡ true → b ≡ true → (a && b) ≡ true
-both p q = rw (p, q)
-
--- Every test of a table holds if each does; and then each does.
-pub every-table : (f : ℕ → Bool) (k n : ℕ) → ((i : ℕ) → k ≤ i → i < k + n → f i ≡ true) → every (table f k n) ≡ true
-unfolding table every
-every-table f k zero h = refl
-every-table f k (suc n) h =
-    both (h k (omega arith) (omega arith)) (every-table f (suc k) n (λ i a b. h i (omega arith) (omega arith)))
-
-pub every-at : (l : List Bool) → every l ≡ true → (i : ℕ) → getD l i true ≡ true
-unfolding every
-every-at [] h i = refl
-every-at (b ∷ l) h zero = and-left b (every l) h
-every-at (b ∷ l) h (suc i) = every-at l (and-right b (every l) h) i
-
-pub every-append : (l r : List Bool) → every (l ++ r) ≡ (every l && every r)
-unfolding every
-every-append [] r = refl
-every-append (true ∷ l) r = every-append l r
-every-append (false ∷ l) r = refl
-
 -- Three parts put together, and cut again.
 module _ {A : Type 0} (n : ℕ) (f : ℕ → List A) (long : (i : ℕ) → i < 3 → length (f i) ≡ n) where
   ranged : (i : ℕ) → 0 ≤ i → i < 0 + 3 → length (f i) ≡ n
@@ -83,6 +55,9 @@ module _ {A : Type 0} (n : ℕ) (f : ℕ → List A) (long : (i : ℕ) → i < 3
   unfolding parts
   three-parts rest = table-ext _ _ 0 3 (λ i a b. three-part rest i (omega arith))
 
+  pub only-part : (i : ℕ) → i < 3 → part n (joined (table f 0 3)) i ≡ f i
+  only-part i h = rw append-nil at (three-part [] i h)
+
   pub only-parts : parts n (joined (table f 0 3)) ≡ table f 0 3
   only-parts = rw append-nil at (three-parts [])
 
@@ -91,6 +66,18 @@ module _ {A : Type 0} (n : ℕ) (f : ℕ → List A) (long : (i : ℕ) → i < 3
 
   pub three-length : length (joined (table f 0 3)) ≡ 3 * n
   three-length = length-joined n f 0 3 ranged
+
+-- A function of each of a buffer's three parts; what it gives put together, and cut again.
+pub map-parts : {A B : Type 0} (f : List A → B) (n : ℕ) (l : List A) → map f (parts n l) ≡ table (λ i. f (part n l i)) 0 3
+unfolding parts
+map-parts f n l = map-table f (part n l) 0 3
+
+module _ {A B : Type 0} (f : List A → List B) (n m : ℕ) (long : (l : List A) → length (f l) ≡ m) (l : List A) where
+  pub each-length : length (joined (map f (parts n l))) ≡ 3 * m
+  each-length = rw (map-parts f n l) (three-length m (λ i. f (part n l i)) (λ i h. long _))
+
+  pub each-part : (i : ℕ) → i < 3 → part m (joined (map f (parts n l))) i ≡ f (part n l i)
+  each-part i h = rw (map-parts f n l) (only-part m (λ i. f (part n l i)) (λ i h. long _) i h)
 
 -- Of fewer parts put together, the first of three that are cut.
 pub first-parts : {A : Type 0} (n : ℕ) (f : ℕ → List A) (a m : ℕ) → ((i : ℕ) → a ≤ i → i < a + m → length (f i) ≡ n) → m ≤ 3 → (rest : List A)

@@ -12,14 +12,14 @@ use lib.IntN.{ℤ, pos}
 use Rattle.superframe.specs.Memory.{numberIn, replaced, stored, slotOf}
 
 -- Numbers set from a place on: those of the list stand there, and all others are as they were.
-pub sets-out : {A : Type 0} (z : A) (vs l : List A) (i j : ℕ) → (j < i) ⊎ (i + length vs ≤ j) → getD (sets l i vs) j z ≡ getD l j z
+sets-out : {A : Type 0} (z : A) (vs l : List A) (i j : ℕ) → (j < i) ⊎ (i + length vs ≤ j) → getD (sets l i vs) j z ≡ getD l j z
 sets-out z [] l i j h = refl
 sets-out z (v ∷ vs) l i j (inl h) =
     sets-out z vs (set l i v) (suc i) j (inl (omega arith)) ∙ getD-set-other l i j v z (omega arith)
 sets-out z (v ∷ vs) l i j (inr h) =
     sets-out z vs (set l i v) (suc i) j (inr (omega arith)) ∙ getD-set-other l i j v z (omega arith)
 
-pub sets-in : {A : Type 0} (z : A) (vs l : List A) (i k : ℕ) → i + length vs ≤ length l → k < length vs → getD (sets l i vs) (i + k) z ≡ getD vs k z
+sets-in : {A : Type 0} (z : A) (vs l : List A) (i k : ℕ) → i + length vs ≤ length l → k < length vs → getD (sets l i vs) (i + k) z ≡ getD vs k z
 sets-in z [] l i k h b = absurd (omega arith)
 sets-in z (v ∷ vs) l i zero h b =
     rw add-zero (sets-out z vs (set l i v) (suc i) i (inl (omega arith)) ∙ getD-set-same l i v z (omega arith))
@@ -30,21 +30,13 @@ sets-in z (v ∷ vs) l i (suc k) h b =
 pub slot-before : (n a b : ℕ) → a < b → a * n + n ≤ b * n
 slot-before n a b h = let m : suc a * n ≤ b * n = mul-le-mul-right n h in omega arith
 
--- Two slots are one, or one of them comes before the other.
-data Apart (a b : ℕ) : Type 0 where
-  earlier : a < b → Apart a b
-  later : b < a → Apart a b
+-- A place of another slot stands before a slot or after it; so places in different slots differ.
+slot-apart : (n a b j : ℕ) → (a ≡ b → ⊥) → j < n → (a * n + j < b * n) ⊎ (b * n + n ≤ a * n + j)
+slot-apart n a b j h x =
+    elim (decLt a b) [ yes l ↦ inl (omega (arith, slot-before n a b l)) | no l ↦ inr (omega (arith, slot-before n b a (omega arith))) ]
 
-apart : (a b : ℕ) → (a ≡ b → ⊥) → Apart a b
-apart a b h = elim (decLt a b) [ yes l ↦ earlier l | no l ↦ later (omega arith) ]
-
--- Places in different slots differ.
-pub place-apart : (n a b j k : ℕ) → (a ≡ b → ⊥) → j < n → k < n → a * n + j ≡ b * n + k → ⊥
-place-apart n a b j k h x y e = go (apart a b h)
-  where
-    go : Apart a b → ⊥
-    go (earlier l) = omega (arith, slot-before n a b l)
-    go (later l) = omega (arith, slot-before n b a l)
+place-apart : (n a b j k : ℕ) → (a ≡ b → ⊥) → j < n → k < n → a * n + j ≡ b * n + k → ⊥
+place-apart n a b j k h x y e = elim (slot-apart n a b j h x) [ inl l ↦ omega arith | inr l ↦ omega arith ]
 
 -- What a frame, stored in a slot of memory, leaves there and in every other slot.
 module _ (n D : ℕ) (memory : List ℤ) (long : length memory ≡ D * n) where
@@ -64,11 +56,7 @@ module _ (n D : ℕ) (memory : List ℤ) (long : length memory ≡ D * n) where
   pub stored-other : (slot other : ℕ) (f : List ℤ) (k : ℕ) → (other ≡ slot → ⊥) → length f ≡ n → k < n
       → numberIn n (stored n memory slot f) other k ≡ numberIn n memory other k
   unfolding stored numberIn
-  stored-other slot other f k h e b = go (apart other slot h)
-    where
-      go : Apart other slot → getD (sets memory (slot * n) f) (other * n + k) (pos 0) ≡ getD memory (other * n + k) (pos 0)
-      go (earlier l) = sets-out (pos 0) f memory (slot * n) (other * n + k) (inl (omega (arith, slot-before n other slot l)))
-      go (later l) = sets-out (pos 0) f memory (slot * n) (other * n + k) (inr (omega (arith, slot-before n slot other l)))
+  stored-other slot other f k h e b = sets-out (pos 0) f memory (slot * n) (other * n + k) (rw e (slot-apart n other slot k h b))
 
   -- A number that is replaced is read again, and every other is as it was.
   pub replaced-same : (slot k : ℕ) (v : ℤ) → slot < D → k < n → numberIn n (replaced n memory slot k v) slot k ≡ v

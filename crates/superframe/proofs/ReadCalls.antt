@@ -1,12 +1,11 @@
 -- A Read call that is lent the standard's super frame m: it is accepted, and hands out the bits of its blocks and of the frames that it finishes. Assumes the coding's record.
 use Prim.Native.Nat.{ℕ, suc, _+_, _-_, _*_, _≤_, _<_}
-use mathlib.Core.Path.{_≡_, refl, sym, ap, ap₂, _∙_}
-use mathlib.Core.Logic.{_⊎_, inl, inr}
+use mathlib.Core.Path.{_≡_, refl, ap, _∙_}
+use mathlib.Core.Logic.{inl, inr}
 use mathlib.Core.Bool.{true}
 use mathlib.Core.List.{List, [], _∷_, _++_, map, append-nil}
 use native.Mathlib.Omega.{arith}
-use lib.ListN.{length, getD, take, length-append, length-take}
-use lib.IntN.{pos}
+use lib.ListN.{length, getD, take}
 use borrow.Author.Tests.{le-leb, lt-leb}
 use Rattle.lists.specs.Lists.{table}
 use Rattle.interleaver.specs.Interleaving.{place}
@@ -16,68 +15,57 @@ use Rattle.lists.proofs.Counting.{below-or}
 use Rattle.settings.specs.declared.Settings.{Settings}
 use Rattle.settings.specs.Refusal.{refusal}
 use Rattle.settings.specs.Cells.{facCells}
-use Rattle.settings.specs.Lengths.{nMux, nSfa}
+use Rattle.settings.specs.Lengths.{nMux}
 use Rattle.settings.specs.Sizes.{depth, frameBytes}
 use Rattle.block.specs.declared.Block.{Block}
 use Rattle.block.specs.Block.{cellsOf, pointsOf}
 use Rattle.lists.specs.Same.{sameNumbers}
-use Rattle.block.specs.Points.{isPoint, arePoints, every}
+use Rattle.lists.specs.Bools.{every}
+use Rattle.block.specs.Points.{arePoints}
 use Rattle.block.specs.Reading.{given, bytesRead}
-use Rattle.frame.specs.Fac.{facBlock}
-use Rattle.frame.specs.Sdc.{sdcBlock}
-use Rattle.frame.specs.Msc.{mscBlock}
+use Rattle.channels.specs.Fac.{facBlock}
+use Rattle.channels.specs.Sdc.{sdcBlock}
+use Rattle.channels.specs.Msc.{mscBlock}
 use Rattle.superframe.specs.Memory.{slotSize}
 use Rattle.superframe.specs.Interleaving.{Progress, delay, afterRows, finishedFrames, fillers}
 use Rattle.superframe.specs.Call.{part, parts, joined, memoryLength}
 use Rattle.superframe.specs.Code.{progressOf, stateOf}
 use Rattle.superframe.specs.Read.{ReadCall, answerNumber, answerFrames, rowsOf, fillersOf, rowCell, rowPoints, countAt, pointTests, givenTests, orderRefusal, handedOut, readAccepted, readOf}
-use Rattle.superframe.specs.Facts.{BytesFit, CellsFit}
+use Rattle.superframe.specs.Contracts.{BytesFit}
 use Rattle.superframe.specs.Runs.{Bits, SuperFrame, bitsOf, reads, handed}
 use Rattle.superframe.specs.Standard.{standardRow, superFrame}
 use Rattle.lists.proofs.Same.{sameNumbers-refl}
-use Rattle.superframe.proofs.Lists.{take-of-table, every-table, every-append, three-part, three-parts, only-parts, three-rest, three-length, first-parts}
+use Rattle.lists.proofs.Bools.{every-table, every-append}
+use Rattle.superframe.proofs.Lists.{take-of-table, first-parts}
 use Rattle.superframe.proofs.Places.{delay-cell, sent-real, sent-imaginary}
 use Rattle.block.specs.Fits.{BlockBits}
-use Rattle.superframe.proofs.Coding.{AllBits, all-at, Recovers, Coding, fac-long, sdc-long, msc-long, point-at}
-use Rattle.superframe.proofs.History.{frameAt, aged-run, row-number, Keeps, keeps-ordered, twice}
+use Rattle.superframe.proofs.Coding.{AllBits, all-at, Recovers, Coding}
+use Rattle.superframe.proofs.History.{frameAt, frame-point, frame-good, standard-carries, Keeps, keeps-ordered, twice}
+use Rattle.superframe.proofs.SuperFrames.{fac-parts, sdc-part, row-part, rows-are, fillers-are, cells-long}
 use Rattle.superframe.proofs.Reader.{sentAge, sentAge-cell, reader-after, reader-finished}
 use Rattle.superframe.proofs.Calls.{fits-read, read-accepts}
 use Rattle.superframe.proofs.CodeRuns.{Whole}
 
--- A row has the numbers of a slot, and the fillers are those of the super frame's cells that are left.
-row-long : (s : Settings) (F : List (List ℕ)) (f : ℕ) → length (standardRow s F f) ≡ slotSize s
-unfolding standardRow
-row-long s F f = length-table _ 0 (slotSize s)
-
-pub fillers-long : (s : Settings) → Coding s → length (fillers s) ≡ 2 * (nSfa s - 3 * nMux s)
-unfolding fillers
-fillers-long s c = rw length-take (omega (arith, c .few))
-
 -- The cells of a row that are not ignored are points.
 module _ (s : Settings) (c : Coding s) (F : List (List ℕ)) (f : ℕ) (ok : (i : ℕ) → i ≤ f → BlockBits (mscBlock s) (getD F i [])) where
-  frame-point : (i j : ℕ) → i ≤ f → j < nMux s → isPoint (pointsOf (mscBlock s)) (getD (frameAt s F i) (2 * j) (pos 0)) (getD (frameAt s F i) (2 * j + 1) (pos 0)) ≡ true
-  unfolding frameAt
-  frame-point i j h b =
-      point-at (pointsOf (mscBlock s)) (cellsOf (mscBlock s) (getD F i [])) (c .msc .points _ (ok i h)) j (rw (msc-long s (getD F i [])) (twice s j b))
-
   row-cell : (count i : ℕ) → count ≤ f → i < nMux s → rowCell s count (standardRow s F f) i ≡ true
   unfolding rowCell
-  row-cell count i h b = go (below-or count (delay (depth s) (2 * i)))
-    where
-      go : (count < delay (depth s) (2 * i)) ⊎ (delay (depth s) (2 * i) ≤ count) → rowCell s count (standardRow s F f) i ≡ true
-      go (inl x) = rw (lt-leb (delay (depth s) (2 * i)) count x)
-      go (inr x) =
-          let t = twice s i b in
-          rw (
-            le-leb (delay (depth s) (2 * i)) count x,
-            row-number s F f (2 * i) (omega arith),
-            row-number s F f (2 * i + 1) t,
-            delay-cell (depth s) i,
-            sent-real (nMux s) i,
-            sent-imaginary (nMux s) i,
-            aged-run s F (suc f) (delay (depth s) (2 * i)) (omega arith),
-          )
-          (frame-point _ (place 5 (nMux s) i) (omega arith) (place-low 5 (nMux s) (record { low = c .big; factor = refl }) i))
+  row-cell count i h b =
+      elim (below-or count (delay (depth s) (2 * i))) [
+        | inl x ↦ rw (lt-leb (delay (depth s) (2 * i)) count x)
+        | inr x ↦
+            let t = twice s i b in
+            let row = standard-carries s F .number f in
+            rw (
+              le-leb (delay (depth s) (2 * i)) count x,
+              row (2 * i) (omega arith) (omega arith),
+              row (2 * i + 1) t (rw (delay-cell (depth s) i) (omega arith)),
+              delay-cell (depth s) i,
+              sent-real (nMux s) i,
+              sent-imaginary (nMux s) i,
+            )
+            (frame-point s c F _ (ok _ (omega arith)) (place 5 (nMux s) i) (place-low 5 (nMux s) (record { low = c .big; factor = refl }) i))
+      ]
 
   row-points : (count : ℕ) → count ≤ f → rowPoints s count (standardRow s F f) ≡ true
   unfolding rowPoints
@@ -99,6 +87,14 @@ handing s B m rest =
       sdc = getD (B .sdc) m [] ∷ rest .sdc;
       frames = table (λ i. getD (B .frames) i []) (3 * m - (depth s - 1)) (3 * m + 3 - (depth s - 1) - (3 * m - (depth s - 1))) ++ rest .frames;
     }
+
+-- What it does in a list of calls: it is accepted, and memory then keeps the numbers before the next super frame.
+pub record Reading (s : Settings) (B : Bits) (m : ℕ) (q : Progress) (r : ReadCall) : Type 0 where
+  pub accepted : reads (stateOf s q) (q .memory) r ≡ true
+  pub state : readOf (stateOf s q) (q .memory) r .reading .state ≡ stateOf s (readOn s q B m)
+  pub memory : readOf (stateOf s q) (q .memory) r .memory ≡ readOn s q B m .memory
+  pub out : (rest : List ReadCall) → handed (stateOf s q) (q .memory) (r ∷ rest) ≡ handing s B m (handed (stateOf s (readOn s q B m)) (readOn s q B m .memory) rest)
+  pub keeps : Keeps s (frameAt s (B .frames)) (sentAge (depth s)) (3 * suc m) (readOn s q B m)
 
 -- Of three blocks' bits: the bytes read from their cells are put together, cut, and unpacked to the bits again.
 module _ (k : Block) (n : ℕ) (r : Recovers k n) (l : List (List ℕ)) (all : AllBits k l) where
@@ -137,69 +133,30 @@ module _ (s : Settings) (c : Coding s) (B : Bits) (w : Whole s B) (m : ℕ) (low
   frame-at : (i : ℕ) → i < 3 * m + 3 → BlockBits (mscBlock s) (getD (B .frames) i [])
   frame-at i h = all-at (w .frameBits) i (omega (arith, w .frames))
 
-  -- The parts of the super frame's cells.
-  fac-parts : parts (2 * facCells) (superFrame s B m .fac) ≡ table (λ i. cellsOf facBlock (getD (B .fac) (3 * m + i) [])) 0 3
-  unfolding superFrame
-  fac-parts = only-parts (2 * facCells) (λ i. cellsOf facBlock (getD (B .fac) (3 * m + i) [])) (λ i h. fac-long _)
-
-  sdc-part : superFrame s B m .sdc ≡ cellsOf (sdcBlock s) (getD (B .sdc) m [])
-  unfolding superFrame
-  sdc-part = refl
-
-  row-part : (i : ℕ) → i < 3 → part (slotSize s) (superFrame s B m .msc) i ≡ standardRow s (B .frames) (3 * m + i)
-  unfolding superFrame
-  row-part = three-part (slotSize s) (λ i. standardRow s (B .frames) (3 * m + i)) (λ i h. row-long s (B .frames) (3 * m + i)) (fillers s)
-
-  rows-are : rowsOf s (superFrame s B m .msc) ≡ table (standardRow s (B .frames)) (3 * m) 3
-  unfolding superFrame rowsOf
-  rows-are =
-      three-parts (slotSize s) (λ i. standardRow s (B .frames) (3 * m + i)) (λ i h. row-long s (B .frames) (3 * m + i)) (fillers s)
-      ∙ sym (table-from (standardRow s (B .frames)) (3 * m) 3)
-
-  fillers-are : fillersOf s (superFrame s B m .msc) ≡ fillers s
-  unfolding superFrame fillersOf
-  fillers-are = three-rest (slotSize s) (λ i. standardRow s (B .frames) (3 * m + i)) (λ i h. row-long s (B .frames) (3 * m + i)) (fillers s)
-
-  -- Their lengths.
-  pub cells-long : CellsFit s (superFrame s B m .fac) (superFrame s B m .sdc) (superFrame s B m .msc)
-  unfolding superFrame slotSize
-  cells-long =
-      record {
-        faclong = three-length (2 * facCells) (λ i. cellsOf facBlock (getD (B .fac) (3 * m + i) [])) (λ i h. fac-long _);
-        sdclong = sdc-long s _;
-        msclong =
-            length-append (joined (table (λ i. standardRow s (B .frames) (3 * m + i)) 0 3)) (fillers s)
-            ∙ ap₂ _+_ (three-length (slotSize s) (λ i. standardRow s (B .frames) (3 * m + i)) (λ i h. row-long s (B .frames) (3 * m + i))) (fillers-long s c)
-            ∙ sum (nMux s) (nSfa s) (c .room);
-      }
-    where
-      sum : (n a : ℕ) → 3 * n ≤ a → 3 * (2 * n) + 2 * (a - 3 * n) ≡ 2 * a
-      sum n a h = omega arith
-
   -- None of its cells that a reader at a count does not ignore, and none of its fillers, falls under 13.
   fac-points : every (map (arePoints (pointsOf facBlock)) (parts (2 * facCells) (superFrame s B m .fac))) ≡ true
   fac-points =
-      rw (fac-parts, map-table (arePoints (pointsOf facBlock)) (λ i. cellsOf facBlock (getD (B .fac) (3 * m + i) [])) 0 3)
+      rw (fac-parts s B m, map-table (arePoints (pointsOf facBlock)) (λ i. cellsOf facBlock (getD (B .fac) (3 * m + i) [])) 0 3)
       (every-table _ 0 3 (λ i x y. c .fac .points _ (fac-at i (omega arith))))
 
   sdc-points : arePoints (pointsOf (sdcBlock s)) (superFrame s B m .sdc) ≡ true
-  sdc-points = rw sdc-part (c .sdc .points _ sdc-at)
+  sdc-points = rw (sdc-part s B m) (c .sdc .points _ sdc-at)
 
   rows-points : (count : ℕ) → count ≤ 3 * m → every (table (λ i. rowPoints s (countAt s count i) (part (slotSize s) (superFrame s B m .msc) i)) 0 3) ≡ true
   unfolding countAt
   rows-points count low = every-table _ 0 3 (λ i x y. row i (omega arith))
     where
       row : (i : ℕ) → i < 3 → rowPoints s (countAt s count i) (part (slotSize s) (superFrame s B m .msc) i) ≡ true
-      row i h = rw (row-part i h) (row-points s c (B .frames) (3 * m + i) (λ j x. frame-at j (omega arith)) (countAt s count i) (omega arith))
+      row i h = rw (row-part s B m i h) (row-points s c (B .frames) (3 * m + i) (λ j x. frame-at j (omega arith)) (countAt s count i) (omega arith))
 
   fillers-points : sameNumbers (fillersOf s (superFrame s B m .msc)) (fillers s) ≡ true
-  fillers-points = rw fillers-are (sameNumbers-refl (fillers s))
+  fillers-points = rw (fillers-are s B m) (sameNumbers-refl (fillers s))
 
   pub sent-points : (count : ℕ) → count ≤ 3 * m → (fac sdc msc : List ℕ) → every (pointTests s count (feeding (superFrame s B m) fac sdc msc)) ≡ true
   unfolding pointTests feeding every
   sent-points count low fac sdc msc = rw (every-append, every-append, fac-points, sdc-points, rows-points count low, fillers-points)
 
-  module _ (allowed : refusal s ≡ 0) (q : Progress) (K : Keeps s (B .frames) (sentAge (depth s)) (3 * m) q) (fac sdc msc : List ℕ) (bytes : BytesFit s fac sdc msc) where
+  module _ (allowed : refusal s ≡ 0) (q : Progress) (K : Keeps s (frameAt s (B .frames)) (sentAge (depth s)) (3 * m) q) (fac sdc msc : List ℕ) (bytes : BytesFit s fac sdc msc) where
     -- No number up to 12 refuses the call.
     fed-order : orderRefusal (stateOf s q) (q .memory) (feeding (superFrame s B m) fac sdc msc) ≡ 0
     unfolding stateOf feeding memoryLength
@@ -207,9 +164,9 @@ module _ (s : Settings) (c : Coding s) (B : Bits) (w : Whole s B) (m : ℕ) (low
         fits-read (stateOf s q) (q .memory) (feeding (superFrame s B m) fac sdc msc)
         (record {
           fits = record { settings = allowed; long = K .long };
-          cells = cells-long;
+          cells = cells-long s B m c;
           bytes = bytes;
-          order = keeps-ordered s c (B .frames) (sentAge (depth s)) (sentAge-cell (depth s)) (3 * m) q K (λ i h. frame-at i (omega arith));
+          order = keeps-ordered s c (frameAt s (B .frames)) (sentAge (depth s)) (sentAge-cell (depth s)) (3 * m) q K (λ i h. frame-good s c (B .frames) i (frame-at i (omega arith)));
         })
 
     -- Nor does 13.
@@ -218,15 +175,15 @@ module _ (s : Settings) (c : Coding s) (B : Bits) (w : Whole s B) (m : ℕ) (low
 
     -- Nor does 14.
     fed-finished : finishedFrames s q (rowsOf s (superFrame s B m .msc)) ≡ table (frameAt s (B .frames)) (3 * m - (depth s - 1)) (3 * m + 3 - (depth s - 1) - (3 * m - (depth s - 1)))
-    fed-finished = ap (finishedFrames s q) rows-are ∙ reader-finished s c (B .frames) 3 (3 * m) q K
+    fed-finished = ap (finishedFrames s q) (rows-are s B m) ∙ reader-finished s c (frameAt s (B .frames)) (standardRow s (B .frames)) (standard-carries s (B .frames)) 3 (3 * m) q K
 
     fac-given : every (map (given facBlock) (parts (2 * facCells) (superFrame s B m .fac))) ≡ true
     fac-given =
-        rw (fac-parts, map-table (given facBlock) (λ i. cellsOf facBlock (getD (B .fac) (3 * m + i) [])) 0 3)
+        rw (fac-parts s B m, map-table (given facBlock) (λ i. cellsOf facBlock (getD (B .fac) (3 * m + i) [])) 0 3)
         (every-table _ 0 3 (λ i x y. c .fac .gives _ (fac-at i (omega arith))))
 
     sdc-given : given (sdcBlock s) (superFrame s B m .sdc) ≡ true
-    sdc-given = rw sdc-part (c .sdc .gives _ sdc-at)
+    sdc-given = rw (sdc-part s B m) (c .sdc .gives _ sdc-at)
 
     frames-given : every (map (given (mscBlock s)) (finishedFrames s q (rowsOf s (superFrame s B m .msc)))) ≡ true
     unfolding frameAt
@@ -239,7 +196,7 @@ module _ (s : Settings) (c : Coding s) (B : Bits) (w : Whole s B) (m : ℕ) (low
     fed-given = rw (every-append, fac-given, sdc-given, frames-given)
 
     -- So it is accepted.
-    pub fed-accepted : readOf (stateOf s q) (q .memory) (feeding (superFrame s B m) fac sdc msc) ≡ readAccepted (stateOf s q) (q .memory) (feeding (superFrame s B m) fac sdc msc)
+    fed-accepted : readOf (stateOf s q) (q .memory) (feeding (superFrame s B m) fac sdc msc) ≡ readAccepted (stateOf s q) (q .memory) (feeding (superFrame s B m) fac sdc msc)
     unfolding stateOf progressOf
     fed-accepted = read-accepts (stateOf s q) (q .memory) (feeding (superFrame s B m) fac sdc msc) fed-order fed-points fed-given
 
@@ -248,14 +205,14 @@ module _ (s : Settings) (c : Coding s) (B : Bits) (w : Whole s B) (m : ℕ) (low
     fac-out =
         let e = back-parts facBlock 9 (c .fac) (B .fac) (w .facBits) (3 * m) 3 (omega (arith, w .fac)) (omega arith) [] in
         rw (
-          fac-parts,
+          fac-parts s B m,
           map-table (bytesRead facBlock) (λ i. cellsOf facBlock (getD (B .fac) (3 * m + i) [])) 0 3,
           ← table-from (λ i. bytesRead facBlock (cellsOf facBlock (getD (B .fac) i []))) (3 * m) 3,
         )
         (rw (append-nil, take-three) at e)
 
     sdc-out : bitsOf (sdcBlock s) (bytesRead (sdcBlock s) (superFrame s B m .sdc)) ≡ getD (B .sdc) m []
-    sdc-out = rw sdc-part (c .sdc .back _ sdc-at)
+    sdc-out = rw (sdc-part s B m) (c .sdc .back _ sdc-at)
 
     frames-out : map (bitsOf (mscBlock s)) (take (length (finishedFrames s q (rowsOf s (superFrame s B m .msc)))) (parts (frameBytes s) (handedOut s (finishedFrames s q (rowsOf s (superFrame s B m .msc))))))
         ≡ table (λ i. getD (B .frames) i []) (3 * m - (depth s - 1)) (3 * m + 3 - (depth s - 1) - (3 * m - (depth s - 1)))
@@ -265,23 +222,14 @@ module _ (s : Settings) (c : Coding s) (B : Bits) (w : Whole s B) (m : ℕ) (low
         (back-parts (mscBlock s) (frameBytes s) (c .msc) (B .frames) (w .frameBits) (3 * m - (depth s - 1)) (3 * m + 3 - (depth s - 1) - (3 * m - (depth s - 1)))
         (let e = all-in (3 * m) (depth s - 1) in omega (arith, w .frames)) (at-most (3 * m) (depth s - 1)) _)
 
-    pub fed-reads : reads (stateOf s q) (q .memory) (feeding (superFrame s B m) fac sdc msc) ≡ true
-    unfolding reads readAccepted answerNumber
-    fed-reads = rw fed-accepted
-
-    pub fed-handed : (rest : List ReadCall) → handed (stateOf s q) (q .memory) (feeding (superFrame s B m) fac sdc msc ∷ rest) ≡ handing s B m (handed (stateOf s (readOn s q B m)) (readOn s q B m .memory) rest)
-    unfolding handed readAccepted answerFrames progressOf stateOf feeding handing readOn
-    fed-handed rest = rw (fed-reads, fed-accepted, fac-out, sdc-out, frames-out, rows-are)
-
-    pub fed-state : readOf (stateOf s q) (q .memory) (feeding (superFrame s B m) fac sdc msc) .reading .state ≡ stateOf s (readOn s q B m)
-    unfolding readAccepted progressOf stateOf feeding readOn
-    fed-state = rw (fed-accepted, rows-are)
-
-    pub fed-memory : readOf (stateOf s q) (q .memory) (feeding (superFrame s B m) fac sdc msc) .memory ≡ readOn s q B m .memory
-    unfolding readAccepted progressOf stateOf feeding readOn
-    fed-memory = rw (fed-accepted, rows-are)
-
-    -- Memory keeps the numbers of the next super frame's row.
-    pub fed-keeps : Keeps s (B .frames) (sentAge (depth s)) (3 * suc m) (readOn s q B m)
-    unfolding readOn
-    fed-keeps = let e : 3 * suc m ≡ 3 * m + 3 = omega arith in rw e (reader-after s c (B .frames) 3 (3 * m) q K)
+    pub fed-reading : Reading s B m q (feeding (superFrame s B m) fac sdc msc)
+    unfolding reads handed readAccepted answerNumber answerFrames progressOf stateOf feeding handing readOn
+    fed-reading =
+        let e : 3 * suc m ≡ 3 * m + 3 = omega arith in
+        record {
+          accepted = rw fed-accepted;
+          state = rw (fed-accepted, rows-are s B m);
+          memory = rw (fed-accepted, rows-are s B m);
+          out = λ rest. rw (fed-accepted, fac-out, sdc-out, frames-out, rows-are s B m);
+          keeps = rw e (reader-after s c (frameAt s (B .frames)) (standardRow s (B .frames)) (standard-carries s (B .frames)) 3 (3 * m) q K);
+        }

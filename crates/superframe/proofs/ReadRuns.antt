@@ -21,11 +21,11 @@ use Rattle.superframe.specs.Runs.{Bits, noBits, SuperFrame, reads, readC
 use Rattle.superframe.specs.Standard.{superFrame}
 use Rattle.lists.proofs.Tables.{table-add}
 use Rattle.superframe.proofs.Coding.{Coding}
-use Rattle.superframe.proofs.History.{Keeps}
+use Rattle.superframe.proofs.History.{frameAt, Keeps}
 use Rattle.superframe.proofs.Reader.{sentAge}
 use Rattle.superframe.proofs.Calls.{bytes-fit, fit-bytes}
 use Rattle.superframe.proofs.CodeRuns.{Whole}
-use Rattle.superframe.proofs.ReadCalls.{feeding, readOn, handing, fed-reads, fed-handed, fed-state, fed-memory, fed-keeps}
+use Rattle.superframe.proofs.ReadCalls.{feeding, readOn, handing, Reading, fed-reading}
 
 -- A call that is not accepted leaves state and memory, and hands out nothing.
 module _ (state : State) (memory : List ℤ) (c : ReadCall) (h : reads state memory c ≡ false) where
@@ -36,26 +36,6 @@ module _ (state : State) (memory : List ℤ) (c : ReadCall) (h : reads state mem
       go : (t : Bool) → eqb (answerNumber (answerOf state memory c)) 0 ≡ t → cond t (readAccepted state memory c) (readRefused state memory c) ≡ readRefused state memory c
       go false e = refl
       go true e = absurd (let z : _≡_ {A = Bool} true false = rw e at h in let y : _≡_ {A = ℕ} 0 1 = cc in omega arith)
-
-  pub kept-state : readOf state memory c .reading .state ≡ state
-  unfolding readRefused
-  kept-state = rw kept
-
-  pub kept-memory : readOf state memory c .memory ≡ memory
-  unfolding readRefused
-  kept-memory = rw kept
-
-  pub kept-unread : (cells : List SuperFrame) → unreadAfter cells state memory c ≡ cells
-  unfolding unreadAfter
-  kept-unread cells = rw h
-
-  pub kept-handed : (rest : List ReadCall) → handed state memory (c ∷ rest) ≡ handed state memory rest
-  unfolding handed
-  kept-handed rest = rw (h, kept-state, kept-memory)
-
-  pub kept-count : (rest : List ReadCall) → readCount state memory (c ∷ rest) ≡ readCount state memory rest
-  unfolding readCount
-  kept-count rest = rw (h, kept-state, kept-memory)
 
 -- The bits of j super frames from m on that a reader hands out: the frames are those from D - 1 before.
 unfoldable pub between : Settings → Bits → ℕ → ℕ → Bits
@@ -124,27 +104,13 @@ feeds-first s B m (suc n) r F =
       },
     )
 
--- What such a call does in a list of calls.
-pub record Reading (s : Settings) (B : Bits) (m : ℕ) (q : Progress) (r : ReadCall) : Type 0 where
-  pub accepted : reads (stateOf s q) (q .memory) r ≡ true
-  pub state : readOf (stateOf s q) (q .memory) r .reading .state ≡ stateOf s (readOn s q B m)
-  pub memory : readOf (stateOf s q) (q .memory) r .memory ≡ readOn s q B m .memory
-  pub out : (rest : List ReadCall) → handed (stateOf s q) (q .memory) (r ∷ rest) ≡ handing s B m (handed (stateOf s (readOn s q B m)) (readOn s q B m .memory) rest)
-
 module _ (s : Settings) (c : Coding s) (allowed : refusal s ≡ 0) (B : Bits) (w : Whole s B) where
-  pub feeds-reading : (m n : ℕ) (q : Progress) (r : ReadCall) → m + n ≤ length (B .sdc) → Keeps s (B .frames) (sentAge (depth s)) (3 * m) q
+  pub feeds-reading : (m n : ℕ) (q : Progress) (r : ReadCall) → m + n ≤ length (B .sdc) → Keeps s (frameAt s (B .frames)) (sentAge (depth s)) (3 * m) q
       → Feeds s (table (superFrame s B) m n) r → Reading s B m q r
   feeds-reading m n q r h K F =
       let f = feeds-first s B m n r F in
-      let low : m < length (B .sdc) = omega (arith, f .0) in
-      let b = bytes-fit s (r .fac) (r .sdc) (r .msc) (F .room) in
       subst (Reading s B m q) (sym (f .1))
-      (record {
-        accepted = fed-reads s c B w m low allowed q K (r .fac) (r .sdc) (r .msc) b;
-        state = fed-state s c B w m low allowed q K (r .fac) (r .sdc) (r .msc) b;
-        memory = fed-memory s c B w m low allowed q K (r .fac) (r .sdc) (r .msc) b;
-        out = fed-handed s c B w m low allowed q K (r .fac) (r .sdc) (r .msc) b;
-      })
+      (fed-reading s c B w m (omega (arith, f .0)) allowed q K (r .fac) (r .sdc) (r .msc) (bytes-fit s (r .fac) (r .sdc) (r .msc) (F .room)))
 
   -- A list of calls that is fed from super frame m on: those that feed are accepted, no more than there are super frames, and what is handed out is what was brought.
   abbrev pub Back : ℕ → ℕ → Progress → List ReadCall → Type 0
@@ -178,37 +144,28 @@ module _ (s : Settings) (c : Coding s) (allowed : refusal s ≡ 0) (B : Bits) (w
   back-refuses : (m n : ℕ) (q : Progress) (r : ReadCall) (rest : List ReadCall) → reads (stateOf s q) (q .memory) r ≡ false
       → (Feeds (stateOf s q .settings) (table (superFrame s B) m n) r → reads (stateOf s q) (q .memory) r ≡ true)
       → Back m n q rest → Back m n q (r ∷ rest)
+  unfolding unreadAfter readCount handed readRefused
   back-refuses m n q r rest h first (a, few, out) =
-      let st = stateOf s q in
-      let me = q .memory in (
-        (first, subst₃ (λ x y z. Accepts x y z rest) (sym (kept-unread st me r h (table (superFrame s B) m n))) (sym (kept-state st me r h)) (sym (kept-memory st me r h)) a),
-        rw (kept-count st me r h rest) few,
-        rw (kept-handed st me r h rest, kept-count st me r h rest) out,
-      )
+      let k = kept (stateOf s q) (q .memory) r h in ((first, rw (h, k) a), rw (h, k) few, rw (h, k) out)
 
   -- A call that feeds or is refused, before a list of which that is known from each super frame on.
-  back-call : (m n : ℕ) (q : Progress) (r : ReadCall) (rest : List ReadCall) → m + n ≡ length (B .sdc) → Keeps s (B .frames) (sentAge (depth s)) (3 * m) q
-      → ((m n : ℕ) (q : Progress) → m + n ≡ length (B .sdc) → Keeps s (B .frames) (sentAge (depth s)) (3 * m) q
+  back-call : (m n : ℕ) (q : Progress) (r : ReadCall) (rest : List ReadCall) → m + n ≡ length (B .sdc) → Keeps s (frameAt s (B .frames)) (sentAge (depth s)) (3 * m) q
+      → ((m n : ℕ) (q : Progress) → m + n ≡ length (B .sdc) → Keeps s (frameAt s (B .frames)) (sentAge (depth s)) (3 * m) q
       → Fed (table (superFrame s B) m n) (stateOf s q) (q .memory) rest → Back m n q rest)
       → Feeds (stateOf s q .settings) (table (superFrame s B) m n) r ⊎ (reads (stateOf s q) (q .memory) r ≡ false)
       → Fed (unreadAfter (table (superFrame s B) m n) (stateOf s q) (q .memory) r) (readOf (stateOf s q) (q .memory) r .reading .state) (readOf (stateOf s q) (q .memory) r .memory) rest
       → Back m n q (r ∷ rest)
-  unfolding stateOf
+  unfolding stateOf unreadAfter readRefused
   back-call m n q r rest h K ih (inr refused) F =
-      let st = stateOf s q in
-      let me = q .memory in
       back-refuses m n q r rest refused (λ f. feeds-reading m n q r (omega arith) K f .accepted)
-      (ih m n q h K (subst₃ (λ x y z. Fed x y z rest) (kept-unread st me r refused (table (superFrame s B) m n)) (kept-state st me r refused) (kept-memory st me r refused) F))
+      (ih m n q h K (rw (refused, kept (stateOf s q) (q .memory) r refused) at F))
   back-call m zero q r rest h K ih (inl f) F = absurd (let z = feeds-first s B m 0 r f .0 in omega arith)
   back-call m (suc n) q r rest h K ih (inl f) F =
       let R = feeds-reading m (suc n) q r (omega arith) K f in
-      let z = feeds-first s B m (suc n) r f in
-      let low : m < length (B .sdc) = omega arith in
       back-reads m n q r rest R (λ g. R .accepted)
-      (ih (suc m) n (readOn s q B m) (omega arith) (fed-keeps s c B w m low allowed q K (r .fac) (r .sdc) (r .msc) (bytes-fit s (r .fac) (r .sdc) (r .msc) (f .room)))
-      (subst₃ (λ x y z. Fed x y z rest) (taken-one m n q r (R .accepted)) (R .state) (R .memory) F))
+      (ih (suc m) n (readOn s q B m) (omega arith) (R .keeps) (subst₃ (λ x y z. Fed x y z rest) (taken-one m n q r (R .accepted)) (R .state) (R .memory) F))
 
-  pub reads-back : (calls : List ReadCall) (m n : ℕ) (q : Progress) → m + n ≡ length (B .sdc) → Keeps s (B .frames) (sentAge (depth s)) (3 * m) q
+  pub reads-back : (calls : List ReadCall) (m n : ℕ) (q : Progress) → m + n ≡ length (B .sdc) → Keeps s (frameAt s (B .frames)) (sentAge (depth s)) (3 * m) q
       → Fed (table (superFrame s B) m n) (stateOf s q) (q .memory) calls → Back m n q calls
   reads-back [] m n q h K F = back-none m n q
   reads-back (r ∷ rest) m n q h K (one, F) = back-call m n q r rest h K (reads-back rest) one F
@@ -232,17 +189,15 @@ module _ (s : Settings) (c : Coding s) (allowed : refusal s ≡ 0) (B : Bits) (w
         room = fit-bytes s _ _ _ (record { faclong = length-replicate {A = ℕ} 27 0; sdclong = length-replicate {A = ℕ} (sdcBytes s) 0; msclong = length-replicate {A = ℕ} (3 * frameBytes s) 0 });
       }
 
-  pub feeds-all : (n m : ℕ) (q : Progress) → m + n ≡ length (B .sdc) → Keeps s (B .frames) (sentAge (depth s)) (3 * m) q
+  pub feeds-all : (n m : ℕ) (q : Progress) → m + n ≡ length (B .sdc) → Keeps s (frameAt s (B .frames)) (sentAge (depth s)) (3 * m) q
       → Fed (table (superFrame s B) m n) (stateOf s q) (q .memory) (feedAll s (table (superFrame s B) m n))
       × (readCount (stateOf s q) (q .memory) (feedAll s (table (superFrame s B) m n)) ≡ n)
   unfolding feedAll table readCount stateOf
   feeds-all zero m q h K = (tt, refl)
   feeds-all (suc n) m q h K =
       let f = feeds-next m n in
-      let low : m < length (B .sdc) = omega arith in
       let R = feeds-reading s c allowed B w m (suc n) q _ (omega arith) K f in
-      let keep = fed-keeps s c B w m low allowed q K _ _ _ (bytes-fit s _ _ _ (f .room)) in
-      let ih = feeds-all n (suc m) (readOn s q B m) (omega arith) keep in (
+      let ih = feeds-all n (suc m) (readOn s q B m) (omega arith) (R .keeps) in (
         (inl f, subst₃ (λ x y z. Fed x y z (feedAll s (table (superFrame s B) (suc m) n))) (sym (taken-one s c allowed B w m n q _ (R .accepted))) (sym (R .state)) (sym (R .memory)) (ih .0)),
         rw (R .accepted, R .state, R .memory) (ap suc (ih .1)),
       )

@@ -3,7 +3,7 @@ use Prim.Native.Nat.{ℕ, zero, suc, _+_, _-_, _*_, _≤_, _<_}
 use mathlib.Core.Path.{_≡_, refl, sym, ap, _∙_}
 use mathlib.Core.Logic.{_⊎_, inl, inr}
 use mathlib.Core.Bool.{cond}
-use mathlib.Core.List.{List, [], _∷_, _++_}
+use mathlib.Core.List.{List, [], _∷_}
 use native.Mathlib.Nat.{add-zero, add-suc, suc-add}
 use native.Mathlib.Decide.{ℕ-discrete}
 use native.Mathlib.Omega.{arith}
@@ -19,12 +19,11 @@ use Rattle.settings.specs.Lengths.{nMux}
 use Rattle.settings.specs.Sizes.{depth}
 use Rattle.superframe.specs.Memory.{slotSize, numberIn, replaced, slotOf}
 use Rattle.superframe.specs.Interleaving.{Progress, sentPlace, delay, slotBefore, advanced, takenFrom, taken, finishedBy, afterRows, finishedFrames}
-use Rattle.superframe.specs.Standard.{standardRow}
 use Rattle.superframe.proofs.Memory.{length-replaced, replaced-same, replaced-other, length-slot, getD-slot}
 use Rattle.superframe.proofs.Slots.{slot-low, slot-zero, slot-once, slot-next, slot-last, next-low}
 use Rattle.superframe.proofs.Places.{delay-low, delay-cell, sent-low, sent-once, sent-cover}
 use Rattle.superframe.proofs.Coding.{Coding, depth-low}
-use Rattle.superframe.proofs.History.{frameAt, aged, aged-suc, aged-run, aged-start, aged-long, row-number, Keeps}
+use Rattle.superframe.proofs.History.{aged, aged-suc, aged-run, aged-start, aged-all, start-long, Carries, Keeps}
 
 module _ (s : Settings) (c : Coding s) (position count : ℕ) (row : List ℤ) where
   place-low : (k : ℕ) → sentPlace (nMux s) k < slotSize s
@@ -48,23 +47,23 @@ module _ (s : Settings) (c : Coding s) (position count : ℕ) (row : List ℤ) w
   step-ignored k memory h = rw (lt-leb (delay (depth s) k) count h)
 
   length-step : (k : ℕ) (memory : List ℤ) → length memory ≡ depth s * slotSize s → length (step k memory) ≡ depth s * slotSize s
-  length-step k memory long = go (below-or count (delay (depth s) k))
-    where
-      go : (count < delay (depth s) k) ⊎ (delay (depth s) k ≤ count) → length (step k memory) ≡ depth s * slotSize s
-      go (inl h) = ap length (step-ignored k memory h) ∙ long
-      go (inr h) = ap length (step-wanted k memory h) ∙ length-replaced (slotSize s) (depth s) memory long _ _ _
+  length-step k memory long =
+      elim (below-or count (delay (depth s) k)) [
+        | inl h ↦ ap length (step-ignored k memory h) ∙ long
+        | inr h ↦ ap length (step-wanted k memory h) ∙ length-replaced (slotSize s) (depth s) memory long _ _ _
+      ]
 
   -- A number of the row leaves every other place as it was.
   step-other : (k : ℕ) (memory : List ℤ) → length memory ≡ depth s * slotSize s → (slot r : ℕ) → r < slotSize s
       → (slot ≡ slotBefore (depth s) position (delay (depth s) k) → r ≡ sentPlace (nMux s) k → count < delay (depth s) k)
       → numberIn (slotSize s) (step k memory) slot r ≡ numberIn (slotSize s) memory slot r
-  step-other k memory long slot r b h = go (below-or count (delay (depth s) k))
-    where
-      go : (count < delay (depth s) k) ⊎ (delay (depth s) k ≤ count) → numberIn (slotSize s) (step k memory) slot r ≡ numberIn (slotSize s) memory slot r
-      go (inl x) = ap (λ m. numberIn (slotSize s) m slot r) (step-ignored k memory x)
-      go (inr x) =
-          ap (λ m. numberIn (slotSize s) m slot r) (step-wanted k memory x)
-          ∙ replaced-other (slotSize s) (depth s) memory long _ slot _ r _ (place-low k) b (λ e g. let y = h e g in omega arith)
+  step-other k memory long slot r b h =
+      elim (below-or count (delay (depth s) k)) [
+        | inl x ↦ ap (λ m. numberIn (slotSize s) m slot r) (step-ignored k memory x)
+        | inr x ↦
+            ap (λ m. numberIn (slotSize s) m slot r) (step-wanted k memory x)
+            ∙ replaced-other (slotSize s) (depth s) memory long _ slot _ r _ (place-low k) b (λ e g. let y = h e g in omega arith)
+      ]
 
   length-taken : (n k : ℕ) (memory : List ℤ) → length memory ≡ depth s * slotSize s → length (takenFrom s position count row k n memory) ≡ depth s * slotSize s
   unfolding takenFrom step
@@ -100,13 +99,11 @@ module _ (s : Settings) (c : Coding s) (position count : ℕ) (row : List ℤ) w
       → numberIn (slotSize s) (takenFrom s position count row k n memory) (slotBefore (depth s) position (delay (depth s) j)) (sentPlace (nMux s) j) ≡ getD row j (pos 0)
   unfolding takenFrom step
   hit zero k memory long low j x y z w = absurd (omega arith)
-  hit (suc n) k memory long low j x y z w = go (ℕ-discrete j k) (hit n (suc k) (step k memory) (length-step k memory long) low j)
-    where
-      go : Dec (j ≡ k) → (suc k ≤ j → j < suc k + n → suc k + n ≤ slotSize s → delay (depth s) j ≤ count
-          → numberIn (slotSize s) (takenFrom s position count row (suc k) n (step k memory)) (slotBefore (depth s) position (delay (depth s) j)) (sentPlace (nMux s) j) ≡ getD row j (pos 0))
-          → numberIn (slotSize s) (takenFrom s position count row (suc k) n (step k memory)) (slotBefore (depth s) position (delay (depth s) j)) (sentPlace (nMux s) j) ≡ getD row j (pos 0)
-      go (yes e) ih = rw e (landed n k memory long low z (rw e at w))
-      go (no e) ih = ih (omega arith) (omega arith) (omega arith) w
+  hit (suc n) k memory long low j x y z w =
+      elim (ℕ-discrete j k) [
+        | yes e ↦ rw e (landed n k memory long low z (rw e at w))
+        | no e ↦ hit n (suc k) (step k memory) (length-step k memory long) low j (omega arith) (omega arith) (omega arith) w
+      ]
 
 -- In the reader's memory the number at sent place k of the slot written d + 1 frames before the position is of that frame if it has been sent, else of the frame that stood there before.
 unfoldable pub sentAge : ℕ → ℕ → ℕ → ℕ
@@ -125,44 +122,44 @@ unfolding sentAge
 sent-out D d k h = rw (lt-leb (delay D k) d h)
 
 -- Every number of a slot is sent.
-covers : (s : Settings) → Coding s → (r : ℕ) → r < slotSize s → Among (sentPlace (nMux s)) (slotSize s) r
+pub covers : (s : Settings) → Coding s → (r : ℕ) → r < slotSize s → Among (sentPlace (nMux s)) (slotSize s) r
 unfolding slotSize
 covers s c r h = sent-cover (nMux s) (c .big) r h
 
-module _ (s : Settings) (F : List (List ℕ)) (f : ℕ) where
+module _ (s : Settings) (G : ℕ → List ℤ) (f : ℕ) where
   -- One frame later, a number that the frame's row does not bring is of the same frame as before.
   older : (d k : ℕ) → (suc d ≡ delay (depth s) k → f < suc d)
-      → aged s F f (sentAge (depth s) d k) ≡ aged s F (suc f) (sentAge (depth s) (suc d) k)
+      → aged s G f (sentAge (depth s) d k) ≡ aged s G (suc f) (sentAge (depth s) (suc d) k)
   older d k w = go (below-or d (delay (depth s) k)) (below-or (suc d) (delay (depth s) k))
     where
       go : (d < delay (depth s) k) ⊎ (delay (depth s) k ≤ d) → (suc d < delay (depth s) k) ⊎ (delay (depth s) k ≤ suc d)
-          → aged s F f (sentAge (depth s) d k) ≡ aged s F (suc f) (sentAge (depth s) (suc d) k)
-      go (inr x) y = rw (sent-in (depth s) d k x, sent-in (depth s) (suc d) k (omega arith)) (sym (aged-suc s F f d))
-      go (inl x) (inl y) = rw (sent-out (depth s) d k x, sent-out (depth s) (suc d) k y, suc-add) (sym (aged-suc s F f (d + depth s)))
+          → aged s G f (sentAge (depth s) d k) ≡ aged s G (suc f) (sentAge (depth s) (suc d) k)
+      go (inr x) y = rw (sent-in (depth s) d k x, sent-in (depth s) (suc d) k (omega arith)) (sym (aged-suc s G f d))
+      go (inl x) (inl y) = rw (sent-out (depth s) d k x, sent-out (depth s) (suc d) k y, suc-add) (sym (aged-suc s G f (d + depth s)))
       go (inl x) (inr y) =
           let l = w (omega arith) in
           rw (sent-out (depth s) d k x, sent-in (depth s) (suc d) k y)
-          (aged-start s F f (d + depth s) (omega arith) ∙ sym (aged-start s F (suc f) (suc d) (omega arith)))
+          (aged-start s G f (d + depth s) (omega arith) ∙ sym (aged-start s G (suc f) (suc d) (omega arith)))
 
   oldest : (k : ℕ) → 0 < delay (depth s) k
-      → aged s F f (sentAge (depth s) (depth s - 1) k) ≡ aged s F (suc f) (sentAge (depth s) 0 k)
+      → aged s G f (sentAge (depth s) (depth s - 1) k) ≡ aged s G (suc f) (sentAge (depth s) 0 k)
   oldest k h =
       let l = delay-low (depth s) k (depth-low s) in
       let e : 0 + depth s ≡ suc (depth s - 1) = omega arith in
-      rw (sent-in (depth s) (depth s - 1) k (omega arith), sent-out (depth s) 0 k h, e) (sym (aged-suc s F f (depth s - 1)))
+      rw (sent-in (depth s) (depth s - 1) k (omega arith), sent-out (depth s) 0 k h, e) (sym (aged-suc s G f (depth s - 1)))
 
-module _ (s : Settings) (c : Coding s) (F : List (List ℕ)) (f : ℕ) (q : Progress) (K : Keeps s F (sentAge (depth s)) f q) where
+module _ (s : Settings) (c : Coding s) (G R : ℕ → List ℤ) (carry : Carries s G R) (f : ℕ) (q : Progress) (K : Keeps s G (sentAge (depth s)) f q) where
   -- Before the row memory has, at a place that the row does not bring, what it is to have after it.
   before : (e k : ℕ) → e < depth s → k < slotSize s → (e ≡ delay (depth s) k → f < e)
       → numberIn (slotSize s) (q .memory) (slotBefore (depth s) (q .position) e) (sentPlace (nMux s) k)
-      ≡ getD (aged s F (suc f) (sentAge (depth s) e k)) (sentPlace (nMux s) k) (pos 0)
-  before (suc d) k h b w = K .number d k (omega arith) b ∙ ap (λ l. getD l (sentPlace (nMux s) k) (pos 0)) (older s F f d k w)
+      ≡ getD (aged s G (suc f) (sentAge (depth s) e k)) (sentPlace (nMux s) k) (pos 0)
+  before (suc d) k h b w = K .number d k (omega arith) b ∙ ap (λ l. getD l (sentPlace (nMux s) k) (pos 0)) (older s G f d k w)
   before zero k h b w =
       let e : suc (depth s - 1) ≡ depth s = omega arith in
       let slot : slotBefore (depth s) (q .position) (suc (depth s - 1)) ≡ slotBefore (depth s) (q .position) 0 =
       rw e (slot-last (depth s) (q .position) (K .low) ∙ sym (slot-zero (depth s) (q .position) (K .low))) in
       rw (← slot) (K .number (depth s - 1) k (omega arith) b)
-      ∙ ap (λ l. getD l (sentPlace (nMux s) k) (pos 0)) (oldest s F f k (later (ℕ-discrete 0 (delay (depth s) k))))
+      ∙ ap (λ l. getD l (sentPlace (nMux s) k) (pos 0)) (oldest s G f k (later (ℕ-discrete 0 (delay (depth s) k))))
     where
       later : Dec (0 ≡ delay (depth s) k) → 0 < delay (depth s) k
       later (yes g) = absurd (let l = w g in omega arith)
@@ -174,16 +171,28 @@ module _ (s : Settings) (c : Coding s) (F : List (List ℕ)) (f : ℕ) (q : Prog
 
   -- After the row of frame f every number is of the frame that it is to be of.
   after-row : (e k : ℕ) → e < depth s → k < slotSize s
-      → numberIn (slotSize s) (taken s q (standardRow s F f)) (slotBefore (depth s) (q .position) e) (sentPlace (nMux s) k)
-      ≡ getD (aged s F (suc f) (sentAge (depth s) e k)) (sentPlace (nMux s) k) (pos 0)
+      → numberIn (slotSize s) (taken s q (R f)) (slotBefore (depth s) (q .position) e) (sentPlace (nMux s) k)
+      ≡ getD (aged s G (suc f) (sentAge (depth s) e k)) (sentPlace (nMux s) k) (pos 0)
   unfolding taken
-  after-row e k h b = go (ℕ-discrete e (delay (depth s) k)) (below-or f e)
+  after-row e k h b =
+      elim (ℕ-discrete e (delay (depth s) k)) [
+        | no g ↦ kept (λ y. absurd (g y))
+        | yes g ↦
+            elim (below-or f e) [
+              | inl x ↦ kept (λ y. x)
+              | inr x ↦
+                  rw (sent-in (depth s) e k (omega arith), g)
+                  (hit s c (q .position) (q .count) (R f) (slotSize s) 0 (q .memory) (K .long) (K .low) k (omega arith) (omega arith) (omega arith) (omega (arith, K .counted))
+                  ∙ carry .number f k b (omega arith)
+                  ∙ ap (λ l. getD l (sentPlace (nMux s) k) (pos 0)) (sym (aged-run s G f (delay (depth s) k) (omega arith))))
+            ]
+      ]
     where
       kept : (e ≡ delay (depth s) k → f < e)
-          → numberIn (slotSize s) (taken s q (standardRow s F f)) (slotBefore (depth s) (q .position) e) (sentPlace (nMux s) k)
-          ≡ getD (aged s F (suc f) (sentAge (depth s) e k)) (sentPlace (nMux s) k) (pos 0)
+          → numberIn (slotSize s) (taken s q (R f)) (slotBefore (depth s) (q .position) e) (sentPlace (nMux s) k)
+          ≡ getD (aged s G (suc f) (sentAge (depth s) e k)) (sentPlace (nMux s) k) (pos 0)
       kept w =
-          miss s c (q .position) (q .count) (standardRow s F f) (slotSize s) 0 (q .memory) (K .long) _ (sentPlace (nMux s) k) (place-low s c (q .position) (q .count) (standardRow s F f) k)
+          miss s c (q .position) (q .count) (R f) (slotSize s) 0 (q .memory) (K .long) _ (sentPlace (nMux s) k) (place-low s c (q .position) (q .count) (R f) k)
           (λ j x y t g.
           let i : k ≡ j = same-place k j b (omega arith) g in
           let o = slot-once (depth s) (q .position) (K .low) e (delay (depth s) j) h (delay-low (depth s) j (depth-low s)) t in
@@ -191,43 +200,33 @@ module _ (s : Settings) (c : Coding s) (F : List (List ℕ)) (f : ℕ) (q : Prog
           omega (arith, K .counted))
           ∙ before e k h b w
 
-      go : Dec (e ≡ delay (depth s) k) → (f < e) ⊎ (e ≤ f)
-          → numberIn (slotSize s) (taken s q (standardRow s F f)) (slotBefore (depth s) (q .position) e) (sentPlace (nMux s) k)
-          ≡ getD (aged s F (suc f) (sentAge (depth s) e k)) (sentPlace (nMux s) k) (pos 0)
-      go (no g) x = kept (λ y. absurd (g y))
-      go (yes g) (inl x) = kept (λ y. x)
-      go (yes g) (inr x) =
-          rw (sent-in (depth s) e k (omega arith), g)
-          (hit s c (q .position) (q .count) (standardRow s F f) (slotSize s) 0 (q .memory) (K .long) (K .low) k (omega arith) (omega arith) (omega arith) (omega (arith, K .counted))
-          ∙ row-number s F f k b)
-
   -- Memory keeps the numbers before the next frame.
-  pub reader-keeps : Keeps s F (sentAge (depth s)) (suc f) (advanced (depth s) (taken s q (standardRow s F f)) q)
+  pub reader-keeps : Keeps s G (sentAge (depth s)) (suc f) (advanced (depth s) (taken s q (R f)) q)
   unfolding advanced taken
   reader-keeps =
       record {
-        long = length-taken s c (q .position) (q .count) (standardRow s F f) (slotSize s) 0 (q .memory) (K .long);
+        long = length-taken s c (q .position) (q .count) (R f) (slotSize s) 0 (q .memory) (K .long);
         low = next-low (depth s) (q .position) (K .low);
         counted = omega (arith, K .counted);
         number = λ d k h b. rw (slot-next (depth s) (q .position) (K .low) d h) (after-row d k h b);
       }
 
   -- The slot of the frame D - 1 before frame f then holds that frame whole.
-  finished-frame : slotOf (slotSize s) (taken s q (standardRow s F f)) (slotBefore (depth s) (q .position) (depth s - 1)) ≡ aged s F (suc f) (depth s - 1)
+  finished-frame : slotOf (slotSize s) (taken s q (R f)) (slotBefore (depth s) (q .position) (depth s - 1)) ≡ aged s G (suc f) (depth s - 1)
   unfolding taken
   finished-frame =
       ext-getD (pos 0) _ _
-      (long ∙ sym (aged-long s F (suc f) (depth s - 1)))
-      (λ r b. let h = rw long at b in getD-slot (slotSize s) (depth s) (taken s q (standardRow s F f)) kept _ r h ∙ number r h (covers s c r h))
+      (long ∙ sym (aged-all s G (λ l. length l ≡ slotSize s) (start-long s) (suc f) (λ i _. carry .long i) (depth s - 1)))
+      (λ r b. let h = rw long at b in getD-slot (slotSize s) (depth s) (taken s q (R f)) kept _ r h ∙ number r h (covers s c r h))
     where
-      kept : length (taken s q (standardRow s F f)) ≡ depth s * slotSize s
-      kept = length-taken s c (q .position) (q .count) (standardRow s F f) (slotSize s) 0 (q .memory) (K .long)
+      kept : length (taken s q (R f)) ≡ depth s * slotSize s
+      kept = length-taken s c (q .position) (q .count) (R f) (slotSize s) 0 (q .memory) (K .long)
 
-      long : length (slotOf (slotSize s) (taken s q (standardRow s F f)) (slotBefore (depth s) (q .position) (depth s - 1))) ≡ slotSize s
-      long = length-slot (slotSize s) (depth s) (taken s q (standardRow s F f)) kept _ (slot-low (depth s) (q .position) (K .low) (depth s - 1))
+      long : length (slotOf (slotSize s) (taken s q (R f)) (slotBefore (depth s) (q .position) (depth s - 1))) ≡ slotSize s
+      long = length-slot (slotSize s) (depth s) (taken s q (R f)) kept _ (slot-low (depth s) (q .position) (K .low) (depth s - 1))
 
       number : (r : ℕ) → r < slotSize s → Among (sentPlace (nMux s)) (slotSize s) r
-          → numberIn (slotSize s) (taken s q (standardRow s F f)) (slotBefore (depth s) (q .position) (depth s - 1)) r ≡ getD (aged s F (suc f) (depth s - 1)) r (pos 0)
+          → numberIn (slotSize s) (taken s q (R f)) (slotBefore (depth s) (q .position) (depth s - 1)) r ≡ getD (aged s G (suc f) (depth s - 1)) r (pos 0)
       number r h w =
           let l = delay-low (depth s) (w .index) (depth-low s) in
           rw (w .value, sent-in (depth s) (depth s - 1) (w .index) (omega arith)) at (after-row (depth s - 1) (w .index) (omega arith) (w .low))
@@ -237,40 +236,36 @@ one-more : (f n e : ℕ) → e ≤ f → f + suc n - e - (f - e) ≡ suc (suc f 
 one-more f n e h = omega arith
 
 -- Rows read one after the other: memory keeps the numbers, and the frames finished are those from D - 1 before the first row on.
-module _ (s : Settings) (c : Coding s) (F : List (List ℕ)) where
-  pub reader-after : (n f : ℕ) (q : Progress) → Keeps s F (sentAge (depth s)) f q → Keeps s F (sentAge (depth s)) (f + n) (afterRows s q (table (standardRow s F) f n))
+module _ (s : Settings) (c : Coding s) (G R : ℕ → List ℤ) (carry : Carries s G R) where
+  pub reader-after : (n f : ℕ) (q : Progress) → Keeps s G (sentAge (depth s)) f q → Keeps s G (sentAge (depth s)) (f + n) (afterRows s q (table R f n))
   unfolding table afterRows
   reader-after zero f q K = rw add-zero K
-  reader-after (suc n) f q K = rw (add-suc, ← suc-add) (reader-after n (suc f) _ (reader-keeps s c F f q K))
+  reader-after (suc n) f q K = rw (add-suc, ← suc-add) (reader-after n (suc f) _ (reader-keeps s c G R carry f q K))
 
-  none-finished : (f : ℕ) (q : Progress) (m : List ℤ) → Keeps s F (sentAge (depth s)) f q → f < depth s - 1 → finishedBy s q m ≡ []
+  none-finished : (f : ℕ) (q : Progress) (m : List ℤ) → Keeps s G (sentAge (depth s)) f q → f < depth s - 1 → finishedBy s q m ≡ []
   unfolding finishedBy
   none-finished f q m K h = let d : q .count ≡ depth s - 1 → ⊥ = λ g. omega (arith, K .counted) in rw ne-eqb
 
-  one-finished : (f : ℕ) (q : Progress) → Keeps s F (sentAge (depth s)) f q → depth s - 1 ≤ f
-      → finishedBy s q (taken s q (standardRow s F f)) ≡ frameAt s F (f - (depth s - 1)) ∷ []
+  one-finished : (f : ℕ) (q : Progress) → Keeps s G (sentAge (depth s)) f q → depth s - 1 ≤ f
+      → finishedBy s q (taken s q (R f)) ≡ G (f - (depth s - 1)) ∷ []
   unfolding finishedBy
   one-finished f q K h =
-      let g : suc f - suc (depth s - 1) ≡ f - (depth s - 1) = omega arith in
       let e : q .count ≡ depth s - 1 = omega (arith, K .counted) in
-      rw (eq-eqb, finished-frame s c F f q K)
-      (ap (λ l. l ∷ []) (aged-run s F (suc f) (depth s - 1) (omega arith) ∙ ap (frameAt s F) g))
+      rw (eq-eqb, finished-frame s c G R carry f q K)
+      (ap (λ l. l ∷ []) (aged-run s G f (depth s - 1) h))
 
-  pub reader-finished : (n f : ℕ) (q : Progress) → Keeps s F (sentAge (depth s)) f q
-      → finishedFrames s q (table (standardRow s F) f n) ≡ table (frameAt s F) (f - (depth s - 1)) (f + n - (depth s - 1) - (f - (depth s - 1)))
+  pub reader-finished : (n f : ℕ) (q : Progress) → Keeps s G (sentAge (depth s)) f q
+      → finishedFrames s q (table R f n) ≡ table G (f - (depth s - 1)) (f + n - (depth s - 1) - (f - (depth s - 1)))
   unfolding table finishedFrames
   reader-finished zero f q K = let e : f + 0 - (depth s - 1) - (f - (depth s - 1)) ≡ 0 = omega arith in rw e
-  reader-finished (suc n) f q K = go (below-or f (depth s - 1)) (reader-finished n (suc f) _ (reader-keeps s c F f q K))
-    where
-      go : (f < depth s - 1) ⊎ (depth s - 1 ≤ f)
-          → finishedFrames s (advanced (depth s) (taken s q (standardRow s F f)) q) (table (standardRow s F) (suc f) n)
-          ≡ table (frameAt s F) (suc f - (depth s - 1)) (suc f + n - (depth s - 1) - (suc f - (depth s - 1)))
-          → finishedBy s q (taken s q (standardRow s F f)) ++ finishedFrames s (advanced (depth s) (taken s q (standardRow s F f)) q) (table (standardRow s F) (suc f) n)
-          ≡ table (frameAt s F) (f - (depth s - 1)) (f + suc n - (depth s - 1) - (f - (depth s - 1)))
-      go (inl h) ih =
-          let a : suc f - (depth s - 1) ≡ f - (depth s - 1) = omega arith in
-          let b : suc f + n ≡ f + suc n = omega arith in
-          rw (none-finished f q _ K h, ih, a, b)
-      go (inr h) ih =
-          let a : suc f - (depth s - 1) ≡ suc (f - (depth s - 1)) = omega arith in
-          rw (one-more f n (depth s - 1) h, one-finished f q K h, ih, a)
+  reader-finished (suc n) f q K =
+      let ih = reader-finished n (suc f) _ (reader-keeps s c G R carry f q K) in
+      elim (below-or f (depth s - 1)) [
+        | inl h ↦
+            let a : suc f - (depth s - 1) ≡ f - (depth s - 1) = omega arith in
+            let b : suc f + n ≡ f + suc n = omega arith in
+            rw (none-finished f q _ K h, ih, a, b)
+        | inr h ↦
+            let a : suc f - (depth s - 1) ≡ suc (f - (depth s - 1)) = omega arith in
+            rw (one-more f n (depth s - 1) h, one-finished f q K h, ih, a)
+      ]

@@ -11,13 +11,13 @@ use Rattle.settings.specs.Refusal.{refusal}
 use Rattle.superframe.specs.Read.{ReadCall, pointTests}
 use Rattle.superframe.specs.Runs.{Run, bits, cells}
 use Rattle.superframe.specs.Standard.{superFrame, standard}
-use Rattle.superframe.specs.Demand2.{NoPoint, Nowhere, sentAt, LendsSent, countBefore}
-use Rattle.superframe.specs.Demand3.{standardCells}
+use Rattle.superframe.specs.SingleCalls.{NoPoint, Nowhere, sentAt, LendsSent, countBefore}
+use Rattle.superframe.specs.WholeRuns.{standardCells}
 use Rattle.superframe.proofs.Coding.{Coding}
-use Rattle.superframe.proofs.Tests.{all-nowhere}
-use Rattle.superframe.proofs.Faults.{points-mean}
-use Rattle.superframe.proofs.ReadCalls.{feeding, cells-long, sent-points}
-use Rattle.superframe.proofs.Demand3.{begun-allowed, bits-whole, run-sends}
+use Rattle.superframe.proofs.Faults.{all-nowhere, points-mean}
+use Rattle.superframe.proofs.SuperFrames.{cells-long}
+use Rattle.superframe.proofs.ReadCalls.{feeding, sent-points}
+use Rattle.superframe.proofs.Runs.{begun-allowed, bits-whole, run-sends}
 
 module _ (coding : (s : Settings) → refusal s ≡ 0 → Coding s) (run : Run) (m : ℕ) (c : ReadCall) (L : LendsSent run m c) where
   -- As many super frames are sent as SDC blocks are brought.
@@ -58,5 +58,5 @@ module _ (coding : (s : Settings) → refusal s ≡ 0 → Coding s) (run : Run) 
       let C = coding s (begun-allowed (run .begun)) in
       let w = bits-whole coding run in
       subst (λ x. Nowhere (NoPoint s count x)) (sym lent-is)
-      (all-nowhere (NoPoint s count call) (pointTests s count call) (points-mean s count call (cells-long s C (bits run) w m brought-low)) .0
+      (all-nowhere (NoPoint s count call) (pointTests s count call) (points-mean s count call (cells-long s (bits run) m C)) .0
       (sent-points s C (bits run) w m brought-low count count-low (c .fac) (c .sdc) (c .msc)))

@@ -53,11 +53,11 @@ module _ (D p : ℕ) (low : p < D) where
 
   -- Every slot was written at most D frames before.
   pub slot-cover : (slot : ℕ) → slot < D → (d : ℕ) × (d < D) × (slotBefore D p (suc d) ≡ slot)
-  slot-cover slot h = go (below-or slot p)
-    where
-      go : (slot < p) ⊎ (p ≤ slot) → (d : ℕ) × (d < D) × (slotBefore D p (suc d) ≡ slot)
-      go (inl x) = (p - suc slot, omega arith, near (suc (p - suc slot)) (omega arith) ∙ omega arith)
-      go (inr x) = (p + D - suc slot, omega arith, far (suc (p + D - suc slot)) (omega arith) (omega arith) ∙ omega arith)
+  slot-cover slot h =
+      elim (below-or slot p) [
+        | inl x ↦ (p - suc slot, omega arith, near (suc (p - suc slot)) (omega arith) ∙ omega arith)
+        | inr x ↦ (p + D - suc slot, omega arith, far (suc (p + D - suc slot)) (omega arith) (omega arith) ∙ omega arith)
+      ]
 
 -- One frame more before the next position is the same slot.
 pub slot-next : (D p : ℕ) → p < D → (d : ℕ) → d < D → slotBefore D ((p + 1) % D) (suc d) ≡ slotBefore D p d

@@ -10,9 +10,10 @@ use Rattle.settings.specs.declared.Settings.{Settings}
 use Rattle.settings.specs.Lengths.{nMux}
 use Rattle.settings.specs.Sizes.{depth}
 use Rattle.lists.specs.Same.{sameNumber}
-use Rattle.block.specs.Points.{isPoint, every}
+use Rattle.lists.specs.Bools.{every}
+use Rattle.block.specs.Points.{isPoint}
 use Rattle.block.specs.Block.{pointsOf}
-use Rattle.frame.specs.Msc.{mscBlock}
+use Rattle.channels.specs.Msc.{mscBlock}
 use Rattle.superframe.specs.declared.State.{State}
 use Rattle.superframe.specs.Memory.{slotSize}
 

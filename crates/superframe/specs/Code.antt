@@ -12,10 +12,10 @@ use Rattle.settings.specs.Lengths.{nSdc, nSfa, lSdc}
 use Rattle.settings.specs.Sizes.{frameBits, frameBytes, sdcBytes}
 use Rattle.block.specs.Packing.{spareZero}
 use Rattle.block.specs.Block.{cellsFrom}
-use Rattle.block.specs.Points.{every}
-use Rattle.frame.specs.Fac.{facBlock}
-use Rattle.frame.specs.Sdc.{sdcBlock}
-use Rattle.frame.specs.Msc.{mscBlock}
+use Rattle.lists.specs.Bools.{every}
+use Rattle.channels.specs.Fac.{facBlock}
+use Rattle.channels.specs.Sdc.{sdcBlock}
+use Rattle.channels.specs.Msc.{mscBlock}
 use Rattle.superframe.specs.declared.State.{State}
 use Rattle.superframe.specs.declared.Done.{Done}
 use Rattle.superframe.specs.Interleaving.{Progress, afterFrames, sentRows, fillers}

@@ -1,5 +1,5 @@
 -- Cell interleaving and the super frame's MSC sequence. 01 "Cell interleaving"; 001 clauses 7.6 and 7.7.
--- Cells are flat: number k belongs to cell k / 2. The depth D is 5 in long interleaving and 1 in short.
+-- Cells are flat: numbers 2i and 2i + 1 of a list are cell i. The depth D is 5 in long interleaving and 1 in short.
 use Prim.Native.Nat.{ℕ, suc, zero, _+_, _-_, _*_, _/_, _%_, min}
 use mathlib.Core.Bool.{cond}
 use mathlib.Core.List.{List, [], _∷_, _++_}
@@ -13,11 +13,11 @@ use Rattle.settings.specs.Lengths.{nMux, nSfa}
 use Rattle.settings.specs.Sizes.{depth}
 use Rattle.superframe.specs.Memory.{slotSize, numberIn, replaced, stored, slotOf}
 
--- Sent cell i is cell P(i) of its frame, with n = N_MUX and t = 5.
+-- Sent cell i is cell P(i) of its frame, with n = N_MUX and t = 5: the place in the frame of number k of a row.
 unfoldable pub sentPlace : ℕ → ℕ → ℕ
 sentPlace n k = 2 * place 5 n (k / 2) + k % 2
 
--- Sent cell i of frame n is of frame n - (i mod D).
+-- Sent cell i of frame n is of frame n - (i mod D): how many frames before number k of a row comes from.
 unfoldable pub delay : ℕ → ℕ → ℕ
 delay D k = k / 2 % D
 
@@ -56,7 +56,7 @@ sentRows s q (f ∷ fs) =
 unfoldable pub fillers : Settings → List ℤ
 fillers s = take (2 * (nSfa s - 3 * nMux s)) (pos 1 ∷ pos 1 ∷ pos 1 ∷ negsuc 0 ∷ [])
 
--- The reader puts the numbers of a row from k on where the coder took them, and ignores those of a frame before the first.
+-- The reader puts a cell where the coder took it, and ignores a cell of a frame before the first: n numbers of a row, from k on.
 unfoldable pub takenFrom : Settings → ℕ → ℕ → List ℤ → ℕ → ℕ → List ℤ → List ℤ
 takenFrom s position count row k zero memory = memory
 takenFrom s position count row k (suc n) memory =

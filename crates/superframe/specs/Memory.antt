@@ -7,23 +7,23 @@ use lib.IntN.{ℤ, pos}
 use Rattle.settings.specs.declared.Settings.{Settings}
 use Rattle.settings.specs.Lengths.{nMux}
 
--- The numbers of a slot: a real and an imaginary one for each cell.
+-- How many numbers a slot has: a real and an imaginary one for each cell.
 unfoldable pub slotSize : Settings → ℕ
 slotSize s = 2 * nMux s
 
--- The number at a slot and index.
+-- Memory is one flat list, slot after slot: the number at an index of a slot,
 unfoldable pub numberIn : ℕ → List ℤ → ℕ → ℕ → ℤ
 numberIn size memory slot k = getD memory (slot * size + k) (pos 0)
 
--- Memory with the number at a slot and index replaced.
+-- memory with that number replaced,
 unfoldable pub replaced : ℕ → List ℤ → ℕ → ℕ → ℤ → List ℤ
 replaced size memory slot k v = set memory (slot * size + k) v
 
--- Memory with a frame's numbers in a slot, and no other memory changed.
+-- memory with a frame's numbers in a slot and no other memory changed,
 unfoldable pub stored : ℕ → List ℤ → ℕ → List ℤ → List ℤ
 stored size memory slot numbers = sets memory (slot * size) numbers
 
--- The numbers of a slot.
+-- and the numbers of a slot.
 unfoldable pub slotOf : ℕ → List ℤ → ℕ → List ℤ
 slotOf size memory slot = take size (drop (slot * size) memory)
 

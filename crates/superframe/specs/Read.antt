@@ -1,5 +1,5 @@
 -- The call Read. 01 "Buffers and state" and "Operations".
-use Prim.Native.Nat.{ℕ, suc, _+_, _-_, _*_}
+use Prim.Native.Nat.{ℕ, _+_, _-_, _*_}
 use mathlib.Core.Bool.{Bool, cond, not, _||_}
 use mathlib.Core.List.{List, [], _∷_, _++_, map}
 use lib.ListN.{length, getD, drop, replicate}
@@ -11,13 +11,15 @@ use Rattle.settings.specs.Refusal.{first, refusal}
 use Rattle.settings.specs.Cells.{facCells}
 use Rattle.settings.specs.Lengths.{nMux}
 use Rattle.settings.specs.Sizes.{depth, frameBytes}
-use Rattle.block.specs.Points.{isPoint, arePoints, every}
+use Rattle.block.specs.Points.{isPoint, arePoints}
 use Rattle.lists.specs.Same.{sameNumbers}
+use Rattle.lists.specs.Bools.{every}
+use Rattle.lists.specs.Bools.{firstFault}
 use Rattle.block.specs.Reading.{given, bytesRead}
 use Rattle.block.specs.Block.{pointsOf}
-use Rattle.frame.specs.Fac.{facBlock}
-use Rattle.frame.specs.Sdc.{sdcBlock}
-use Rattle.frame.specs.Msc.{mscBlock}
+use Rattle.channels.specs.Fac.{facBlock}
+use Rattle.channels.specs.Sdc.{sdcBlock}
+use Rattle.channels.specs.Msc.{mscBlock}
 use Rattle.superframe.specs.declared.State.{State}
 use Rattle.superframe.specs.declared.Answer.{Answer}
 use Rattle.superframe.specs.declared.Answer.the-variants.{Finished, Refused}
@@ -90,11 +92,6 @@ unfoldable pub givenTests : Settings → Progress → ReadCall → List Bool
 givenTests s q c =
     map (given facBlock) (parts (2 * facCells) (c .faccells))
     ++ (given (sdcBlock s) (c .sdccells) ∷ map (given (mscBlock s)) (finishedFrames s q (rowsOf s (c .msccells))))
-
--- The place of the first test that fails: the lowest block at fault.
-unfoldable pub firstFault : List Bool → ℕ
-firstFault [] = 0
-firstFault (b ∷ bs) = cond b (suc (firstFault bs)) 0
 
 -- 1 to 10, and 12.
 unfoldable pub orderRefusal : State → List ℤ → ReadCall → ℕ

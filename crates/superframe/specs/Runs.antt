@@ -1,4 +1,4 @@
--- Runs of calls. 01 "Runs".
+-- Runs of calls: what a list of Code calls brings and sends, and what a list of Read calls is fed and hands out. 01 "Runs".
 use Prim.Native.Nat.{ℕ, suc, _-_}
 use mathlib.Core.Path.{_≡_}
 use mathlib.Core.Bool.{Bool, true, false, cond}
@@ -12,16 +12,16 @@ use Rattle.settings.specs.Sizes.{frameBytes}
 use Rattle.block.specs.Packing.{unpacked}
 use Rattle.block.specs.declared.Block.{Block}
 use Rattle.block.specs.Block.{bitCount}
-use Rattle.frame.specs.Fac.{facBlock}
-use Rattle.frame.specs.Sdc.{sdcBlock}
-use Rattle.frame.specs.Msc.{mscBlock}
+use Rattle.channels.specs.Fac.{facBlock}
+use Rattle.channels.specs.Sdc.{sdcBlock}
+use Rattle.channels.specs.Msc.{mscBlock}
 use Rattle.superframe.specs.declared.State.{State}
 use Rattle.superframe.specs.Call.{parts}
 use Rattle.superframe.specs.Reset.{resetOf}
 use Rattle.superframe.specs.Code.{CodeCall, codeOf, byteLengths}
 use Rattle.superframe.specs.Read.{ReadCall, readOf, answerNumber, answerFrames}
 
--- Settings that an accepted Reset took, with what it was handed.
+-- An accepted Reset: the state, settings and memory that it was handed.
 pub record Begun : Type 0 where
   pub old : State
   pub settings : Settings

@@ -10,9 +10,9 @@ use Rattle.settings.specs.declared.Settings.{Settings}
 use Rattle.settings.specs.Lengths.{nMux}
 use Rattle.settings.specs.Sizes.{depth}
 use Rattle.block.specs.Block.{cellsOf}
-use Rattle.frame.specs.Fac.{facBlock}
-use Rattle.frame.specs.Sdc.{sdcBlock}
-use Rattle.frame.specs.Msc.{mscBlock}
+use Rattle.channels.specs.Fac.{facBlock}
+use Rattle.channels.specs.Sdc.{sdcBlock}
+use Rattle.channels.specs.Msc.{mscBlock}
 use Rattle.superframe.specs.Memory.{slotSize, startFrame}
 use Rattle.superframe.specs.Interleaving.{sentPlace, delay, fillers}
 use Rattle.superframe.specs.Call.{joined}

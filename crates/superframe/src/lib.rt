@@ -2,7 +2,6 @@
 
 use settings::Settings;
 
-pub mod answers;
 pub mod theorems;
 
 // 01 "Buffers and state": the settings, the position 0 to 4 of the slot written next, and a count of frames seen that stops at 4.

@@ -1,7 +1,7 @@
 -- `code::code_lengths` meets its contract. Assumes nothing.
 use mathlib.Core.Path.{_∙_}
 use borrow.Author.Needs.{needs}
-use Rattle.cellrows.proofs.Chains.{refusal-is, bytes-are, cells-are}
+use Rattle.cellmemory.proofs.Chains.{refusal-is, bytes-are, cells-are}
 use Rattle.codecall.proofs.code.code_lengths.Statement.{statement}
 use Rattle.codecall.proofs.code.code_lengths.Tie as tie
 
@@ -15,10 +15,4 @@ returns c =
 
 pub code-lengths-spec : {M : Type 1} → statement M
 code-lengths-spec =
-    tie.close
-    (tie.spec
-    (λ c κs. search needs)
-    (λ c κs. search needs)
-    (λ c κs. search needs)
-    (λ c κs. search needs)
-    returns)
+    tie.close (tie.spec (λ c κs. search needs) (λ c κs. search needs) (λ c κs. search needs) (λ c κs. search needs) returns)

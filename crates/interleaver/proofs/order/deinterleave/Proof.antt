@@ -36,18 +36,6 @@ returns c =
 
 pub deinterleave-spec : {M : Type 1} → statement M
 deinterleave-spec =
-    tie.close
-    (tie.spec
-    Inv-loop
-    μ-loop
-    (λ c κs. search needs)
-    (λ c κs. omega (arith, c .size-of .ensures, size-four _ _ (c .before .before .before .pre .fits .cycles)))
-    loop-holds
-    (λ c. search needs)
-    (λ c. search needs)
-    (λ c κs. search needs)
-    (λ c. search needs)
-    (λ c. search needs)
-    loop-again
-    (λ c. search needs)
-    returns)
+    tie.close (tie.spec Inv-loop μ-loop (λ c κs. search needs)
+    (λ c κs. omega (arith, c .size-of .ensures, size-four _ _ (c .before .before .before .pre .fits .cycles))) loop-holds (λ c. search needs)
+    (λ c. search needs) (λ c κs. search needs) (λ c. search needs) (λ c. search needs) loop-again (λ c. search needs) returns)

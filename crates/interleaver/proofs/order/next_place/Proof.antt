@@ -36,17 +36,9 @@ returns c = sym (again-here _ _ _ _ (c .loop-test .left)) ∙ c .before .loop .i
 
 pub next-place-spec : {M : Type 1} → statement M
 next-place-spec =
-    tie.close
-    (tie.spec
-    Inv-loop
-    μ-loop
+    tie.close (tie.spec Inv-loop μ-loop (λ c. omega (arith, step-fits _ _ _ _ _ (c .pre) (c .args .place) (place-below _ _ _ _ _ (c .pre))))
     (λ c. omega (arith, step-fits _ _ _ _ _ (c .pre) (c .args .place) (place-below _ _ _ _ _ (c .pre))))
-    (λ c. omega (arith, step-fits _ _ _ _ _ (c .pre) (c .args .place) (place-below _ _ _ _ _ (c .pre))))
-    (λ c. omega (arith, step-fits _ _ _ _ _ (c .pre) (c .args .place) (place-below _ _ _ _ _ (c .pre))))
-    loop-holds
+    (λ c. omega (arith, step-fits _ _ _ _ _ (c .pre) (c .args .place) (place-below _ _ _ _ _ (c .pre)))) loop-holds
     (λ c. omega (arith, step-fits _ _ _ _ _ (c .before .before .pre) (c .before .loop .x) (c .before .loop .inv .0)))
     (λ c. omega (arith, step-fits _ _ _ _ _ (c .before .before .pre) (c .before .loop .x) (c .before .loop .inv .0)))
-    (λ c. omega (arith, step-fits _ _ _ _ _ (c .before .before .pre) (c .before .loop .x) (c .before .loop .inv .0)))
-    loop-less
-    loop-again
-    returns)
+    (λ c. omega (arith, step-fits _ _ _ _ _ (c .before .before .pre) (c .before .loop .x) (c .before .loop .inv .0))) loop-less loop-again returns)

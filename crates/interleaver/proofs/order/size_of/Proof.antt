@@ -12,11 +12,4 @@ returns c = leading-size 32 64 (c .args .n) (omega arith) (omega arith) (omega a
 
 pub size-of-spec : {M : Type 1} → statement M
 size-of-spec =
-    tie.close
-    (tie.spec
-    (λ c. search needs)
-    (λ c. search needs)
-    (λ c. leading-le 32 (c .args .n - 1))
-    (λ c. search needs)
-    (λ c. search needs)
-    returns)
+    tie.close (tie.spec (λ c. search needs) (λ c. search needs) (λ c. leading-le 32 (c .args .n - 1)) (λ c. search needs) (λ c. search needs) returns)

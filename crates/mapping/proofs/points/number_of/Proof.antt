@@ -8,8 +8,5 @@ use Rattle.mapping.proofs.points.number_of.Tie as tie
 
 pub number-of-spec : {M : Type 1} → statement M
 number-of-spec =
-    tie.close
-    (tie.spec
-    (λ c κs. search needs)
-    (λ c. rw (c .place-of .ensures) (standard-low _))
+    tie.close (tie.spec (λ c κs. search needs) (λ c. rw (c .place-of .ensures) (standard-low _))
     (λ c. rw (c .before .place-of .ensures, toZ-ofZ {w = w16} (c .before .before .fits .v))))

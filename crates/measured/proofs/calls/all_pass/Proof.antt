@@ -3,7 +3,7 @@ use Prim.Native.Nat.{_-_}
 use borrow.Author.Needs.{needs}
 use lib.ListN.{length}
 use Rattle.measured.specs.Calls.{passAt, pass}
-use Rattle.block.proofs.Every.{Tested, tested-start, tested-end}
+use Rattle.lists.proofs.Tests.{Tested, tested-start, tested-end}
 use Rattle.measured.proofs.Accepts.{pass-stop, pass-turn}
 use Rattle.measured.proofs.calls.all_pass.Statement.{statement}
 use Rattle.measured.proofs.calls.all_pass.Tie as tie

@@ -2,7 +2,7 @@
 use lib.ListN.{length}
 use Rattle.settings.specs.Cells.{facCells}
 use Rattle.settings.specs.Formulas.{facBits}
-use Rattle.frame.specs.Fac.{facBlock}
+use Rattle.channels.specs.Fac.{facBlock}
 use Rattle.nearest.specs.Coded.{coded, facSent}
 use Rattle.nearest.specs.Fac.{facNearest}
 use Rattle.nearest.specs.Theorem.{NearestBlocks}

@@ -1,0 +1,92 @@
+-- What the functions that code and read a block require and promise: nothing of 01 is stated here.
+use Prim.Native.Nat.{ℕ, _*_, _%_, _≤_, _<_}
+use mathlib.Core.Path.{_≡_}
+use mathlib.Core.List.{List}
+use lib.ListN.{length}
+use lib.IntN.{ℤ}
+use Rattle.component.specs.Bits.{Bits}
+use Rattle.block.specs.declared.Block.{Block}
+use Rattle.block.specs.Block.{bitCount, pointsOf, oneAxis, streamsOf, levelsOf}
+use Rattle.block.specs.Fits.{BlockFits}
+use Rattle.mapping.specs.Contracts.{Numbers}
+use Rattle.multilevel.specs.Contracts.{PartsOf}
+use mathlib.Core.Bool.{cond, Bool}
+use Rattle.block.specs.Mapping.{mapped, woven}
+use Rattle.blockcoder.specs.declared.Found.{Found}
+use Rattle.blockcoder.specs.declared.Found.the-variants.{Given, NoBits}
+use Rattle.block.specs.Reading.{unmapped, inputsA, inputsB, given, bytesRead}
+
+-- Bytes that hold the bits wanted, the first v of which are dispersed by themselves.
+pub record UnpacksParts (bytes : List ℕ) (v : ℕ) (bits : List ℕ) : Type 0 where
+  pub few : length bytes ≤ 65536
+  pub front : v ≤ length bits
+  pub there : length bits ≤ 8 * length bytes
+
+-- Numbers of whole cells, the first n1 cells of which are part A's.
+pub record MapsParts (c n1 : ℕ) (numbers : List ℕ) (out : List ℤ) : Type 0 where
+  pub known : c < 5
+  pub same : length out ≡ length numbers
+  pub whole : length numbers % 2 ≡ 0
+  pub part : 2 * n1 ≤ length numbers
+  pub high : length numbers ≤ 16384
+  pub low : Numbers numbers
+
+-- Numbers of both axes, a number a cell, the first n1 of which are part A's.
+pub record MapsAxesParts (c n1 : ℕ) (re im : List ℕ) (out : List ℤ) : Type 0 where
+  pub known : c < 5
+  pub same : length out ≡ 2 * length re
+  pub both : length im ≡ length re
+  pub part : n1 ≤ length re
+  pub high : length re ≤ 16384
+  pub lowReal : Numbers re
+  pub lowImaginary : Numbers im
+
+-- A block that fits, and the bits of its parts A and B.
+pub record CodesParts (k : Block) (a b : List ℕ) (out : List ℤ) : Type 0 where
+  pub fits : BlockFits k
+  pub parts : PartsOf k a b
+  pub inputA : Bits a
+  pub inputB : Bits b
+  pub cells : length out ≡ 2 * k .cells
+
+-- A block that fits, and its dispersed bits.
+pub record CodesBits (k : Block) (bits : List ℕ) (out : List ℤ) : Type 0 where
+  pub fits : BlockFits k
+  pub input : Bits bits
+  pub long : length bits ≡ bitCount k
+  pub cells : length out ≡ 2 * k .cells
+
+-- The cells of a block from its dispersed bits.
+unfoldable pub cellsBy : Block → List ℕ → List ℤ
+cellsBy k u = mapped (pointsOf k) (2 * k .cells) (cond (oneAxis k) (woven (streamsOf k u)) (streamsOf k u))
+
+-- What reading the levels from cells requires: a block that fits, its cells, and room for the bits of parts A and B.
+pub record ReadsCells (k : Block) (cells : List ℤ) (a b : List ℕ) : Type 0 where
+  pub fits : BlockFits k
+  pub long : length cells ≡ 2 * k .cells
+  pub parts : PartsOf k a b
+
+-- What it promises: the bits of all levels in part A, and in part B.
+pub record CellsRead (k : Block) (cells : List ℤ) (a b : List ℕ) : Type 0 where
+  pub partA : a ≡ inputsA (levelsOf k) (unmapped (pointsOf k) (oneAxis k) (length (levelsOf k)) cells)
+  pub partB : b ≡ inputsB (levelsOf k) (unmapped (pointsOf k) (oneAxis k) (length (levelsOf k)) cells)
+
+-- What the candidate requires: a block that fits, its cells, and room for its bits.
+pub record ReadsCandidate (k : Block) (cells : List ℤ) (bits : List ℕ) : Type 0 where
+  pub fits : BlockFits k
+  pub whole : length cells ≡ 2 * k .cells
+  pub long : length bits ≡ bitCount k
+
+-- What reading a block finds: bits that give the cells, or that no bits do.
+unfoldable pub foundOf : Bool → Found
+foundOf b = cond b Given NoBits
+
+-- A block is read: where some bits give the cells the bytes are those bits packed, else they are as they were.
+pub record BlockRead (k : Block) (cells : List ℤ) (bytes : List ℕ) (answer : Found) (bytes' : List ℕ) : Type 0 where
+  pub answered : answer ≡ foundOf (given k cells)
+  pub written : bytes' ≡ cond (given k cells) (bytesRead k cells) bytes
+
+-- What handing the candidate's bytes out requires: as many bytes, and as many coordinates of the candidate as of the cells.
+pub record HandsOut (candidate : List ℕ) (given cells : List ℤ) (bytes : List ℕ) : Type 0 where
+  pub bytes-long : length bytes ≡ length candidate
+  pub cells-long : length given ≡ length cells

@@ -1,0 +1,48 @@
+// The candidate of a block: the bits that undoing every stage gives. 01 "Operations".
+use block::Block;
+use block::buffers::bit_buffer;
+use block::buffers::cell_buffer;
+use dispersal::bits::disperse;
+use lists::bytes::copy;
+use mapping::points::unmap_cells;
+use multilevel::places::bits_before;
+use multilevel::read::read_levels;
+ghost use mathlib.Core.Path.{_≡_};
+ghost use Prim.Native.Nat.{_≤_};
+ghost use lib.ListN.{length};
+ghost use Rattle.block.specs.Dispersal.{dispersedParts};
+ghost use Rattle.block.specs.Reading.{candidate};
+ghost use Rattle.blockcoder.specs.Contracts.{ReadsCells, CellsRead, ReadsCandidate};
+
+// All levels read from cells.
+fn read_cells(k: Block, cells: &[i16], a: &mut [u8], b: &mut [u8])
+    requires { ⌜ ReadsCells k (now cells) (now a) (now b) ⌝ }
+    ensures { λ r. ⌜ CellsRead k (now (cells .entry)) (now (a .exit)) (now (b .exit)) ⌝ }
+{
+    let mut numbers = cell_buffer();
+    let n = cells.len();
+    unmap_cells(k.constellation, cells, &mut numbers[0..n]);
+    read_levels(k, &numbers[0..n], a, b);
+}
+
+// The first `vspp` bits and the others, dispersed each from the sequence's start.
+fn disperse_parts(vspp: usize, bits: &mut [u8])
+    requires { ⌜ vspp ≤ length (now bits) ⌝ }
+    ensures { λ r. ⌜ now (bits .exit) ≡ dispersedParts vspp (now (bits .entry)) ⌝ }
+{
+    disperse(&mut bits[0..vspp]);
+    disperse(&mut bits[vspp..]);
+}
+
+// The candidate: part A's bits are read to the front, part B's come through a buffer of their own.
+pub fn candidate_bits(k: Block, cells: &[i16], bits: &mut [u8])
+    requires { ⌜ ReadsCandidate k (now cells) (now bits) ⌝ }
+    ensures { λ r. ⌜ now (bits .exit) ≡ candidate k (now (cells .entry)) ⌝ }
+{
+    let mut b = bit_buffer();
+    let front = bits_before(k, false, k.count);
+    let rest = bits_before(k, true, k.count);
+    read_cells(k, cells, &mut bits[0..front], &mut b[0..rest]);
+    copy(&b[0..rest], &mut bits[front..]);
+    disperse_parts(k.vspp, bits);
+}

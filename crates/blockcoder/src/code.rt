@@ -1,0 +1,69 @@
+// A block: packed bytes to cells. 01 "From bits to cells".
+use crate::parts::map_axes_parts;
+use crate::parts::map_parts;
+use crate::parts::unpack_parts;
+use block::Block;
+use block::HMMIX;
+use block::buffers::axis_buffer;
+use block::buffers::bit_buffer;
+use block::buffers::cell_buffer;
+use multilevel::code::code_levels;
+use multilevel::places::bit_count;
+use multilevel::places::bits_before;
+ghost use mathlib.Core.Path.{_≡_};
+ghost use mathlib.Core.Bool.{true, false};
+ghost use Prim.Native.Nat.{_*_};
+ghost use Rattle.block.specs.Levels.{streams};
+ghost use Rattle.block.specs.Mapping.{mapped, woven};
+ghost use Rattle.block.specs.Block.{levelsOf, pointsOf, oneAxis, cellsFrom};
+ghost use Rattle.blockcoder.specs.Contracts.{cellsBy, CodesParts, CodesBits};
+ghost use Rattle.block.specs.Fits.{BlockLent};
+
+// Levels whose bits go alternately to the real and the imaginary axis.
+fn code_both(k: Block, a: &[u8], b: &[u8], out: &mut [i16])
+    requires { ⌜ CodesParts k (now a) (now b) (now out) × (oneAxis k ≡ false) ⌝ }
+    ensures { λ r. ⌜ now (out .exit) ≡ mapped (pointsOf k) (2 * k .cells) (streams (levelsOf k) (now (a .entry)) (now (b .entry))) ⌝ }
+{
+    let mut numbers = cell_buffer();
+    let n = out.len();
+    code_levels(k, 0, 1, k.count, a, b, &mut numbers[0..n]);
+    map_parts(k.constellation, k.parta, &numbers[0..n], out);
+}
+
+// Levels in pairs: the first of each for the real axis, the second for the imaginary one.
+fn code_axes(k: Block, a: &[u8], b: &[u8], out: &mut [i16])
+    requires { ⌜ CodesParts k (now a) (now b) (now out) × (oneAxis k ≡ true) ⌝ }
+    ensures { λ r. ⌜ now (out .exit) ≡ mapped (pointsOf k) (2 * k .cells) (woven (streams (levelsOf k) (now (a .entry)) (now (b .entry)))) ⌝ }
+{
+    let mut re = axis_buffer();
+    let mut im = axis_buffer();
+    let n = k.cells;
+    let pairs = k.count / 2;
+    code_levels(k, 0, 2, pairs, a, b, &mut re[0..n]);
+    code_levels(k, 1, 2, pairs, a, b, &mut im[0..n]);
+    map_axes_parts(k.constellation, k.parta, &re[0..n], &im[0..n], out);
+}
+
+// The dispersed bits of a block to its cells: part A's bits stand first.
+fn code_bits(k: Block, bits: &[u8], out: &mut [i16])
+    requires { ⌜ CodesBits k (now bits) (now out) ⌝ }
+    ensures { λ r. ⌜ now (out .exit) ≡ cellsBy k (now (bits .entry)) ⌝ }
+{
+    let at = bits_before(k, false, k.count);
+    if k.constellation == HMMIX {
+        code_axes(k, &bits[0..at], &bits[at..], out);
+        return;
+    }
+    code_both(k, &bits[0..at], &bits[at..], out);
+}
+
+// The packed bytes of a block to its cells.
+pub fn code_block(k: Block, bytes: &[u8], out: &mut [i16])
+    requires { ⌜ BlockLent k (now bytes) (now out) ⌝ }
+    ensures { λ r. ⌜ now (out .exit) ≡ cellsFrom k (now (bytes .entry)) ⌝ }
+{
+    let mut bits = bit_buffer();
+    let total = bit_count(k);
+    unpack_parts(bytes, k.vspp, &mut bits[0..total]);
+    code_bits(k, &bits[0..total], out);
+}

@@ -1,0 +1,40 @@
+// The steps from packed bytes to cells that treat a block in two parts. 01 "Dispersal" and "Mapping".
+use dispersal::bits::unpack_dispersed;
+use mapping::points::map_axes;
+use mapping::points::map_cells;
+ghost use mathlib.Core.Path.{_≡_};
+ghost use lib.ListN.{length};
+ghost use Rattle.block.specs.Packing.{unpacked};
+ghost use Rattle.block.specs.Dispersal.{dispersedParts};
+ghost use Rattle.block.specs.Mapping.{constellation, weave};
+ghost use Rattle.mapping.specs.Numbers.{coordinates};
+ghost use Rattle.blockcoder.specs.Contracts.{UnpacksParts, MapsParts, MapsAxesParts};
+
+// The bits of the very strongly protected part and the remainder: the sequence starts anew for each.
+pub fn unpack_parts(bytes: &[u8], vspp: usize, bits: &mut [u8])
+    requires { ⌜ UnpacksParts (now bytes) vspp (now bits) ⌝ }
+    ensures { λ r. ⌜ now (bits .exit) ≡ dispersedParts vspp (unpacked (length (now (bits .entry))) (now (bytes .entry))) ⌝ }
+{
+    unpack_dispersed(bytes, 0, &mut bits[0..vspp]);
+    unpack_dispersed(bytes, vspp, &mut bits[vspp..]);
+}
+
+// Part A's numbers to the first n1 cells, part B's to the cells from there on by the same step.
+pub fn map_parts(c: u8, n1: usize, numbers: &[u8], out: &mut [i16])
+    requires { ⌜ MapsParts c n1 (now numbers) (now out) ⌝ }
+    ensures { λ r. ⌜ now (out .exit) ≡ coordinates (constellation c) (now (numbers .entry)) ⌝ }
+{
+    let at = 2 * n1;
+    map_cells(c, &numbers[0..at], &mut out[0..at]);
+    map_cells(c, &numbers[at..], &mut out[at..]);
+}
+
+// The same, where each axis has numbers of its own.
+pub fn map_axes_parts(c: u8, n1: usize, re: &[u8], im: &[u8], out: &mut [i16])
+    requires { ⌜ MapsAxesParts c n1 (now re) (now im) (now out) ⌝ }
+    ensures { λ r. ⌜ now (out .exit) ≡ coordinates (constellation c) (weave (now (re .entry)) (now (im .entry))) ⌝ }
+{
+    let at = 2 * n1;
+    map_axes(c, &re[0..n1], &im[0..n1], &mut out[0..at]);
+    map_axes(c, &re[n1..], &im[n1..], &mut out[at..]);
+}

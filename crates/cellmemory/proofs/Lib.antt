@@ -1,0 +1,7 @@
+pub mod Ring
+pub mod Turns
+pub mod Points
+pub mod Laid
+pub mod Chains
+pub mod Progress
+pub mod FillerTurns

@@ -1,0 +1,55 @@
+-- The progress of memory from row to row. Assumes nothing.
+use Prim.Native.Nat.{ℕ, _+_, _-_, _*_, _%_, _≤_, _<_, min}
+use mathlib.Core.Path.{_≡_, sym, ap, _∙_}
+use mathlib.Core.List.{List}
+use native.Mathlib.Nat.{mod-eq-of-lt, mod-lt, mul-le-mul-right}
+use native.Mathlib.Omega.{arith}
+use lib.ListN.{length}
+use lib.IntN.{ℤ}
+use Rattle.settings.specs.Lengths.{nMux}
+use Rattle.settings.specs.Sizes.{depth}
+use Rattle.superframe.specs.declared.State.{State}
+use Rattle.superframe.specs.Memory.{slotSize}
+use Rattle.superframe.specs.Interleaving.{advanced}
+use Rattle.superframe.proofs.Coding.{depth-high}
+use Rattle.superframe.specs.Code.{progressOf, stateOf}
+use Rattle.cellmemory.specs.Contracts.{StateFits, nextState, later}
+use Rattle.cellmemory.proofs.Ring.{later-mod}
+
+pub positive : {a b : ℕ} → a < b → 0 < b
+positive h = omega arith
+
+-- The position after a frame, and that it stays below the depth.
+pub later-is : (D d p : ℕ) → d < D → p ≡ later D d → p ≡ (d + 1) % D
+later-is D d p h e =
+    let g : d % D ≡ d = mod-eq-of-lt h in
+    e ∙ ap (later D) (sym g) ∙ later-mod D d (omega arith)
+
+pub later-low : (D d p : ℕ) → d < D → p ≡ later D d → p < D
+later-low D d p h e = rw (later-is D d p h e) (mod-lt (d + 1) (positive h))
+
+-- The state after a frame, from the next position and count.
+pub next-state-is : (state : State) (D p c : ℕ) → D ≡ depth (state .settings) → state .position < D → p ≡ later D (state .position)
+    → c ≡ min (state .count + 1) (D - 1) → record { settings = state .settings; position = p; count = c } ≡ nextState state
+unfolding stateOf advanced progressOf
+next-state-is state D p c d h e f = rw (later-is D (state .position) p h e, f, d)
+
+-- It is in order too, with memory of the same length.
+pub next-fits : (state : State) (memory memory′ : List ℤ) → StateFits state memory → length memory′ ≡ length memory → StateFits (nextState state) memory′
+unfolding stateOf advanced progressOf
+next-fits state memory memory′ h e =
+    record {
+      allowed = h .allowed;
+      position = mod-lt (state .position + 1) (positive (h .position));
+      count = omega (arith, h .count);
+      slots = e ∙ h .slots;
+    }
+
+-- The most numbers of memory.
+pub memory-most : {state : State} {memory : List ℤ} → StateFits state memory → length memory ≤ 61180
+unfolding slotSize
+memory-most {state} h =
+    let m : depth (state .settings) * (2 * nMux (state .settings)) ≤ 5 * (2 * nMux (state .settings)) =
+    mul-le-mul-right (2 * nMux (state .settings)) (depth-high (state .settings))
+    in
+    omega (arith, h .slots, h .allowed .ranges .muxMost)

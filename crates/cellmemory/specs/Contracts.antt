@@ -1,0 +1,84 @@
+-- What the functions of this crate require and promise: nothing of 01 is stated here.
+use Prim.Native.Nat.{ℕ, _+_, _-_, _*_, _<_}
+use mathlib.Core.Path.{_≡_}
+use mathlib.Core.Bool.{Bool, cond, not, _&&_}
+use mathlib.Core.List.{List, [], _∷_}
+use lib.ListN.{length, getD, set}
+use lib.IntN.{ℤ, pos, negsuc}
+use lib.Dec.{eqb, leb, ltb}
+use Rattle.settings.specs.declared.Sizes.{Sizes}
+use Rattle.settings.specs.declared.Settings.{Settings}
+use Rattle.settings.specs.Accepted.{Accepted}
+use Rattle.settings.specs.Refusal.{first, refusal}
+use Rattle.settings.specs.Sizes.{depth, frameBytes, sdcBytes}
+use Rattle.superframe.specs.declared.State.{State}
+use Rattle.superframe.specs.Memory.{slotSize}
+use Rattle.superframe.specs.Interleaving.{advanced}
+use Rattle.superframe.specs.Call.{memoryLength}
+use Rattle.superframe.specs.Code.{progressOf, stateOf}
+
+-- State and memory in order: allowed settings, position and count below the depth, and memory of its length.
+pub record StateFits (state : State) (memory : List ℤ) : Type 0 where
+  pub allowed : Accepted (state .settings)
+  pub position : state .position < depth (state .settings)
+  pub count : state .count < depth (state .settings)
+  pub slots : length memory ≡ depth (state .settings) * slotSize (state .settings)
+
+-- The same with a row.
+pub record RowLent (state : State) (memory row : List ℤ) : Type 0 where
+  pub fits : StateFits state memory
+  pub long : length row ≡ slotSize (state .settings)
+
+-- The state after a frame: of a progress, position and count don't depend on memory.
+abbrev pub nextState : State → State
+nextState state = stateOf (state .settings) (advanced (depth (state .settings)) [] (progressOf state []))
+
+-- The slot before a slot; before the first comes the last.
+unfoldable pub previous : ℕ → ℕ → ℕ
+previous D slot = cond (eqb slot 0) (D - 1) (slot - 1)
+
+-- The delay after a delay.
+unfoldable pub later : ℕ → ℕ → ℕ
+later D d = cond (eqb (d + 1) D) 0 (d + 1)
+
+-- A list with the cell from number k of another at a place.
+unfoldable pub cellPut : List ℤ → ℕ → List ℤ → ℕ → List ℤ
+cellPut from k to at = set (set to at (getD from k (pos 0))) (at + 1) (getD from (k + 1) (pos 0))
+
+-- The same, or the list as it was where the cell is ignored.
+unfoldable pub withCell : ℕ → ℕ → List ℤ → ℕ → List ℤ → ℕ → List ℤ
+withCell d count row k memory at = cond (leb d count) (cellPut row k memory at) memory
+
+-- What putting a cell requires.
+pub record CellFits (from : List ℤ) (k : ℕ) (to : List ℤ) (at : ℕ) : Type 0 where
+  pub whence : k + 1 < length from
+  pub room : at + 1 < length to
+
+-- The numbers of the fillers, as many as there can be.
+abbrev pub fillerNumbers : List ℤ
+fillerNumbers = pos 1 ∷ pos 1 ∷ pos 1 ∷ negsuc 0 ∷ []
+
+-- Buffers of packed bytes, and of cells, of so many elements have their lengths.
+abbrev pub bytesLong : Sizes → ℕ → ℕ → ℕ → Bool
+bytesLong z fac sdc msc = eqb fac 27 && (eqb sdc (z .sdcbytes) && eqb msc (z .mscbytes))
+
+abbrev pub cellsLong : Sizes → ℕ → ℕ → ℕ → Bool
+cellsLong z fac sdc msc = eqb fac (z .facnumbers) && (eqb sdc (z .sdcnumbers) && eqb msc (z .mscnumbers))
+
+-- 1 to 10: the settings, a memory of so many numbers, and the tests of 9 and 10.
+unfoldable pub lengthRefusal : Sizes → ℕ → Bool → Bool → ℕ
+lengthRefusal z numbers nine ten =
+    first (ltb 0 (z .refusal)) (z .refusal)
+    (first (not (eqb numbers (z .memory))) 8 (first (not nine) 9 (first (not ten) 10 0)))
+
+-- The same by the settings, and what follows: a number m for the tests after 10.
+unfoldable pub refusalThen : Settings → List ℤ → Bool → Bool → ℕ → ℕ
+refusalThen s memory nine ten m =
+    first (ltb 0 (refusal s)) (refusal s)
+    (first (not (eqb (length memory) (memoryLength s))) 8 (first (not nine) 9 (first (not ten) 10 m)))
+
+-- An SDC block and three multiplex frames of allowed settings, as packed bytes.
+pub record Packed (s : Settings) (sdc msc : List ℕ) : Type 0 where
+  pub settings : refusal s ≡ 0
+  pub sdclong : length sdc ≡ sdcBytes s
+  pub msclong : length msc ≡ 3 * frameBytes s

@@ -1,0 +1,139 @@
+// Rows of MSC cells: what memory sends, and a row put back into memory. 01 "Cell interleaving"; 001 clause 7.6.
+use interleaver::order::next_place;
+use interleaver::order::offset_of;
+use interleaver::order::size_of;
+use settings::Settings;
+use settings::answers;
+use settings::tables;
+use superframe::State;
+ghost use mathlib.Core.Path.{_≡_};
+ghost use Prim.Native.Nat.{_+_, _-_, _<_, min};
+ghost use Rattle.settings.specs.Accepted.{Accepted};
+ghost use Rattle.settings.specs.Sizes.{depth};
+ghost use Rattle.superframe.specs.Memory.{slotSize};
+ghost use Rattle.superframe.specs.Interleaving.{sentRow, taken};
+ghost use Rattle.superframe.specs.Code.{progressOf};
+ghost use Rattle.cellmemory.specs.Contracts.{RowLent, CellFits, nextState, previous, later, cellPut, withCell};
+
+// The multiplication of the cell interleaver: t = 5.
+const T: usize = 5;
+
+// The numbers of a slot, of a row and of a multiplex frame's cells.
+pub fn slot_size(s: Settings) -> usize
+    requires { ⌜ Accepted s ⌝ }
+    ensures { λ r. ⌜ r ≡ slotSize s ⌝ }
+{
+    2 * tables::n_mux(s.mode, s.occupancy)
+}
+
+// The slot before a slot; before the first comes the last.
+fn previous_slot(depth: usize, slot: usize) -> usize
+    requires { ⌜ slot < depth ⌝ }
+    ensures { λ r. ⌜ r ≡ previous depth slot ⌝ }
+{
+    if slot == 0 {
+        return depth - 1;
+    }
+    slot - 1
+}
+
+// One more, 0 after the last: the delay of the next cell, the slot of the next frame.
+pub fn next_modulo(depth: usize, delay: usize) -> usize
+    requires { ⌜ delay < depth ⌝ }
+    ensures { λ r. ⌜ r ≡ later depth delay ⌝ }
+{
+    if delay + 1 == depth {
+        return 0;
+    }
+    delay + 1
+}
+
+// The count after a frame.
+fn next_count(depth: usize, count: usize) -> usize
+    requires { ⌜ count < depth ⌝ }
+    ensures { λ r. ⌜ r ≡ min (count + 1) (depth - 1) ⌝ }
+{
+    if count + 1 < depth {
+        return count + 1;
+    }
+    depth - 1
+}
+
+// The state after a frame: the position goes on to the next slot, and the count stops at D - 1.
+pub fn next_state(state: State) -> State
+    requires { ⌜ (state .position < depth (state .settings)) × (state .count < depth (state .settings)) ⌝ }
+    ensures { λ r. ⌜ r ≡ nextState state ⌝ }
+{
+    let s = state.settings;
+    let depth = answers::depth(s);
+    let position = next_modulo(depth, state.position as usize);
+    let count = next_count(depth, state.count as usize);
+    State {
+        settings: s,
+        position: position as u8,
+        count: count as u8,
+    }
+}
+
+// A cell's two numbers, from one list to another.
+fn copy_cell(from: &[i16], k: usize, to: &mut [i16], at: usize)
+    requires { ⌜ CellFits (now from) k (now to) at ⌝ }
+    ensures { λ r. ⌜ now (to .exit) ≡ cellPut (now (from .entry)) k (now (to .entry)) at ⌝ }
+{
+    to[at] = from[k];
+    to[at + 1] = from[k + 1];
+}
+
+// The sent cells of a frame whose own cells stand in memory at the position: what memory holds, whatever the count.
+pub fn send_row(state: State, memory: &[i16], out: &mut [i16])
+    requires { ⌜ RowLent state (now memory) (now out) ⌝ }
+    ensures { λ r. ⌜ now (out .exit) ≡ sentRow (state .settings) (now (memory .entry)) (state .position) ⌝ }
+{
+    let depth = answers::depth(state.settings);
+    let n = tables::n_mux(state.settings.mode, state.settings.occupancy);
+    let s = size_of(n);
+    let q = offset_of(s);
+    let mut place = 0;
+    let mut slot = state.position as usize;
+    let mut i = 0;
+    while i < n {
+        copy_cell(memory, slot * (2 * n) + 2 * place, out, 2 * i);
+        place = next_place(T, n, s, q, place);
+        slot = previous_slot(depth, slot);
+        i += 1;
+    }
+}
+
+// A cell of a row put into memory, unless it is of a frame before the first.
+fn take_cell(delay: usize, count: usize, row: &[i16], k: usize, memory: &mut [i16], at: usize)
+    requires { ⌜ CellFits (now row) k (now memory) at ⌝ }
+    ensures { λ r. ⌜ now (memory .exit) ≡ withCell delay count (now (row .entry)) k (now (memory .entry)) at ⌝ }
+{
+    if count < delay {
+        return;
+    }
+    copy_cell(row, k, memory, at);
+}
+
+// The numbers of a row put where the coder took them.
+pub fn take_row(state: State, row: &[i16], memory: &mut [i16])
+    requires { ⌜ RowLent state (now memory) (now row) ⌝ }
+    ensures { λ r. ⌜ now (memory .exit) ≡ taken (state .settings) (progressOf state (now (memory .entry))) (now (row .entry)) ⌝ }
+{
+    let depth = answers::depth(state.settings);
+    let n = tables::n_mux(state.settings.mode, state.settings.occupancy);
+    let count = state.count as usize;
+    let s = size_of(n);
+    let q = offset_of(s);
+    let mut place = 0;
+    let mut slot = state.position as usize;
+    let mut delay = 0;
+    let mut i = 0;
+    while i < n {
+        take_cell(delay, count, row, 2 * i, memory, slot * (2 * n) + 2 * place);
+        place = next_place(T, n, s, q, place);
+        slot = previous_slot(depth, slot);
+        delay = next_modulo(depth, delay);
+        i += 1;
+    }
+}

@@ -1,0 +1,267 @@
+-- A multiplex frame can be read back, in all four MSC modes. Assumes nothing.
+use Prim.Native.Nat.{ℕ, zero, suc, _+_, _*_, _/_, _%_, _≤_, _<_}
+use mathlib.Core.Path.{_≡_, refl, sym, ap, _∙_}
+use mathlib.Core.Logic.{_⊎_, inl, inr}
+use mathlib.Core.Bool.{Bool, true, false, cond, _&&_, _||_}
+use mathlib.Core.List.{List, [], _∷_, _++_}
+use native.Mathlib.Nat.{zero-add, mul-add, mul-zero, mul-mod-left}
+use native.Mathlib.Omega.{arith}
+use lib.ListN.{length, getD}
+use lib.Dec.{T, eqb, ltb, eqb→eq, ltb→lt, lit<}
+use borrow.Author.Tests.{eqb-true, ne-eqb}
+use Rattle.component.specs.Patterns.{RY, pattern}
+use Rattle.component.proofs.Codeword.{coded-none}
+use Rattle.component.proofs.Patterns.{pattern-sound, pattern-from, held}
+use Rattle.settings.specs.declared.Settings.{Settings}
+use Rattle.settings.specs.Rates.{rates, table67, table68, table69, table71, commonDenominator, vsppRate}
+use Rattle.settings.specs.Formulas.{hierarchical, width, partA, partB, partVspp, cellsA}
+use Rattle.settings.specs.Refusal.{topLevel}
+use Rattle.settings.specs.Lengths.{nMux, n1, n2, l1, l2, lVspp}
+use Rattle.settings.specs.Sizes.{frameBits}
+use Rattle.settings.specs.Accepted.{Level as Protection, Accepted}
+use Rattle.settings.proofs.LookUps.{all, all-at}
+use Rattle.component.proofs.Tests.{both-left, both-right}
+use Rattle.settings.proofs.Parts.{levels, level-at}
+use Rattle.settings.proofs.PartA.{divide, common-divides, times-denominator}
+use Rattle.block.specs.declared.Level.{Level}
+use Rattle.block.specs.Levels.{totalA, totalB}
+use Rattle.block.specs.Mapping.{HMMIX}
+use Rattle.block.specs.Block.{levelsOf, pointsOf, oneAxis, bitCount}
+use Rattle.block.proofs.Blocks.{levels-from, length-six}
+use Rattle.block.specs.Reading.{sizeA, sizeB}
+use Rattle.block.specs.Fits.{plain, LevelFits, LevelsFit, more, BlockFits}
+use Rattle.block.proofs.Mapping.{levelCount, constellation-labels}
+use Rattle.channels.specs.Msc.{vsppLevel, mscSteps, mscVspp, mscProtected, mscLevels, mscConstellation, mscBlock}
+use Rattle.channels.proofs.Coded.{sizeB-is, tail-fits, Step}
+use Rattle.channels.proofs.Protected.{Cells, protected-fit, protected-length, protected-totalA, protected-totalB}
+
+-- the level of the very strongly protected part has w N coded bits
+vspp-level : (w n rate : ℕ) → rate < 13 → 12 ≤ w * n → LevelFits (w * n) (vsppLevel w n rate)
+unfolding vsppLevel sizeA sizeB
+vspp-level w n rate h l =
+    record {
+      heldA = held (pattern-sound rate h);
+      heldB = held (pattern-sound rate h);
+      heldTail = held (tail-fits w n rate h);
+      small = lit< tt;
+      mixesA = plain refl;
+      mixesB = plain refl;
+      size = rw (pattern-from, pattern-from, coded-none (pattern rate) 0, zero-add) (sizeB-is w n rate h l);
+    }
+
+-- facts of every protection level, each one computed test
+few : (msc level : ℕ) → Protection msc level → T (all (λ r. ltb r 13) (rates msc level))
+unfolding rates table67 table68 table69 table71 topLevel
+few = level-at (λ m l. all (λ r. ltb r 13) (rates m l)) tt
+
+rates-low : (msc level : ℕ) → Protection msc level → (i : ℕ) → getD (rates msc level) i 0 < 13
+rates-low msc level P i = ltb→lt _ 13 (all-at (λ r. ltb r 13) (rates msc level) 0 (few msc level P) tt i)
+
+-- the number of levels goes by the MSC mode alone, is that of its constellation, and at most six
+count-levels : (msc level : ℕ) → Protection msc level
+    → cond (hierarchical msc) 1 0 + length (rates msc level) ≡ cond (eqb (mscConstellation msc) HMMIX) (2 * levelCount (mscConstellation msc)) (levelCount (mscConstellation msc))
+unfolding rates table67 table68 table69 table71 topLevel hierarchical mscConstellation levelCount
+count-levels msc level P =
+    eqb→eq _ _ (level-at (λ m l. eqb (cond (hierarchical m) 1 0 + length (rates m l)) (cond (eqb (mscConstellation m) HMMIX) (2 * levelCount (mscConstellation m)) (levelCount (mscConstellation m)))) tt msc level P)
+
+few-levels : (msc level : ℕ) → Protection msc level → cond (hierarchical msc) 1 0 + length (rates msc level) ≤ 6
+unfolding rates table67 table68 table69 table71 topLevel hierarchical
+few-levels msc level P =
+    let h : cond (hierarchical msc) 1 0 + length (rates msc level) < 7 = ltb→lt _ 7 (level-at (λ m l. ltb (cond (hierarchical m) 1 0 + length (rates m l)) 7) tt msc level P) in
+    omega arith
+
+-- HMmix is MSC mode 1, and every mode has a constellation
+mix-is : (msc : ℕ) → eqb (mscConstellation msc) HMMIX ≡ eqb msc 1
+unfolding mscConstellation
+mix-is zero = refl
+mix-is (suc zero) = refl
+mix-is (suc (suc zero)) = refl
+mix-is (suc (suc (suc zero))) = refl
+mix-is (suc (suc (suc (suc msc)))) = sym (ne-eqb (suc (suc (suc (suc msc)))) 1 (λ e. omega arith))
+
+constellation-low : (msc : ℕ) → mscConstellation msc < 5
+unfolding mscConstellation
+constellation-low msc = ltb→lt _ 5 (all-at (λ c. ltb c 5) (2 ∷ 4 ∷ 3 ∷ 1 ∷ []) 0 tt tt msc)
+
+vspp-rate-low : (level : ℕ) → vsppRate level < 13
+unfolding vsppRate
+vspp-rate-low zero = lit< tt
+vspp-rate-low (suc zero) = lit< tt
+vspp-rate-low (suc (suc zero)) = lit< tt
+vspp-rate-low (suc (suc (suc zero))) = lit< tt
+vspp-rate-low (suc (suc (suc (suc level)))) = lit< tt
+
+-- every t is 0 or one more than a multiple of 4, and small
+stepTest : ℕ → Bool
+stepTest t = (eqb t 0 || eqb (t % 4) 1) && ltb t 64
+
+passed : (t : ℕ) → T (stepTest t) → Step t
+unfolding stepTest
+passed t h = record { step = go (eqb t 0) (eqb (t % 4) 1) refl refl (both-left (eqb t 0 || eqb (t % 4) 1) (ltb t 64) h); small = ltb→lt t 64 (both-right (eqb t 0 || eqb (t % 4) 1) (ltb t 64) h) }
+  where
+    go : (a b : Bool) → eqb t 0 ≡ a → eqb (t % 4) 1 ≡ b → T (a || b) → (t ≡ 0) ⊎ (t % 4 ≡ 1)
+    go true b e f h = inl (eqb-true t 0 e)
+    go false true e f h = inr (eqb-true (t % 4) 1 f)
+    go false false e f h = absurd h
+
+steps-passed : (msc : ℕ) → T (all stepTest (mscSteps msc))
+unfolding mscSteps stepTest
+steps-passed zero = tt
+steps-passed (suc zero) = tt
+steps-passed (suc (suc zero)) = tt
+steps-passed (suc (suc (suc zero))) = tt
+steps-passed (suc (suc (suc (suc msc)))) = tt
+
+steps : (msc i : ℕ) → Step (getD (mscSteps msc) i 0)
+unfolding stepTest
+steps msc i = passed (getD (mscSteps msc) i 0) (all-at stepTest (mscSteps msc) 0 (steps-passed msc) tt i)
+
+-- the very strongly protected level in front, in the modes that have it
+module _ (b : Bool) (v : Level) (ls : List Level) where
+  front-fit : (n : ℕ) → LevelFits n v → LevelsFit n ls → LevelsFit n (cond b (v ∷ []) [] ++ ls)
+  front-fit n H F = go b
+    where
+      go : (b : Bool) → LevelsFit n (cond b (v ∷ []) [] ++ ls)
+      go true = more H F
+      go false = F
+
+  front-length : length (cond b (v ∷ []) [] ++ ls) ≡ cond b 1 0 + length ls
+  front-length = go b
+    where
+      go : (b : Bool) → length (cond b (v ∷ []) [] ++ ls) ≡ cond b 1 0 + length ls
+      go true = omega arith
+      go false = omega arith
+
+  front-totalA : totalA (cond b (v ∷ []) [] ++ ls) ≡ cond b (v .bitsa) 0 + totalA ls
+  unfolding totalA
+  front-totalA = go b
+    where
+      go : (b : Bool) → totalA (cond b (v ∷ []) [] ++ ls) ≡ cond b (v .bitsa) 0 + totalA ls
+      go true = refl
+      go false = sym (zero-add (totalA ls))
+
+  front-totalB : v .bitsb ≡ 0 → totalB (cond b (v ∷ []) [] ++ ls) ≡ totalB ls
+  unfolding totalB
+  front-totalB e = go b
+    where
+      go : (b : Bool) → totalB (cond b (v ∷ []) [] ++ ls) ≡ totalB ls
+      go true = rw e (zero-add (totalB ls))
+      go false = refl
+
+-- what the denominators of all rates divide, and its multiples
+divided : (d : ℕ) (rs : List ℕ) → T (divide d rs) → (c i : ℕ) → i < length rs → (c * d) % RY (getD rs i 0) ≡ 0
+divided d [] t c i h = absurd (omega arith)
+divided d (r ∷ rs) t c zero h =
+    let e : c * d ≡ (c * (d / RY r)) * RY r = times-denominator c d r (eqb→eq _ 0 (both-left (eqb (d % RY r) 0) (divide d rs) t)) in
+    rw e (mul-mod-left (c * (d / RY r)) (RY r))
+divided d (r ∷ rs) t c (suc i) h = divided d rs (both-right (eqb (d % RY r) 0) (divide d rs) t) c i (omega arith)
+
+none-or-enough : (w n : ℕ) → (n ≡ 0) ⊎ (8 ≤ w * n) → (w * n ≡ 0) ⊎ (5 ≤ w * n)
+none-or-enough w n (inl e) = inl (rw (e, mul-zero))
+none-or-enough w n (inr h) = inr (omega arith)
+
+wide : (msc n : ℕ) → n ≤ width msc * n
+unfolding width
+wide msc n = go (eqb msc 1)
+  where
+    go : (b : Bool) → n ≤ cond b 1 2 * n
+    go true = omega arith
+    go false = omega arith
+
+both-axes : (msc n : ℕ) → width msc * n ≡ cond (eqb msc 1) n (2 * n)
+unfolding width
+both-axes msc n = go (eqb msc 1)
+  where
+    go : (b : Bool) → cond b 1 2 * n ≡ cond b n (2 * n)
+    go true = omega arith
+    go false = refl
+
+module _ {s : Settings} (accepted : Accepted s) where
+  A : Protection (s .msc) (s .levela)
+  A = accepted .ranges .partA
+
+  B : Protection (s .msc) (s .levelb)
+  B = accepted .ranges .partB
+
+  pub cells : Cells (width (s .msc)) (n1 s) (n2 s) (rates (s .msc) (s .levela))
+  unfolding n1 cellsA
+  cells =
+      record {
+        whole = divided (commonDenominator (s .msc) (s .levela)) (rates (s .msc) (s .levela)) (common-divides (s .msc) (s .levela) A) _;
+        some = none-or-enough (width (s .msc)) (n1 s) (accepted .n1Some);
+        room = omega (arith, wide (s .msc) (n2 s), accepted .n2Least);
+      }
+
+  same-count : length (rates (s .msc) (s .levela)) ≡ length (rates (s .msc) (s .levelb))
+  same-count = omega (arith, count-levels (s .msc) (s .levela) A, count-levels (s .msc) (s .levelb) B)
+
+  levels-fit : LevelsFit (cond (eqb (mscConstellation (s .msc)) HMMIX) (nMux s) (2 * nMux s)) (mscLevels s)
+  unfolding mscLevels mscVspp mscProtected
+  levels-fit =
+      let e : width (s .msc) * n1 s + width (s .msc) * n2 s ≡ width (s .msc) * nMux s = rw (← mul-add, accepted .cells) in
+      let F = protected-fit (width (s .msc)) (n1 s) (n2 s) (rates (s .msc) (s .levela)) (rates (s .msc) (s .levelb)) (mscSteps (s .msc)) cells
+      (rates-low (s .msc) (s .levela) A) (rates-low (s .msc) (s .levelb) B) (steps (s .msc)) in
+      rw (mix-is, ← both-axes)
+      (front-fit (hierarchical (s .msc)) (mscVspp s) (mscProtected s) (width (s .msc) * nMux s)
+      (vspp-level (width (s .msc)) (nMux s) (vsppRate (s .vspp)) (vspp-rate-low (s .vspp)) (omega (arith, wide (s .msc) (nMux s), accepted .ranges .muxLeast)))
+      (rw e at F))
+
+  total-A : totalA (mscLevels s) ≡ lVspp s + l1 s
+  unfolding mscLevels mscVspp mscProtected vsppLevel lVspp partVspp l1 partA
+  total-A =
+      front-totalA (hierarchical (s .msc)) (mscVspp s) (mscProtected s)
+      ∙ ap (λ m. cond (hierarchical (s .msc)) (mscVspp s .bitsa) 0 + m)
+      (protected-totalA (width (s .msc)) (n1 s) (n2 s) (rates (s .msc) (s .levela)) (rates (s .msc) (s .levelb)) (mscSteps (s .msc)))
+
+  total-B : totalB (mscLevels s) ≡ l2 s
+  unfolding mscLevels mscVspp mscProtected vsppLevel l2 partB
+  total-B =
+      front-totalB (hierarchical (s .msc)) (mscVspp s) (mscProtected s) refl
+      ∙ protected-totalB (width (s .msc)) (n1 s) (n2 s) (rates (s .msc) (s .levela)) (rates (s .msc) (s .levelb)) (mscSteps (s .msc)) same-count
+
+  levels-are : levelsOf (mscBlock s) ≡ mscLevels s
+  unfolding mscBlock
+  levels-are = levels-from _ (mscLevels s) _ _ _
+
+  -- a multiplex frame has L_VSPP + L1 + L2 bits
+  pub msc-bits : bitCount (mscBlock s) ≡ frameBits s
+  unfolding bitCount frameBits
+  msc-bits = rw (levels-are, total-A, total-B) (omega arith)
+
+-- how many levels a multiplex frame has
+pub length-levels : (s : Settings) → length (mscLevels s) ≡ cond (hierarchical (s .msc)) 1 0 + length (rates (s .msc) (s .levela))
+unfolding mscLevels mscProtected
+length-levels s =
+    front-length (hierarchical (s .msc)) (mscVspp s) (mscProtected s)
+    ∙ ap (λ m. cond (hierarchical (s .msc)) 1 0 + m)
+    (protected-length (width (s .msc)) (n1 s) (n2 s) (rates (s .msc) (s .levela)) (rates (s .msc) (s .levelb)) (mscSteps (s .msc)))
+
+module _ {s : Settings} (accepted : Accepted s) where
+  P : Protection (s .msc) (s .levela)
+  P = accepted .ranges .partA
+
+  -- at most six levels
+  pub few-of : length (mscLevels s) ≤ 6
+  few-of = rw (length-levels s) (few-levels (s .msc) (s .levela) P)
+
+  front-low : mscBlock s .vspp ≤ bitCount (mscBlock s)
+  unfolding frameBits mscBlock
+  front-low = rw (msc-bits accepted) (omega arith)
+
+  -- a multiplex frame's levels and constellation allow its bits to be read back
+  pub msc-fits : BlockFits (mscBlock s)
+  unfolding mscBlock oneAxis pointsOf
+  msc-fits =
+      record {
+        streams = levelCount (mscConstellation (s .msc));
+        levels = ap length (levels-are accepted) ∙ length-levels s ∙ count-levels (s .msc) (s .levela) P;
+        fit = rw (levels-are accepted) (levels-fit accepted);
+        labels = constellation-labels (mscConstellation (s .msc));
+        front = front-low;
+        few = few-of;
+        room = length-six (mscLevels s);
+        known = constellation-low (s .msc);
+        part = omega (arith, accepted .n1Most);
+        most = accepted .ranges .muxMost;
+        short = rw (msc-bits accepted) (omega (arith, accepted .frameMost, accepted .ranges .muxMost));
+      }

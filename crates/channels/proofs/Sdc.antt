@@ -1,0 +1,102 @@
+-- An SDC block can be read back. Assumes nothing.
+use Prim.Native.Nat.{ℕ, zero, suc, _+_, _*_, _≤_, _<_}
+use mathlib.Core.Path.{_≡_, refl, ap, _∙_}
+use mathlib.Core.Logic.{inl, inr}
+use mathlib.Core.Bool.{cond}
+use mathlib.Core.List.{List, [], _∷_, map}
+use native.Mathlib.Nat.{zero-add, mul-zero, zero-mul, zero-div, zero-mod}
+use native.Mathlib.Omega.{arith}
+use lib.ListN.{length, getD}
+use lib.Dec.{eqb, lit<}
+use Rattle.lists.specs.Lists.{total}
+use Rattle.settings.specs.declared.Settings.{Settings}
+use Rattle.settings.specs.Rates.{sdcRates}
+use Rattle.settings.specs.Formulas.{bitsA, sdcBits}
+use Rattle.settings.specs.Lengths.{nSdc, lSdc}
+use Rattle.settings.specs.Accepted.{Accepted}
+use Rattle.block.specs.Mapping.{HMMIX}
+use Rattle.block.specs.Block.{levelsOf, pointsOf, oneAxis, bitCount}
+use Rattle.block.specs.Fits.{BlockFits}
+use Rattle.block.proofs.Mapping.{levelCount, constellation-labels}
+use Rattle.block.proofs.Blocks.{levels-from, length-six}
+use Rattle.channels.specs.Sdc.{sdcLevels, sdcSteps, sdcConstellation, sdcBlock}
+use Rattle.channels.proofs.Coded.{Step}
+use Rattle.channels.proofs.Protected.{protected-fit, protected-length, protected-totalA, protected-totalB}
+
+-- no cells of part A have no bits
+none-A : (rs : List ℕ) → total (map (bitsA 2 0) rs) ≡ 0
+unfolding total bitsA
+none-A [] = refl
+none-A (rate ∷ rs) = rw (mul-zero, zero-mul, zero-div, none-A rs)
+
+levels-are : (s : Settings) → levelsOf (sdcBlock s) ≡ sdcLevels s
+unfolding sdcBlock
+levels-are s = levels-from 0 (sdcLevels s) _ _ _
+
+-- as many bits as the formula says
+pub sdc-bits : (s : Settings) → bitCount (sdcBlock s) ≡ lSdc s
+unfolding bitCount lSdc sdcBits sdcLevels
+sdc-bits s =
+    let rs = sdcRates (s .sdc) in
+    let ts = sdcSteps (s .sdc) in
+    rw (levels-are s, protected-totalA 2 0 (nSdc s) rs rs ts, none-A rs, protected-totalB 2 0 (nSdc s) rs rs ts refl, zero-add)
+
+-- the rates, steps and constellation of both SDC modes
+rates-low : (sdc : ℕ) → sdc ≤ 1 → (i : ℕ) → getD (sdcRates sdc) i 0 < 13
+unfolding sdcRates
+rates-low zero h zero = lit< tt
+rates-low zero h (suc zero) = lit< tt
+rates-low zero h (suc (suc i)) = lit< tt
+rates-low (suc zero) h zero = lit< tt
+rates-low (suc zero) h (suc i) = lit< tt
+rates-low (suc (suc sdc)) h i = absurd (omega arith)
+
+steps : (sdc : ℕ) → sdc ≤ 1 → (i : ℕ) → Step (getD (sdcSteps sdc) i 0)
+unfolding sdcSteps
+steps zero h zero = record { step = inr refl; small = lit< tt }
+steps zero h (suc zero) = record { step = inr refl; small = lit< tt }
+steps zero h (suc (suc i)) = record { step = inl refl; small = lit< tt }
+steps (suc zero) h zero = record { step = inr refl; small = lit< tt }
+steps (suc zero) h (suc i) = record { step = inl refl; small = lit< tt }
+steps (suc (suc sdc)) h i = absurd (omega arith)
+
+pub length-levels : (s : Settings) → length (sdcLevels s) ≡ length (sdcRates (s .sdc))
+unfolding sdcLevels
+length-levels s = protected-length 2 0 (nSdc s) (sdcRates (s .sdc)) (sdcRates (s .sdc)) (sdcSteps (s .sdc))
+
+-- two levels in 16-QAM, one in 4-QAM
+record Counted (sdc : ℕ) : Type 0 where
+  levels : length (sdcRates sdc) ≡ cond (eqb (sdcConstellation sdc) HMMIX) (2 * levelCount (sdcConstellation sdc)) (levelCount (sdcConstellation sdc))
+  few : length (sdcRates sdc) ≤ 6
+  known : sdcConstellation sdc < 5
+  both : (n : ℕ) → 2 * 0 + 2 * n ≡ cond (eqb (sdcConstellation sdc) HMMIX) n (2 * n)
+
+counted : (sdc : ℕ) → sdc ≤ 1 → Counted sdc
+unfolding sdcRates levelCount sdcConstellation
+counted zero h = record { levels = refl; few = omega arith; known = lit< tt; both = λ n. omega arith }
+counted (suc zero) h = record { levels = refl; few = omega arith; known = lit< tt; both = λ n. omega arith }
+counted (suc (suc sdc)) h = absurd (omega arith)
+
+-- an SDC block's levels and constellation allow its bits to be read back
+pub sdc-fits : {s : Settings} → Accepted s → BlockFits (sdcBlock s)
+unfolding sdcBlock sdcLevels oneAxis pointsOf
+sdc-fits {s} A =
+    let h : s .sdc ≤ 1 = A .ranges .sdc in
+    let rs = sdcRates (s .sdc) in
+    let C = counted (s .sdc) h in
+    let F = protected-fit 2 0 (nSdc s) rs rs (sdcSteps (s .sdc))
+    (record { whole = λ i x. zero-mod _; some = inl (mul-zero 2); room = omega (arith, A .ranges .sdcLeast) })
+    (rates-low (s .sdc) h) (rates-low (s .sdc) h) (steps (s .sdc) h) in
+    record {
+      streams = levelCount (sdcConstellation (s .sdc));
+      levels = ap length (levels-are s) ∙ length-levels s ∙ C .levels;
+      fit = rw (levels-are s, ← C .both (nSdc s)) F;
+      labels = constellation-labels (sdcConstellation (s .sdc));
+      front = omega arith;
+      few = rw (length-levels s) (C .few);
+      room = length-six (sdcLevels s);
+      known = C .known;
+      part = omega arith;
+      most = omega (arith, A .ranges .sdcMost);
+      short = rw (sdc-bits s) (omega (arith, A .sdcBitsMost));
+    }

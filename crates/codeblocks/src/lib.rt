@@ -1,2 +1,0 @@
-// The blocks of a Code call.
-pub mod blocks;

@@ -1,0 +1,71 @@
+// The blocks of a Code call: the cells of the FAC blocks, and the rows and fillers of the multiplex frames. 01 "Buffers and state" and "Operations".
+use blockcoder::code::code_block;
+use cellmemory::fillers::write_fillers;
+use cellmemory::rows::next_state;
+use cellmemory::rows::send_row;
+use cellmemory::rows::slot_size;
+use channels::blocks::fac_block;
+use channels::blocks::msc_block;
+use settings::answers;
+use settings::tables::FAC_BYTES;
+use settings::tables::FAC_NUMBERS;
+use superframe::State;
+ghost use mathlib.Core.Path.{_≡_};
+ghost use mathlib.Core.List.{map};
+ghost use lib.ListN.{length};
+ghost use Rattle.block.specs.Block.{cellsFrom};
+ghost use Rattle.channels.specs.Fac.{facBlock};
+ghost use Rattle.superframe.specs.Call.{parts, joined};
+ghost use Rattle.codecall.specs.Contracts.{FrameFits, FrameCoded, MscFits, MscCoded};
+
+// The cells of three FAC blocks.
+pub fn code_fac(fac: &[u8], cells: &mut [i16])
+    requires { ⌜ (length (now fac) ≡ 27) × (length (now cells) ≡ 390) ⌝ }
+    ensures { λ r. ⌜ now (cells .exit) ≡ joined (map (cellsFrom facBlock) (parts 9 (now (fac .entry)))) ⌝ }
+{
+    let mut k = 0;
+    while k < 3 {
+        code_block(
+            fac_block(),
+            &fac[FAC_BYTES * k..FAC_BYTES * k + FAC_BYTES],
+            &mut cells[FAC_NUMBERS * k..FAC_NUMBERS * k + FAC_NUMBERS],
+        );
+        k += 1;
+    }
+}
+
+// A frame's cells stored at the position, and the row that is sent then.
+fn code_frame(state: State, bytes: &[u8], memory: &mut [i16], row: &mut [i16])
+    requires { ⌜ FrameFits state (now bytes) (now memory) (now row) ⌝ }
+    ensures { λ r. ⌜ FrameCoded state (now (bytes .entry)) (now (memory .entry)) (now (memory .exit)) (now (row .exit)) ⌝ }
+{
+    let s = state.settings;
+    let n = slot_size(s);
+    let at = state.position as usize * n;
+    code_block(msc_block(s), bytes, &mut memory[at..at + n]);
+    send_row(state, memory, row);
+}
+
+// The MSC sequence, three rows and the fillers, and the state after it.
+pub fn code_msc(state: State, msc: &[u8], memory: &mut [i16], cells: &mut [i16]) -> State
+    requires { ⌜ MscFits state (now msc) (now memory) (now cells) ⌝ }
+    ensures { λ r. ⌜ MscCoded state (now (msc .entry)) (now (memory .entry)) r (now (memory .exit)) (now (cells .exit)) ⌝ }
+{
+    let s = state.settings;
+    let n = slot_size(s);
+    let bytes = answers::frame_bytes(s);
+    let mut after = state;
+    let mut i = 0;
+    while i < 3 {
+        code_frame(
+            after,
+            &msc[bytes * i..bytes * i + bytes],
+            memory,
+            &mut cells[n * i..n * i + n],
+        );
+        after = next_state(after);
+        i += 1;
+    }
+    write_fillers(&mut cells[3 * n..]);
+    after
+}

@@ -1,4 +1,0 @@
-pub mod Lists
-pub mod Woven
-pub mod Halves
-pub mod Blocks

@@ -1,2 +1,0 @@
-pub mod Coder
-pub mod Parts

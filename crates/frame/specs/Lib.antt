@@ -1,6 +1,0 @@
-pub mod Protected
-pub mod Fac
-pub mod Sdc
-pub mod Msc
-pub mod Contracts
-pub mod Cases

@@ -1,7 +1,0 @@
-pub mod Parts
-pub mod OneLevel
-pub mod Partition
-pub mod Totals
-pub mod Summing
-pub mod OneRead
-pub mod LevelsRead

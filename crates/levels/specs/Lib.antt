@@ -1,3 +1,0 @@
-pub mod Partition
-pub mod LevelCalls
-pub mod Reads

@@ -1,4 +1,0 @@
-// Levels of a block: coded into numbers and read from them.
-pub mod code;
-pub mod places;
-pub mod read;

@@ -1,0 +1,47 @@
+-- What the functions of this crate require of the buffers that they are lent: nothing of 01 is stated here.
+use Prim.Native.Nat.{ℕ, _*_, _%_, _<_}
+use mathlib.Core.Path.{_≡_}
+use mathlib.Core.List.{List}
+use mathlib.Core.Bool.{Bool}
+use lib.ListN.{length, getD}
+use lib.IntN.{ℤ, pos}
+use lib.Dec.{eqb}
+use lib.Bits.{bitAnd}
+use mir.Syntax.{w16}
+use mir.Val.{SFits, ofZ}
+use Rattle.block.specs.Mapping.{constellation}
+use Rattle.block.specs.Points.{onAxis}
+
+-- Numbers of at most three level bits.
+pub record Numbers (l : List ℕ) : Type 0 where
+  pub low : (k : ℕ) → getD l k 0 < 8
+
+-- A constellation, whole cells, and a number of level bits for each coordinate.
+pub record Maps (c : ℕ) (numbers : List ℕ) (out : List ℤ) : Type 0 where
+  pub known : c < 5
+  pub same : length out ≡ length numbers
+  pub whole : length numbers % 2 ≡ 0
+  pub low : Numbers numbers
+
+-- A constellation, and a number of level bits of each axis for each cell.
+pub record MapsAxes (c : ℕ) (re im : List ℕ) (out : List ℤ) : Type 0 where
+  pub known : c < 5
+  pub same : length out ≡ 2 * length re
+  pub both : length im ≡ length re
+  pub lowReal : Numbers re
+  pub lowImaginary : Numbers im
+
+-- A constellation, whole cells, and room for a number for each coordinate.
+pub record Unmaps (c : ℕ) (cells : List ℤ) (out : List ℕ) : Type 0 where
+  pub known : c < 5
+  pub same : length out ≡ length cells
+  pub whole : length cells % 2 ≡ 0
+
+-- Number v is the one that a table holds at its four lowest binary digits.
+abbrev pub inTable : List ℤ → ℤ → Bool
+inTable known v = eqb (ofZ w16 v) (ofZ w16 (getD known (bitAnd (ofZ w16 v) 15) (pos 0)))
+
+-- A table that holds the coordinates of both axes of constellation c.
+pub record Holds (c : ℕ) (known : List ℤ) : Type 0 where
+  pub real : (v : ℤ) → SFits w16 v → inTable known v ≡ onAxis (constellation c .real) v
+  pub imaginary : (v : ℤ) → SFits w16 v → inTable known v ≡ onAxis (constellation c .imaginary) v

@@ -1,0 +1,176 @@
+-- Coding of one level, part by part. Assumes nothing.
+use Prim.Native.Nat.{ℕ, _+_, _-_, _≤_}
+use mathlib.Core.Path.{_≡_, sym, _∙_}
+use mathlib.Core.List.{List, [], _++_, append-nil}
+use native.Mathlib.Omega.{arith}
+use lib.Dec.{lit<}
+use lib.ListN.{length, take, drop, length-append, length-drop}
+use lib.Seq.{sets, length-sets, length-take-le, take-all, drop-length}
+use Rattle.lists.proofs.Parts.{from-start}
+use Rattle.component.specs.Register.{after}
+use Rattle.component.specs.Codeword.{encode, tailBits}
+use Rattle.component.specs.Decoding.{codedLength, segment}
+use Rattle.component.specs.Coding.{patternOf, Held, Encodes, Encoded}
+use Rattle.multilevel.specs.Contracts.{added, codedWithTail, Room, AddsPart, CodesA, CodedA, CodesB, CodesLevel}
+use Rattle.component.proofs.Register.{after-low}
+use Rattle.component.proofs.Codeword.{encode-bits, codeword-bits, codeword-one, codeword-two, length-tail}
+use Rattle.multilevel.proofs.Weights.{added-length, added-front, added-rest, added-behind}
+use Rattle.block.specs.declared.Level.{Level}
+use Rattle.block.specs.Levels.{codedA, codedB, mixed, stream}
+use Rattle.block.specs.Reading.{sizeA, sizeB}
+use Rattle.block.proofs.Levels.{length-mixed}
+use Rattle.multilevel.proofs.Parts.{room-take, room-drop, front, length-by}
+
+-- part A can be coded
+pub a-encodes : {l : Level} {w : ℕ} {bits coded numbers : List ℕ} → CodesA l w bits coded numbers → Held (l .patterna) × Encodes (patternOf (l .patterna)) 0 bits coded 0
+a-encodes R = (R .held, record { sound = R .held .sound; seven = lit< tt; input = R .input; room = omega (arith, R .there, R .buffer) })
+
+module _ {l : Level} {w : ℕ} {bits coded numbers : List ℕ} (R : CodesA l w bits coded numbers)
+    {r n : ℕ} {coded′ : List ℕ} (E : Encoded (patternOf (l .patterna)) 0 bits coded 0 r n coded′) where
+  length-first : length (encode (patternOf (l .patterna)) 0 0 bits) ≡ n
+  length-first = omega (arith, E .place)
+
+  count : n ≡ codedLength (patternOf (l .patterna)) 0 (length bits)
+  count = sym length-first ∙ length-by (R .held) 0 bits
+
+  -- part A's coded bits are within the buffer, and there are numbers for them
+  pub within-coded : n ≤ length coded′
+  within-coded = rw (E .written, length-sets coded 0 (encode (patternOf (l .patterna)) 0 0 bits)) (omega (arith, count, R .buffer, R .there))
+
+  pub within-numbers : n ≤ length numbers
+  within-numbers = omega (arith, count, R .there)
+
+  first-is : take (n - 0) coded′ ≡ encode (patternOf (l .patterna)) 0 0 bits
+  first-is = rw (from-start n, E .written) (front (encode (patternOf (l .patterna)) 0 0 bits) coded n length-first (omega (arith, count, R .buffer, R .there)))
+
+  length-taken : length (take (n - 0) numbers) ≡ n
+  length-taken = rw (from-start n) (length-take-le n numbers within-numbers)
+
+  -- they can be added to the first numbers
+  pub adds-a : AddsPart (l .t) w (take (n - 0) coded′) (take (n - 0) numbers)
+  adds-a =
+      record {
+        mixes = rw (length-taken, count) (R .mixes);
+        same = rw (first-is, length-taken) length-first;
+        input = rw first-is (encode-bits (patternOf (l .patterna)) 0 0 bits);
+        room = room-take (n - 0) (R .room);
+      }
+
+  -- and are then added
+  pub coded-a : {part : List ℕ} → part ≡ added w (mixed (l .t) (take (n - 0) coded′)) (take (n - 0) numbers)
+      → CodedA l w bits numbers r n (part ++ drop (n - 0) numbers)
+  coded-a e =
+      let x = mixed (l .t) (encode (patternOf (l .patterna)) 0 0 bits) in
+      record {
+        state = E .state;
+        place = count;
+        written = rw (e, first-is, from-start n) (sym (added-front w x numbers n (length-mixed (l .t) (encode (patternOf (l .patterna)) 0 0 bits) ∙ length-first) within-numbers));
+      }
+
+module _ {l : Level} {r w : ℕ} {bits coded numbers : List ℕ} (R : CodesB l r w bits coded numbers) where
+  -- part B and its tail have as many coded bits as there are numbers
+  length-word : length (codedWithTail l r bits) ≡ length numbers
+  length-word =
+      rw (
+        codeword-two r (segment (patternOf (l .patternb)) bits) (segment (patternOf (l .tail)) tailBits),
+        length-append,
+        length-by (R .encodes .held) r bits,
+        length-by (R .encodes .heldTail) (after r bits) tailBits,
+        length-tail,
+      )
+      (omega (arith, R .size))
+
+  module _ {coded′ : List ℕ} (e : coded′ ≡ sets coded 0 (codedWithTail l r bits)) where
+    word-is : take (length numbers - 0) coded′ ≡ codedWithTail l r bits
+    word-is = rw (from-start (length numbers), e) (front _ coded (length numbers) length-word (omega (arith, R .size, R .encodes .room)))
+
+    -- they can be added to them
+    pub adds-b : AddsPart (l .t) w (take (length numbers - 0) coded′) numbers
+    adds-b = record { mixes = R .mixes; same = rw word-is length-word; input = rw word-is (codeword-bits r _); room = R .room }
+
+    -- and are then added
+    pub coded-b : {out : List ℕ} → out ≡ added w (mixed (l .t) (take (length numbers - 0) coded′)) numbers
+        → out ≡ added w (mixed (l .t) (codedWithTail l r bits)) numbers
+    coded-b f = rw word-is at f
+
+module _ {l : Level} {w : ℕ} {a b coded numbers : List ℕ} (R : CodesLevel l w a b coded numbers) where
+  -- the coded bits of both parts together
+  sizes : codedLength (patternOf (l .patterna)) 0 (length a) + (codedLength (patternOf (l .patternb)) 0 (length b) + codedLength (patternOf (l .tail)) 0 6) ≡ length numbers
+  unfolding sizeA sizeB
+  sizes = rw (R .longA, R .longB) (R .fits .size)
+
+  room-all : Room (l .t) w numbers
+  room-all = record { small = R .fits .small; high = R .high; sums = R .sums }
+
+  -- part A can be coded
+  pub codes-a : CodesA l w a coded numbers
+  unfolding sizeA
+  codes-a =
+      record {
+        held = R .fits .heldA;
+        input = R .inputA;
+        mixes = rw (R .longA) (R .fits .mixesA);
+        there = omega (arith, sizes);
+        buffer = R .buffer;
+        room = room-all;
+      }
+
+  -- a level's stream is that of its two parts
+  stream-is : stream l a b
+      ≡ mixed (l .t) (encode (patternOf (l .patterna)) 0 0 a) ++ mixed (l .t) (codedWithTail l (after 0 a) b)
+  unfolding stream codedA codedB
+  stream-is = rw (codeword-one 0 (segment (patternOf (l .patterna)) a))
+
+  module _ {r n : ℕ} {numbers′ : List ℕ} (C : CodedA l w a numbers r n numbers′) where
+    first-length : length (mixed (l .t) (encode (patternOf (l .patterna)) 0 0 a)) ≡ n
+    first-length = length-mixed (l .t) (encode (patternOf (l .patterna)) 0 0 a) ∙ length-by (R .fits .heldA) 0 a ∙ sym (C .place)
+
+    low : n ≤ length numbers
+    low = omega (arith, sizes, C .place)
+
+    kept : length numbers′ ≡ length numbers
+    kept = rw (C .written) (added-length w (mixed (l .t) (encode (patternOf (l .patterna)) 0 0 a)) numbers)
+
+    -- there are numbers behind part A
+    pub behind-a : n ≤ length numbers′
+    behind-a = omega (arith, low, kept)
+
+    rest-is : take (length numbers′ - n) (drop n numbers′) ≡ drop n numbers′
+    rest-is = take-all (length numbers′ - n) (drop n numbers′) (rw length-drop (omega arith))
+
+    rest-length : length (drop n numbers′) ≡ codedLength (patternOf (l .patternb)) 0 (length b) + codedLength (patternOf (l .tail)) 0 6
+    rest-length = rw length-drop (omega (arith, sizes, C .place, kept))
+
+    rest-kept : drop n numbers′ ≡ drop n numbers
+    rest-kept = rw (C .written) (added-rest w (mixed (l .t) (encode (patternOf (l .patterna)) 0 0 a)) numbers n first-length low)
+
+    -- part B can be coded and added to them
+    pub codes-b : {coded′ : List ℕ} → length coded′ ≡ length coded → CodesB l r w b coded′ (take (length numbers′ - n) (drop n numbers′))
+    unfolding sizeB
+    codes-b e =
+        record {
+          encodes = record {
+            held = R .fits .heldB;
+            heldTail = R .fits .heldTail;
+            seven = rw (C .state) (after-low (lit< tt) (R .inputA));
+            input = R .inputB;
+            room = omega (arith, e, sizes, R .buffer);
+          };
+          mixes = rw (rest-is, rest-length, R .longB) (R .fits .mixesB);
+          size = rw (rest-is, rest-length);
+          room = rw (rest-is, rest-kept) (room-drop n room-all);
+        }
+
+    none-left : drop (length numbers′ - n) (drop n numbers′) ≡ []
+    none-left = rw (← length-drop n numbers′) (drop-length (drop n numbers′))
+
+    -- and then the level's stream is added
+    pub coded-level : {part : List ℕ}
+        → part ≡ added w (mixed (l .t) (codedWithTail l r b)) (take (length numbers′ - n) (drop n numbers′))
+        → take n numbers′ ++ (part ++ drop (length numbers′ - n) (drop n numbers′))
+        ≡ added w (stream l a b) numbers
+    coded-level {part} e =
+        let x = mixed (l .t) (encode (patternOf (l .patterna)) 0 0 a) in
+        let y = mixed (l .t) (codedWithTail l (after 0 a) b) in
+        let p : part ≡ added w y (drop n numbers′) = rw (rest-is, C .state) at e in
+        rw (none-left, append-nil part, p, C .written, stream-is) (sym (added-behind w x y numbers n first-length low))

@@ -1,0 +1,87 @@
+-- The bits of levels before a level, and a level's bits among those of parts A and B. Assumes nothing.
+use Prim.Native.Nat.{ℕ, zero, suc, _+_, _-_, _≤_, _<_}
+use mathlib.Core.Path.{_≡_, refl}
+use mathlib.Core.Logic.{_⊎_, inl, inr}
+use mathlib.Core.Bool.{Bool, true, false}
+use mathlib.Core.List.{List}
+use native.Mathlib.Nat.{eq-or-lt-of-le}
+use native.Mathlib.Numerals.{add-one}
+use native.Mathlib.Omega.{arith}
+use lib.ListN.{length, take, drop, length-take, length-drop}
+use Rattle.component.specs.Bits.{Bits}
+use Rattle.component.proofs.Bits.{bits-drop}
+use Rattle.multilevel.specs.Contracts.{added, CodesLevel, levelAt, bitsIn, bitsBefore, streamAt, Sums, LevelThere, CodesAt}
+use Rattle.block.specs.declared.Level.{Level}
+use Rattle.block.specs.Levels.{stream}
+use Rattle.block.proofs.Lists.{bits-take}
+
+-- the sums grow
+pub before-mono : (ls : List Level) (b : Bool) (i l : ℕ) → i ≤ l → bitsBefore ls b i ≤ bitsBefore ls b l
+unfolding bitsBefore
+before-mono ls b i zero h = let e : i ≡ 0 = omega arith in rw e (omega arith)
+before-mono ls b i (suc l) h = go (eq-or-lt-of-le h) (before-mono ls b i l)
+  where
+    go : (i ≡ suc l) ⊎ (i < suc l) → (i ≤ l → bitsBefore ls b i ≤ bitsBefore ls b l) → bitsBefore ls b i ≤ bitsBefore ls b l + bitsIn b (levelAt ls l)
+    go (inl e) ih = rw e (omega arith)
+    go (inr k) ih = omega (arith, ih (omega arith))
+
+-- one more level
+pub before-next : (ls : List Level) (b : Bool) (i s : ℕ) → s ≡ bitsBefore ls b i → s + bitsIn b (levelAt ls i) ≡ bitsBefore ls b (i + 1)
+unfolding bitsBefore
+before-next ls b i s e = rw (add-one, e)
+
+-- it can be counted too
+pub before-fits : {ls : List Level} {b : Bool} {l : ℕ} → Sums ls b l → (i : ℕ) → i < l → bitsBefore ls b i + bitsIn b (levelAt ls i) ≤ 65536
+before-fits {ls} {b} {l} S i h = omega (arith, before-next ls b i _ refl, before-mono ls b (i + 1) l (omega arith), S .fits)
+
+-- a level's bits in a part: n of them from d on
+module _ (v : List ℕ) (s n d : ℕ) (e : s ≡ d) where
+  pub part-is : take (s + n - s) (drop s v) ≡ take n (drop d v)
+  part-is = let f : d + n - d ≡ n = omega arith in rw (e, f)
+
+  pub part-long : d + n ≤ length v → length (take (s + n - s) (drop s v)) ≡ n
+  part-long h = rw (part-is, length-take, length-drop) (omega arith)
+
+  pub part-bits : Bits v → Bits (take (s + n - s) (drop s v))
+  part-bits B = rw part-is (bits-take n (bits-drop d B))
+
+module _ {ls : List Level} {n : ℕ} {a b : List ℕ} {l : ℕ} (L : LevelThere ls n a b l) where
+  -- the bits of the levels before it can be counted
+  pub sums-a : Sums ls false l
+  sums-a = record { there = omega (arith, L .there); fits = omega (arith, before-mono ls false l (suc l) (omega arith), L .withinA, L .short .0) }
+
+  pub sums-b : Sums ls true l
+  sums-b = record { there = omega (arith, L .there); fits = omega (arith, before-mono ls true l (suc l) (omega arith), L .withinB, L .short .1) }
+
+  -- its own end within those of part A, and of part B
+  pub ends-a : {s : ℕ} → s ≡ bitsBefore ls false l → s + levelAt ls l .bitsa ≤ length a
+  unfolding bitsBefore bitsIn
+  ends-a es = rw es (L .withinA)
+
+  pub ends-b : {r : ℕ} → r ≡ bitsBefore ls true l → r + levelAt ls l .bitsb ≤ length b
+  unfolding bitsBefore bitsIn
+  ends-b er = rw er (L .withinB)
+
+module _ {ls : List Level} {l w : ℕ} {a b coded numbers : List ℕ} (C : CodesAt ls l w a b coded numbers)
+    {s r : ℕ} (es : s ≡ bitsBefore ls false l) (er : r ≡ bitsBefore ls true l) where
+  -- what coding the level requires
+  pub codes-level : CodesLevel (levelAt ls l) w (take (s + levelAt ls l .bitsa - s) (drop s a)) (take (r + levelAt ls l .bitsb - r) (drop r b)) coded numbers
+  codes-level =
+      record {
+        fits = C .level .fits;
+        longA = part-long a s (levelAt ls l .bitsa) s refl (ends-a (C .level) es);
+        longB = part-long b r (levelAt ls l .bitsb) r refl (ends-b (C .level) er);
+        inputA = part-bits a s (levelAt ls l .bitsa) s refl (C .inputA);
+        inputB = part-bits b r (levelAt ls l .bitsb) r refl (C .inputB);
+        buffer = C .buffer;
+        high = omega (arith, C .level .high);
+        sums = C .sums;
+      }
+
+  -- so that the numbers have its stream added
+  pub coded-is : {after : List ℕ}
+      → after ≡ added w (stream (levelAt ls l) (take (s + levelAt ls l .bitsa - s) (drop s a)) (take (r + levelAt ls l .bitsb - r) (drop r b))) numbers
+      → after ≡ added w (streamAt ls a b l) numbers
+  unfolding streamAt
+  coded-is e =
+      rw (part-is a s (levelAt ls l .bitsa) (bitsBefore ls false l) es, part-is b r (levelAt ls l .bitsb) (bitsBefore ls true l) er) at e

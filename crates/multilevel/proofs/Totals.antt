@@ -1,0 +1,172 @@
+-- The levels of a block one by one: their bits, their streams, and what coding them requires. Assumes nothing.
+use Prim.Native.Nat.{ℕ, zero, suc, _+_, _*_, _^_, _≤_, _<_}
+use mathlib.Core.Path.{_≡_, refl, sym, ap, ap₂, _∙_}
+use mathlib.Core.Bool.{Bool, true, false, cond}
+use mathlib.Core.Logic.{_⊎_, inl, inr}
+use mathlib.Core.List.{List, _∷_}
+use native.Mathlib.Nat.{add-zero, zero-add, pow-suc, mul-suc}
+use native.Mathlib.Numerals.{add-one}
+use native.Mathlib.Omega.{arith}
+use lib.ListN.{length, getD, drop, length-drop}
+use lib.Seq.{drop-drop, length-take-le, getD-take}
+use lib.Pow.{pow-mono}
+use Rattle.lists.specs.Lists.{table}
+use Rattle.lists.proofs.Counting.{below-or}
+use Rattle.lists.proofs.Tables.{take-table}
+use Rattle.component.specs.Bits.{Bits}
+use Rattle.component.proofs.Bits.{bits-drop}
+use Rattle.block.specs.declared.Level.{Level}
+use Rattle.block.specs.declared.Block.{Block}
+use Rattle.block.specs.Levels.{totalA, totalB, streams}
+use Rattle.block.specs.Mapping.{constellation, numberAt}
+use Rattle.block.specs.Block.{levelsOf, pointsOf, oneAxis, bitCount}
+use Rattle.block.specs.Fits.{Labels, LevelFits, LevelsFit, none, more, BlockFits}
+use Rattle.block.proofs.Lists.{bits-take}
+use Rattle.block.proofs.Levels.{bits-stream, length-stream}
+use Rattle.block.proofs.Mapping.{levelCount, constellation-labels}
+use Rattle.multilevel.specs.Contracts.{pastLevels, levelAt, bitsIn, bitsBefore, streamAt, stepped, Sums, LevelThere, LevelsThere, none, more, CodesLevels, PartsOf}
+use Rattle.multilevel.proofs.Partition.{before-mono}
+
+-- the bits of part A of levels from k on, and of part B
+module _ (ls : List Level) where
+  totalA-table : (k n : ℕ) → bitsBefore ls false k + totalA (table (levelAt ls) k n) ≡ bitsBefore ls false (k + n)
+  unfolding table totalA bitsBefore bitsIn
+  totalA-table k zero = rw (add-zero, add-zero)
+  totalA-table k (suc n) = let e : k + suc n ≡ suc k + n = omega arith in rw e (omega (arith, totalA-table (suc k) n))
+
+  totalB-table : (k n : ℕ) → bitsBefore ls true k + totalB (table (levelAt ls) k n) ≡ bitsBefore ls true (k + n)
+  unfolding table totalB bitsBefore bitsIn
+  totalB-table k zero = rw (add-zero, add-zero)
+  totalB-table k (suc n) = let e : k + suc n ≡ suc k + n = omega arith in rw e (omega (arith, totalB-table (suc k) n))
+
+  -- the bits that are left after level k
+  left : (v : List ℕ) (b : Bool) (k : ℕ) → drop (bitsIn b (levelAt ls k)) (drop (bitsBefore ls b k) v) ≡ drop (bitsBefore ls b (suc k)) v
+  unfolding bitsBefore
+  left v b k = drop-drop (bitsIn b (levelAt ls k)) (bitsBefore ls b k) v
+
+  -- the streams of all levels, level by level
+  streams-table : (a b : List ℕ) (k n : ℕ)
+      → streams (table (levelAt ls) k n) (drop (bitsBefore ls false k) a) (drop (bitsBefore ls true k) b) ≡ stepped (streamAt ls a b) k 1 n
+  unfolding table streams stepped streamAt bitsIn
+  streams-table a b k zero = refl
+  streams-table a b k (suc n) =
+      ap (λ v. streamAt ls a b k ∷ v) (rw (left a false k, left b true k, add-one k) (streams-table a b (suc k) n))
+
+  -- every stream is bits, and so the numbers of m streams are below 2 ^ m
+  stream-bits : (a b : List ℕ) (l : ℕ) → Bits (streamAt ls a b l)
+  unfolding streamAt
+  stream-bits a b l = bits-stream (levelAt ls l) _ _
+
+  pub number-low : (a b : List ℕ) (l s m j : ℕ) → numberAt (stepped (streamAt ls a b) l s m) j < 2 ^ m
+  unfolding numberAt stepped
+  number-low a b l s zero j = omega arith
+  number-low a b l s (suc m) j = rw pow-suc (omega (arith, number-low a b (l + s) s m j, stream-bits a b l .bit j))
+
+-- a level of levels that fit
+fits-at : {n : ℕ} {ls : List Level} → LevelsFit n ls → (z : Level) (l : ℕ) → l < length ls → LevelFits n (getD ls l z)
+fits-at none z l h = absurd (omega arith)
+fits-at (more F R) z zero h = F
+fits-at (more F R) z (suc l) h = fits-at R z l (omega arith)
+
+-- the levels of a block
+pub levels-table : (k : Block) → k .count ≤ length (k .levels) → levelsOf k ≡ table (levelAt (k .levels)) 0 (k .count)
+unfolding levelsOf levelAt
+levels-table k h = sym (take-table pastLevels (k .levels) (k .count) h)
+
+-- a constellation has at most three level bits
+levels-low : (c : ℕ) → levelCount c ≤ 3
+unfolding levelCount
+levels-low zero = omega arith
+levels-low (suc zero) = omega arith
+levels-low (suc (suc zero)) = omega arith
+levels-low (suc (suc (suc zero))) = omega arith
+levels-low (suc (suc (suc (suc zero)))) = omega arith
+levels-low (suc (suc (suc (suc (suc c))))) = omega arith
+
+labels-low : (c m : ℕ) → Labels m (constellation c) → m ≤ 3
+labels-low c m L = go (below-or m 4)
+  where
+    go : (m < 4) ⊎ (4 ≤ m) → m ≤ 3
+    go (inl h) = omega arith
+    go (inr h) =
+        absurd (omega (arith, L .real .size, constellation-labels c .real .size, pow-mono {i = 4} {j = m} h, pow-mono {i = levelCount c} {j = 3} (levels-low c)))
+
+module _ {k : Block} (F : BlockFits k) where
+  pub total-A : totalA (levelsOf k) ≡ bitsBefore (k .levels) false (k .count)
+  unfolding bitsBefore
+  total-A = rw (levels-table k (F .room)) (sym (zero-add _) ∙ totalA-table (k .levels) 0 (k .count) ∙ rw zero-add)
+
+  pub total-B : totalB (levelsOf k) ≡ bitsBefore (k .levels) true (k .count)
+  unfolding bitsBefore
+  total-B = rw (levels-table k (F .room)) (sym (zero-add _) ∙ totalB-table (k .levels) 0 (k .count) ∙ rw zero-add)
+
+  pub all-bits : bitCount k ≡ bitsBefore (k .levels) false (k .count) + bitsBefore (k .levels) true (k .count)
+  unfolding bitCount
+  all-bits = ap₂ _+_ total-A total-B
+
+  pub sums-front : Sums (k .levels) false (k .count)
+  sums-front = record { there = F .few; fits = omega (arith, all-bits, F .short) }
+
+  pub sums-rest : Sums (k .levels) true (k .count)
+  sums-rest = record { there = F .few; fits = omega (arith, all-bits, F .short) }
+
+  pub streams-are : (a b : List ℕ) → streams (levelsOf k) a b ≡ stepped (streamAt (k .levels) a b) 0 1 (k .count)
+  unfolding bitsBefore
+  streams-are a b = rw (levels-table k (F .room)) (streams-table (k .levels) a b 0 (k .count))
+
+  pub count-is : length (levelsOf k) ≡ k .count
+  unfolding levelsOf
+  count-is = length-take-le (k .count) (k .levels) (F .room)
+
+  pub three : F .streams ≤ 3
+  unfolding pointsOf
+  three = labels-low (k .constellation) (F .streams) (F .labels)
+
+  -- level l fits
+  pub fits-level : (l : ℕ) → l < k .count → LevelFits (cond (oneAxis k) (k .cells) (2 * k .cells)) (levelAt (k .levels) l)
+  unfolding levelsOf levelAt
+  fits-level l h = rw (getD-take (k .count) (k .levels) l pastLevels h) at (fits-at (F .fit) pastLevels l (rw count-is h))
+
+  module _ {a b : List ℕ} (P : PartsOf k a b) {n : ℕ} (e : n ≡ cond (oneAxis k) (k .cells) (2 * k .cells)) (high : n ≤ 12236) where
+    -- its bits stand in those of parts A and B
+    there : (l : ℕ) → l < k .count → LevelThere (k .levels) n a b l
+    there l h =
+        record {
+          there = omega (arith, F .few);
+          fits = rw e (fits-level l h);
+          withinA = omega (arith, P .longA, before-mono (k .levels) false (suc l) (k .count) h);
+          withinB = omega (arith, P .longB, before-mono (k .levels) true (suc l) (k .count) h);
+          short = (omega (arith, P .longA, all-bits, F .short), omega (arith, P .longB, all-bits, F .short));
+          high = high;
+        }
+
+    -- and so do those of every s-th level
+    all-there : (s l m : ℕ) → 0 < s → l + s * m < k .count + s → LevelsThere (k .levels) n a b s l m
+    all-there s l zero p h = none
+    all-there s l (suc m) p h =
+        let f : s * suc m ≡ s + s * m = mul-suc s m ∙ omega arith in
+        more (there l (omega arith)) (all-there s (l + s) m p (omega arith))
+
+    module _ (A : Bits a) (B : Bits b) where
+      -- what coding them requires
+      pub codes-levels : {numbers : List ℕ} (s l m : ℕ) → 0 < s → s ≤ 2 → l ≤ 1 → m ≤ 3 → l + s * m < k .count + s → length numbers ≡ n
+          → CodesLevels (k .levels) l s m a b numbers
+      codes-levels s l m p s2 l1 m3 h g =
+          record {
+            levels = rw g (all-there s l m p h);
+            three = m3;
+            near = (omega arith, omega arith);
+            inputA = A;
+            inputB = B;
+            high = omega arith;
+          }
+
+      -- a level's stream has n bits
+      pub length-streamAt : (l : ℕ) → l < k .count → length (streamAt (k .levels) a b l) ≡ n
+      unfolding streamAt bitsBefore bitsIn
+      length-streamAt l h =
+          let ls = k .levels in
+          let T = there l h in
+          length-stream (T .fits) (bits-take (levelAt ls l .bitsa) (bits-drop (bitsBefore ls false l) A)) (bits-take (levelAt ls l .bitsb) (bits-drop (bitsBefore ls true l) B))
+          (length-take-le (levelAt ls l .bitsa) (drop (bitsBefore ls false l) a) (rw length-drop (omega (arith, T .withinA))))
+          (length-take-le (levelAt ls l .bitsb) (drop (bitsBefore ls true l) b) (rw length-drop (omega (arith, T .withinB))))

@@ -1,0 +1,22 @@
+-- `code::code_a` meets its contract. Assumes nothing.
+use borrow.Author.Needs.{needs}
+use Rattle.multilevel.proofs.OneLevel.{a-encodes, within-coded, within-numbers, adds-a, coded-a}
+use Rattle.multilevel.proofs.code.code_a.Statement.{statement}
+use Rattle.multilevel.proofs.code.code_a.Tie as tie
+
+part-add-part-end : tie.Need-part-add-part-end
+part-add-part-end c = within-coded (c .before .before .before .before .before .before .before .before .before .pre) (c .before .before .before .encode .ensures)
+
+part-add-part-end-2 : tie.Need-part-add-part-end-2
+part-add-part-end-2 c = within-numbers (c .before .before .before .before .before .before .before .before .before .before .pre) (c .before .before .before .before .encode .ensures)
+
+add-part-requires : tie.Need-add-part-requires
+add-part-requires c κs = adds-a (c .before .before .before .before .before .before .before .before .before .before .before .pre) (c .before .before .before .before .before .encode .ensures)
+
+returns : tie.Need-returns
+returns c = coded-a (c .before .before .before .before .before .before .before .before .before .before .before .before .before .before .pre) (c .before .before .before .before .before .before .before .before .encode .ensures) (c .before .before .add-part .ensures)
+
+pub code-a-spec : {M : Type 1} → statement M
+code-a-spec =
+    tie.close (tie.spec (λ c κs. a-encodes (c .before .before .before .before .before .pre)) (λ c. search needs) (λ c. search needs) part-add-part-end
+    (λ c. search needs) (λ c. search needs) part-add-part-end-2 add-part-requires (λ c. search needs) (λ c. search needs) returns)

@@ -1,0 +1,252 @@
+-- What the functions that code and read levels require and promise: nothing of 01 is stated here.
+use Prim.Native.Nat.{ℕ, zero, suc, _+_, _*_, _≤_, _<_, _/_, _%_, _^_}
+use mathlib.Core.Path.{_≡_}
+use mathlib.Core.Bool.{Bool, true, false, cond}
+use mathlib.Core.List.{List, [], _∷_}
+use lib.ListN.{length, getD, take, drop}
+use Rattle.component.specs.declared.code.Pattern.{Pattern}
+use Rattle.component.specs.Bits.{Bits}
+use Rattle.block.specs.declared.Level.{Level}
+use Rattle.block.specs.declared.Block.{Block}
+use Rattle.block.specs.Levels.{stream, mixed}
+use Rattle.block.specs.Fits.{LevelFits, Mixes}
+use Rattle.component.specs.Register.{after}
+use Rattle.component.specs.Codeword.{encode, codeword, tailBits}
+use Rattle.component.specs.Decoding.{codedLength, segment, decode}
+use Rattle.component.specs.Coding.{patternOf, Held}
+use Rattle.interleaver.specs.Deinterleaving.{Lends}
+use Rattle.lists.specs.Lists.{table}
+use lib.Seq.{sets}
+use Rattle.block.specs.Block.{oneAxis}
+use Rattle.block.specs.Reading.{taken, unmixed, inputA, inputB}
+
+-- A level's bits, times their weight, are added to the numbers.
+unfoldable pub added : ℕ → List ℕ → List ℕ → List ℕ
+added weight bits numbers = table (λ i. getD numbers i 0 + weight * getD bits i 0) 0 (length numbers)
+
+-- A weight is a power of two.
+pub record Weight (weight : ℕ) : Type 0 where
+  pub digit : ℕ
+  pub power : weight ≡ 2 ^ digit
+
+-- What adding interleaved bits requires: bits, and numbers that stay below 256.
+pub record Adds (t weight : ℕ) (bits numbers : List ℕ) : Type 0 where
+  pub lends : Lends t bits numbers
+  pub bit : (k : ℕ) → getD bits k 0 < 2
+  pub room : (k : ℕ) → getD numbers k 0 + weight < 256
+
+-- What taking interleaved bits out of numbers requires.
+pub record Takes (t weight : ℕ) (numbers out : List ℕ) : Type 0 where
+  pub lends : Lends t numbers out
+  pub weighs : Weight weight
+
+-- What the code would find past the last of a block's places.
+abbrev pub noPattern : Pattern
+noPattern = record { columns = []; width = 0 }
+
+abbrev pub pastLevels : Level
+pastLevels = record { bitsa = 0; bitsb = 0; patterna = noPattern; patternb = noPattern; tail = noPattern; t = 0 }
+
+-- Level i.
+unfoldable pub levelAt : List Level → ℕ → Level
+levelAt ls i = getD ls i pastLevels
+
+-- A level's input bits in part A, or in part B.
+unfoldable pub bitsIn : Bool → Level → ℕ
+bitsIn b l = cond b (l .bitsb) (l .bitsa)
+
+-- The input bits of the levels before level l in that part.
+unfoldable pub bitsBefore : List Level → Bool → ℕ → ℕ
+bitsBefore ls b zero = 0
+bitsBefore ls b (suc l) = bitsBefore ls b l + bitsIn b (levelAt ls l)
+
+-- Partition: the stream of level l from the bits of parts A and B.
+unfoldable pub streamAt : List Level → List ℕ → List ℕ → ℕ → List ℕ
+streamAt ls a b l =
+    stream
+    (levelAt ls l)
+    (take (levelAt ls l .bitsa) (drop (bitsBefore ls false l) a))
+    (take (levelAt ls l .bitsb) (drop (bitsBefore ls true l) b))
+
+-- f l, f (l + s), f (l + 2 × s), ..: n of them.
+unfoldable pub stepped : {A : Type 0} → (ℕ → A) → ℕ → ℕ → ℕ → List A
+stepped f l s zero = []
+stepped f l s (suc n) = f l ∷ stepped f (l + s) s n
+
+-- The levels before level l are among the six places, and their bits can be counted.
+pub record Sums (ls : List Level) (b : Bool) (l : ℕ) : Type 0 where
+  pub there : l ≤ 6
+  pub fits : bitsBefore ls b l ≤ 65536
+
+-- Level l with n coded bits, whose bits stand in those of parts A and B.
+pub record LevelThere (ls : List Level) (n : ℕ) (a b : List ℕ) (l : ℕ) : Type 0 where
+  pub there : l < 6
+  pub fits : LevelFits n (levelAt ls l)
+  pub withinA : bitsBefore ls false (suc l) ≤ length a
+  pub withinB : bitsBefore ls true (suc l) ≤ length b
+  pub short : (length a ≤ 65536) × (length b ≤ 65536)
+  pub high : n ≤ 12236
+
+-- What coding level l requires: bits, room for its coded bits, and numbers that they can be added to.
+pub record CodesAt (ls : List Level) (l weight : ℕ) (a b coded numbers : List ℕ) : Type 0 where
+  pub level : LevelThere ls (length numbers) a b l
+  pub inputA : Bits a
+  pub inputB : Bits b
+  pub buffer : length numbers ≤ length coded
+  pub sums : (k : ℕ) → getD numbers k 0 + weight < 256
+
+-- So many levels from level l on, every s-th.
+pub data LevelsThere (ls : List Level) (n : ℕ) (a b : List ℕ) (s : ℕ) : ℕ → ℕ → Type 0 where
+  none : {l : ℕ} → LevelsThere ls n a b s l 0
+  more : {l m : ℕ} → LevelThere ls n a b l → LevelsThere ls n a b s (l + s) m → LevelsThere ls n a b s l (suc m)
+
+-- What coding at most three levels into numbers requires.
+pub record CodesLevels (ls : List Level) (first step many : ℕ) (a b numbers : List ℕ) : Type 0 where
+  pub levels : LevelsThere ls (length numbers) a b step first many
+  pub three : many ≤ 3
+  pub near : (first ≤ 2) × (step ≤ 2)
+  pub inputA : Bits a
+  pub inputB : Bits b
+  pub high : length numbers ≤ 12236
+
+-- The bits of all levels in parts A and B.
+pub record PartsOf (k : Block) (a b : List ℕ) : Type 0 where
+  pub longA : length a ≡ bitsBefore (k .levels) false (k .count)
+  pub longB : length b ≡ bitsBefore (k .levels) true (k .count)
+
+-- The coded bits of part B and of its tail's six zero bits, from a register on.
+abbrev pub codedWithTail : Level → ℕ → List ℕ → List ℕ
+codedWithTail l register bits = codeword register (segment (patternOf (l .patternb)) bits ∷ segment (patternOf (l .tail)) tailBits ∷ [])
+
+-- How many they are for n input bits.
+abbrev pub sizeWithTail : Level → ℕ → ℕ
+sizeWithTail l n = codedLength (patternOf (l .patternb)) 0 n + codedLength (patternOf (l .tail)) 0 6
+
+-- Numbers that a level's bits can be added to: few enough for the interleaver, and below 256 with the weight.
+pub record Room (t weight : ℕ) (numbers : List ℕ) : Type 0 where
+  pub small : t < 64
+  pub high : length numbers ≤ 16384
+  pub sums : (k : ℕ) → getD numbers k 0 + weight < 256
+
+-- What adding a part's bits to as many numbers requires.
+pub record AddsPart (t weight : ℕ) (bits numbers : List ℕ) : Type 0 where
+  pub mixes : Mixes t (length numbers)
+  pub same : length bits ≡ length numbers
+  pub input : Bits bits
+  pub room : Room t weight numbers
+
+-- What coding part A and adding it to the first of the numbers requires.
+pub record CodesA (l : Level) (weight : ℕ) (bits coded numbers : List ℕ) : Type 0 where
+  pub held : Held (l .patterna)
+  pub input : Bits bits
+  pub mixes : Mixes (l .t) (codedLength (patternOf (l .patterna)) 0 (length bits))
+  pub there : codedLength (patternOf (l .patterna)) 0 (length bits) ≤ length numbers
+  pub buffer : length numbers ≤ length coded
+  pub room : Room (l .t) weight numbers
+
+-- What it promises: the register and the numbers behind part A, its bits added to those before, the rest of the numbers as it was.
+pub record CodedA (l : Level) (weight : ℕ) (bits numbers : List ℕ) (register at : ℕ) (numbers' : List ℕ) : Type 0 where
+  pub state : register ≡ after 0 bits
+  pub place : at ≡ codedLength (patternOf (l .patterna)) 0 (length bits)
+  pub written : numbers' ≡ added weight (mixed (l .t) (encode (patternOf (l .patterna)) 0 0 bits)) numbers
+
+-- What coding part B and its tail requires.
+pub record EncodesB (l : Level) (register : ℕ) (bits out : List ℕ) : Type 0 where
+  pub held : Held (l .patternb)
+  pub heldTail : Held (l .tail)
+  pub seven : register < 128
+  pub input : Bits bits
+  pub room : sizeWithTail l (length bits) ≤ length out
+
+-- What adding them to as many numbers requires besides.
+pub record CodesB (l : Level) (register weight : ℕ) (bits coded numbers : List ℕ) : Type 0 where
+  pub encodes : EncodesB l register bits coded
+  pub mixes : Mixes (l .t) (length numbers)
+  pub size : sizeWithTail l (length bits) ≡ length numbers
+  pub room : Room (l .t) weight numbers
+
+-- What coding a level requires: a level that fits, its bits, a buffer for its coded bits, and numbers that they can be added to.
+pub record CodesLevel (l : Level) (weight : ℕ) (a b coded numbers : List ℕ) : Type 0 where
+  pub fits : LevelFits (length numbers) l
+  pub longA : length a ≡ l .bitsa
+  pub longB : length b ≡ l .bitsb
+  pub inputA : Bits a
+  pub inputB : Bits b
+  pub buffer : length numbers ≤ length coded
+  pub high : length numbers ≤ 16384
+  pub sums : (k : ℕ) → getD numbers k 0 + weight < 256
+
+-- What taking a part's bits out of as many numbers requires.
+pub record TakesPart (t weight : ℕ) (numbers out : List ℕ) : Type 0 where
+  pub mixes : Mixes t (length numbers)
+  pub small : t < 64
+  pub high : length numbers ≤ 16384
+  pub same : length out ≡ length numbers
+  pub weighs : Weight weight
+
+-- What reading a part requires: all coded bits of the input bits wanted are there.
+pub record ReadsPart (p : Pattern) (register t weight : ℕ) (numbers coded out : List ℕ) : Type 0 where
+  pub held : Held p
+  pub seven : register < 128
+  pub takes : TakesPart t weight numbers coded
+  pub there : codedLength (patternOf p) 0 (length out) ≤ length numbers
+
+-- What it promises: the part's n input bits, and the register behind them.
+pub record PartRead (p : Pattern) (register t weight : ℕ) (numbers : List ℕ) (n register' : ℕ) (out' : List ℕ) : Type 0 where
+  pub state : register' ≡ after register out'
+  pub written : out' ≡ decode (patternOf p) register 0 n (unmixed t (taken weight numbers))
+
+-- What reading a level requires: it fits, and there is room for its bits and its coded bits. The numbers may be any.
+pub record ReadsLevel (l : Level) (weight : ℕ) (numbers coded a b : List ℕ) : Type 0 where
+  pub fits : LevelFits (length numbers) l
+  pub longA : length a ≡ l .bitsa
+  pub longB : length b ≡ l .bitsb
+  pub high : length numbers ≤ 12236
+  pub buffer : length numbers ≤ length coded
+  pub weighs : Weight weight
+
+-- What it promises: the level's input bits of both parts from its stream y.
+pub record LevelRead (l : Level) (y a b : List ℕ) : Type 0 where
+  pub partA : a ≡ inputA l y
+  pub partB : b ≡ inputB l y
+
+-- What reading level l requires: its bits have places in those of parts A and B.
+pub record ReadsAt (ls : List Level) (l weight : ℕ) (numbers coded a b : List ℕ) : Type 0 where
+  pub level : LevelThere ls (length numbers) a b l
+  pub buffer : length numbers ≤ length coded
+  pub weighs : Weight weight
+
+-- What it promises: with y as level l's stream, the level's bits at their places in parts A and B, the rest of these as it was.
+pub record ReadAt (ls : List Level) (l : ℕ) (y a b a' b' : List ℕ) : Type 0 where
+  pub partA : a' ≡ sets a (bitsBefore ls false l) (inputA (levelAt ls l) y)
+  pub partB : b' ≡ sets b (bitsBefore ls true l) (inputB (levelAt ls l) y)
+
+-- The digit of level l in the numbers: where each level has one axis only, levels 2 i and 2 i + 1 have digit i.
+unfoldable pub digitAt : Bool → ℕ → ℕ
+digitAt one l = cond one (l / 2) l
+
+-- The numbers of one axis, a number a cell: axis 0 is the real, axis 1 the imaginary one.
+unfoldable pub axisNumbers : ℕ → List ℕ → List ℕ
+axisNumbers a numbers = table (λ k. getD numbers (2 * k + a) 0) 0 (length numbers / 2)
+
+-- What taking them requires.
+pub record TakesAxis (a : ℕ) (numbers out : List ℕ) : Type 0 where
+  pub real : a < 2
+  pub same : length numbers ≡ 2 * length out
+
+-- What reading a block's levels from the numbers requires: every level fits and has a weight of at most 4, and the buffers fit.
+pub record ReadsLevels (k : Block) (numbers a b : List ℕ) : Type 0 where
+  pub few : k .count ≤ 6
+  pub room : k .count ≤ length (k .levels)
+  pub fits : (l : ℕ) → l < k .count → LevelFits (cond (oneAxis k) (length numbers / 2) (length numbers)) (levelAt (k .levels) l)
+  pub digits : (l : ℕ) → l < k .count → digitAt (oneAxis k) l < 3
+  pub whole : length numbers % 2 ≡ 0
+  pub long : (length a ≡ bitsBefore (k .levels) false (k .count)) × (length b ≡ bitsBefore (k .levels) true (k .count))
+  pub short : (length a ≤ 65536) × (length b ≤ 65536)
+  pub high : length numbers ≤ 12236
+
+-- What reading level l of them requires.
+pub record ReadsStream (k : Block) (l : ℕ) (numbers coded a b : List ℕ) : Type 0 where
+  pub all : ReadsLevels k numbers a b
+  pub known : l < k .count
+  pub buffer : length numbers ≤ length coded

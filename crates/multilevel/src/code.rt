@@ -1,0 +1,110 @@
+// The levels of a block coded, interleaved and added up as numbers. 01 "Partition" to "Bit interleaving".
+use crate::bits::add_part;
+use crate::places::bits_before;
+use block::Block;
+use block::Level;
+use block::buffers::cell_buffer;
+use component::code::Coder;
+use component::code::encode;
+ghost use mathlib.Core.Path.{_≡_};
+ghost use lib.ListN.{length};
+ghost use lib.Seq.{sets};
+ghost use Rattle.lists.specs.Lists.{table};
+ghost use Rattle.multilevel.specs.Contracts.{added, streamAt, stepped, CodesAt, CodesLevels, codedWithTail, CodesA, CodedA, EncodesB, CodesB, CodesLevel};
+ghost use Rattle.block.specs.Levels.{mixed, stream};
+ghost use Rattle.block.specs.Mapping.{numberAt};
+
+// Part A coded and added to the first of the numbers.
+fn code_a(l: Level, weight: u8, a: &[u8], coded: &mut [u8], numbers: &mut [u8]) -> Coder
+    requires { ⌜ CodesA l weight (now a) (now coded) (now numbers) ⌝ }
+    ensures { λ r. ⌜ CodedA l weight (now (a .entry)) (now (numbers .entry)) (r .register) (r .at) (now (numbers .exit)) ⌝ }
+{
+    let pattern = l.patterna;
+    let coder = encode(pattern, 0, a, coded, 0);
+    let n = coder.at;
+    add_part(l.t, weight, &coded[0..n], &mut numbers[0..n]);
+    coder
+}
+
+// The coded bits of part B and of six zeros with the tail's pattern, written to the front of out.
+fn encode_b(l: Level, register: u32, b: &[u8], out: &mut [u8])
+    requires { ⌜ EncodesB l register (now b) (now out) ⌝ }
+    ensures { λ r. ⌜ now (out .exit) ≡ sets (now (out .entry)) 0 (codedWithTail l register (now (b .entry))) ⌝ }
+{
+    let zeros = [0u8; 6];
+    let pattern = l.patternb;
+    let tail = l.tail;
+    let coder = encode(pattern, register, b, out, 0);
+    encode(tail, coder.register, &zeros, out, coder.at);
+}
+
+// Part B with its tail coded and added to the numbers.
+fn code_b(l: Level, register: u32, weight: u8, b: &[u8], coded: &mut [u8], numbers: &mut [u8])
+    requires { ⌜ CodesB l register weight (now b) (now coded) (now numbers) ⌝ }
+    ensures { λ r. ⌜ now (numbers .exit) ≡ added weight (mixed (l .t) (codedWithTail l register (now (b .entry)))) (now (numbers .entry)) ⌝ }
+{
+    encode_b(l, register, b, coded);
+    let n = numbers.len();
+    add_part(l.t, weight, &coded[0..n], numbers);
+}
+
+// A level's bits coded, parts A and B interleaved separately, and added to the numbers with the level's weight. The register runs on from A into B.
+fn code_level(l: Level, weight: u8, a: &[u8], b: &[u8], coded: &mut [u8], numbers: &mut [u8])
+    requires { ⌜ CodesLevel l weight (now a) (now b) (now coded) (now numbers) ⌝ }
+    ensures { λ r. ⌜ now (numbers .exit) ≡ added weight (stream l (now (a .entry)) (now (b .entry))) (now (numbers .entry)) ⌝ }
+{
+    let coder = code_a(l, weight, a, coded, numbers);
+    let n = coder.at;
+    code_b(l, coder.register, weight, b, coded, &mut numbers[n..]);
+}
+
+// Level l of a block coded and added to the numbers with its weight.
+fn code_at(k: Block, l: usize, weight: u8, a: &[u8], b: &[u8], coded: &mut [u8], numbers: &mut [u8])
+    requires { ⌜ CodesAt (k .levels) l weight (now a) (now b) (now coded) (now numbers) ⌝ }
+    ensures { λ r. ⌜ now (numbers .exit) ≡ added weight (streamAt (k .levels) (now (a .entry)) (now (b .entry)) l) (now (numbers .entry)) ⌝ }
+{
+    let levels = k.levels;
+    let level = levels[l];
+    let at = bits_before(k, false, l);
+    let end = at + level.bitsa;
+    let from = bits_before(k, true, l);
+    let to = from + level.bitsb;
+    code_level(level, weight, &a[at..end], &b[from..to], coded, numbers);
+}
+
+fn clear(numbers: &mut [u8])
+    ensures { λ r. ⌜ now (numbers .exit) ≡ table (λ j. 0) 0 (length (now (numbers .entry))) ⌝ }
+{
+    let mut i = 0;
+    while i < numbers.len() {
+        numbers[i] = 0;
+        i += 1;
+    }
+}
+
+// The numbers i0 + 2 × i1 + 4 × i2 of the streams of `many` levels, from level `first` on, every step-th.
+pub fn code_levels(
+    k: Block,
+    first: usize,
+    step: usize,
+    many: usize,
+    a: &[u8],
+    b: &[u8],
+    numbers: &mut [u8],
+)
+    requires { ⌜ CodesLevels (k .levels) first step many (now a) (now b) (now numbers) ⌝ }
+    ensures { λ r. ⌜ now (numbers .exit) ≡ table (numberAt (stepped (streamAt (k .levels) (now (a .entry))
+        (now (b .entry))) first step many)) 0 (length (now (numbers .entry))) ⌝ }
+{
+    clear(numbers);
+    let mut coded = cell_buffer();
+    let mut l = first;
+    let mut weight: u8 = 1;
+    let mut left = many;
+    while 0 < left {
+        code_at(k, l, weight, a, b, &mut coded, numbers);
+        l += step;
+        weight = 2 * weight;
+        left -= 1;
+    }
+}

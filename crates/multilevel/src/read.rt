@@ -1,0 +1,148 @@
+// The levels of a block read from numbers: their bits taken out, put back to their places and decoded. 01 "Operations".
+use crate::bits::take_part;
+use crate::places::bits_before;
+use block::Block;
+use block::HMMIX;
+use block::Level;
+use block::buffers::axis_buffer;
+use block::buffers::cell_buffer;
+use component::code::Pattern;
+use component::code::coded_length;
+use component::code::decode;
+ghost use mathlib.Core.Path.{_≡_};
+ghost use Prim.Native.Nat.{_^_, _<_};
+ghost use lib.ListN.{length};
+ghost use Rattle.lists.specs.Lists.{table};
+ghost use Rattle.block.specs.Reading.{taken, streamIn, inputsA, inputsB};
+ghost use Rattle.block.specs.Block.{levelsOf, oneAxis};
+ghost use Rattle.multilevel.specs.Contracts.{ReadsPart, PartRead, ReadsLevel, LevelRead, ReadsAt, ReadAt, axisNumbers, TakesAxis, ReadsStream, ReadsLevels};
+
+// The input bits of a part, as many as out is long, from the numbers; the register behind them.
+fn read_part(
+    pattern: Pattern,
+    register: u32,
+    t: usize,
+    weight: u8,
+    numbers: &[u8],
+    coded: &mut [u8],
+    out: &mut [u8],
+) -> u32
+    requires { ⌜ ReadsPart pattern register t weight (now numbers) (now coded) (now out) ⌝ }
+    ensures { λ r. ⌜ PartRead pattern register t weight (now (numbers .entry)) (length (now (out .entry))) r (now (out .exit)) ⌝ }
+{
+    take_part(t, weight, numbers, coded);
+    let coder = decode(pattern, register, coded, 0, out);
+    coder.register
+}
+
+// A level's input bits from the numbers: those of part A from register 0, those of part B from the register behind.
+fn read_level(l: Level, weight: u8, numbers: &[u8], coded: &mut [u8], a: &mut [u8], b: &mut [u8])
+    requires { ⌜ ReadsLevel l weight (now numbers) (now coded) (now a) (now b) ⌝ }
+    ensures { λ r. ⌜ LevelRead l (taken weight (now (numbers .entry))) (now (a .exit)) (now (b .exit)) ⌝ }
+{
+    let patterna = l.patterna;
+    let patternb = l.patternb;
+    let front = coded_length(patterna, l.bitsa);
+    let register = read_part(
+        patterna,
+        0,
+        l.t,
+        weight,
+        &numbers[0..front],
+        &mut coded[0..front],
+        a,
+    );
+    let n = numbers.len() - front;
+    read_part(
+        patternb,
+        register,
+        l.t,
+        weight,
+        &numbers[front..],
+        &mut coded[0..n],
+        b,
+    );
+}
+
+// Level l's bits, those with that weight in the numbers, read into their places in parts A and B.
+fn read_at(
+    k: Block,
+    l: usize,
+    weight: u8,
+    numbers: &[u8],
+    coded: &mut [u8],
+    a: &mut [u8],
+    b: &mut [u8],
+)
+    requires { ⌜ ReadsAt (k .levels) l weight (now numbers) (now coded) (now a) (now b) ⌝ }
+    ensures { λ r. ⌜ ReadAt (k .levels) l (taken weight (now (numbers .entry))) (now (a .entry)) (now (b .entry)) (now (a .exit)) (now (b .exit)) ⌝ }
+{
+    let levels = k.levels;
+    let level = levels[l];
+    let at = bits_before(k, false, l);
+    let end = at + level.bitsa;
+    let from = bits_before(k, true, l);
+    let to = from + level.bitsb;
+    read_level(
+        level,
+        weight,
+        numbers,
+        coded,
+        &mut a[at..end],
+        &mut b[from..to],
+    );
+}
+
+// The weight of a digit.
+fn power(digit: usize) -> u8
+    requires { ⌜ digit < 3 ⌝ }
+    ensures { λ r. ⌜ r ≡ 2 ^ digit ⌝ }
+{
+    match digit {
+        0 => 1,
+        1 => 2,
+        _ => 4,
+    }
+}
+
+// The numbers of one axis.
+fn take_axis(a: usize, numbers: &[u8], out: &mut [u8])
+    requires { ⌜ TakesAxis a (now numbers) (now out) ⌝ }
+    ensures { λ r. ⌜ now (out .exit) ≡ axisNumbers a (now (numbers .entry)) ⌝ }
+{
+    let mut k = 0;
+    while k < out.len() {
+        out[k] = numbers[2 * k + a];
+        k += 1;
+    }
+}
+
+// Level l read from the numbers, or from those of its axis where each level has one axis only.
+fn read_stream(k: Block, l: usize, numbers: &[u8], coded: &mut [u8], a: &mut [u8], b: &mut [u8])
+    requires { ⌜ ReadsStream k l (now numbers) (now coded) (now a) (now b) ⌝ }
+    ensures { λ r. ⌜ ReadAt (k .levels) l (streamIn (oneAxis k) (now (numbers .entry)) l) (now (a .entry)) (now (b .entry)) (now (a .exit)) (now (b .exit)) ⌝ }
+{
+    if k.constellation == HMMIX {
+        let mut axis = axis_buffer();
+        let n = numbers.len() / 2;
+        take_axis(l % 2, numbers, &mut axis[0..n]);
+        read_at(k, l, power(l / 2), &axis[0..n], coded, a, b);
+        return;
+    }
+    read_at(k, l, power(l), numbers, coded, a, b);
+}
+
+// All levels of a block, from the numbers of its coordinates.
+pub fn read_levels(k: Block, numbers: &[u8], a: &mut [u8], b: &mut [u8])
+    requires { ⌜ ReadsLevels k (now numbers) (now a) (now b) ⌝ }
+    ensures { λ r. ⌜ now (a .exit) ≡ inputsA (levelsOf k) (table (streamIn (oneAxis k) (now (numbers .entry))) 0 (k .count)) ⌝ }
+    ensures { λ r. ⌜ now (b .exit) ≡ inputsB (levelsOf k) (table (streamIn (oneAxis k) (now (numbers .entry))) 0 (k .count)) ⌝ }
+{
+    let mut coded = cell_buffer();
+    let count = k.count;
+    let mut l = 0;
+    while l < count {
+        read_stream(k, l, numbers, &mut coded, a, b);
+        l += 1;
+    }
+}

@@ -1,2 +1,0 @@
-pub mod FaultTurns
-pub mod ReadTurns

@@ -1,0 +1,92 @@
+-- Runs of Code calls from an accepted Reset: they bring whole super frames of bits, send the standard's cells, and are refused by 9, 10 or 11 only. Assumes the coding of allowed settings.
+use Prim.Native.Nat.{ℕ}
+use mathlib.Core.Path.{_≡_, refl, sym, ap, ap₂, _∙_, subst}
+use mathlib.Core.Bool.{true}
+use mathlib.Core.List.{List, map}
+use native.Mathlib.Decide.{ℕ-discrete}
+use native.Mathlib.Omega.{arith}
+use lib.ListN.{length}
+use lib.IntN.{ℤ}
+use Rattle.lists.specs.Lists.{table}
+use Rattle.settings.specs.declared.Settings.{Settings}
+use Rattle.settings.specs.Refusal.{refusal}
+use Rattle.lists.specs.Bools.{every}
+use Rattle.superframe.specs.Interleaving.{Progress}
+use Rattle.superframe.specs.Reset.{resetRefusal, startState, startMemory}
+use Rattle.superframe.specs.Code.{stateOf}
+use Rattle.superframe.specs.Runs.{Begun, stateAt, memoryAt, Bits, brought, sent, refusals, Run, bits, cells}
+use Rattle.superframe.specs.Standard.{superFrame, standard}
+use Rattle.superframe.specs.WholeRuns.{standardCells, runNumber}
+use Rattle.superframe.proofs.Coding.{Coding}
+use Rattle.superframe.proofs.History.{frameAt, Keeps, keeps-start}
+use Rattle.superframe.proofs.Coder.{storedAge}
+use Rattle.superframe.proofs.Calls.{reset-fits, reset-accepts, reset-refuses}
+use Rattle.superframe.proofs.CodeRuns.{Whole, Ahead, brought-whole, all-coded}
+
+-- Memory, position and count after an accepted Reset.
+unfoldable pub startOf : Settings → Progress
+startOf s = record { memory = startMemory s; position = 0; count = 0 }
+
+module _ (b : Begun) where
+  begun-zero : resetRefusal (b .settings) (b .lent) ≡ 0
+  begun-zero =
+      elim (ℕ-discrete (resetRefusal (b .settings) (b .lent)) 0) [
+        | yes h ↦ h
+        | no h ↦ sym (ap (λ y. y .done .refusal) (reset-refuses (b .old) (b .settings) (b .lent) _ refl (omega arith))) ∙ b .accepted
+      ]
+
+  pub begun-allowed : refusal (b .settings) ≡ 0
+  begun-allowed = reset-fits (b .old) (b .settings) (b .lent) begun-zero .settings
+
+  pub begun-state : stateAt b ≡ stateOf (b .settings) (startOf (b .settings))
+  unfolding stateAt stateOf startOf startState
+  begun-state = ap (λ y. y .done .state) (reset-accepts (b .old) (b .settings) (b .lent) begun-zero)
+
+  pub begun-memory : memoryAt b ≡ startOf (b .settings) .memory
+  unfolding memoryAt startOf
+  begun-memory = ap (λ y. y .memory) (reset-accepts (b .old) (b .settings) (b .lent) begun-zero)
+
+-- No super frame has been read: all bits are ahead.
+all-ahead : (B : Bits) → Ahead B 0 B
+all-ahead B = record { fac = refl; sdc = refl; frames = refl }
+
+module _ (coding : (s : Settings) → refusal s ≡ 0 → Coding s) where
+  -- The coding of a run's settings.
+  pub coded-by : (b : Begun) → Coding (b .settings)
+  coded-by b = coding (b .settings) (begun-allowed b)
+
+  pub begun-keeps : (b : Begun) (G : ℕ → List ℤ) (a : ℕ → ℕ → ℕ) → Keeps (b .settings) G a 0 (startOf (b .settings))
+  unfolding startOf
+  begun-keeps b G a = keeps-start (b .settings) (coded-by b) G a
+
+  module _ (run : Run) where
+    bits-are : bits run ≡ brought (stateOf (run .begun .settings) (startOf (run .begun .settings))) (startOf (run .begun .settings) .memory) (run .calls)
+    unfolding bits
+    bits-are = ap₂ (λ st me. brought st me (run .calls)) (begun-state (run .begun)) (begun-memory (run .begun))
+
+    -- A run brings whole super frames of bits.
+    pub bits-whole : Whole (run .begun .settings) (bits run)
+    bits-whole = rw bits-are (brought-whole (run .begun .settings) (run .calls) (startOf (run .begun .settings)))
+
+    ahead : Ahead (bits run) 0 (brought (stateOf (run .begun .settings) (startOf (run .begun .settings))) (startOf (run .begun .settings) .memory) (run .calls))
+    ahead = subst (Ahead (bits run) 0) bits-are (all-ahead (bits run))
+
+    coded-run : (sent (stateOf (run .begun .settings) (startOf (run .begun .settings))) (startOf (run .begun .settings) .memory) (run .calls)
+        ≡ table (superFrame (run .begun .settings) (bits run)) 0
+        (length (brought (stateOf (run .begun .settings) (startOf (run .begun .settings))) (startOf (run .begun .settings) .memory) (run .calls) .sdc)))
+        × (every (map runNumber (refusals (stateOf (run .begun .settings) (startOf (run .begun .settings))) (startOf (run .begun .settings) .memory) (run .calls))) ≡ true)
+    coded-run =
+        all-coded (run .begun .settings) (coded-by (run .begun)) (begun-allowed (run .begun)) (bits run) bits-whole (run .calls) (startOf (run .begun .settings)) 0
+        (begun-keeps (run .begun) (frameAt (run .begun .settings) (bits run .frames)) storedAge) (omega arith) ahead
+
+    -- The cells sent are the standard's.
+    pub run-sends : cells run ≡ standardCells run
+    unfolding cells standardCells standard
+    run-sends =
+        ap₂ (λ st me. sent st me (run .calls)) (begun-state (run .begun)) (begun-memory (run .begun))
+        ∙ coded-run .0
+        ∙ ap (λ b. table (superFrame (run .begun .settings) (bits run)) 0 (length (b .sdc))) (sym bits-are)
+
+    -- A call of a run is refused by 9, 10 or 11 only.
+    pub run-refuses : every (map runNumber (refusals (stateAt (run .begun)) (memoryAt (run .begun)) (run .calls))) ≡ true
+    run-refuses = rw (begun-state (run .begun), begun-memory (run .begun)) (coded-run .1)

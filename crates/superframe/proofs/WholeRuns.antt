@@ -1,0 +1,142 @@
+-- Demand 3, proved of every settings whose coding is recovered by reading.
+use Prim.Native.Nat.{ℕ, _+_, _-_, _*_, _≤_}
+use mathlib.Core.Path.{_≡_, sym, ap, ap₂, _∙_, subst, subst₂}
+use mathlib.Core.List.{List, [], _++_, map}
+use native.Mathlib.Nat.{zero-add, zero-sub, sub-zero}
+use native.Mathlib.Omega.{arith}
+use lib.ListN.{length, getD, take, replicate, length-drop, length-replicate}
+use lib.Seq.{take-all, take-add}
+use Rattle.lists.proofs.Tables.{take-table, replicate-table}
+use Rattle.superframe.proofs.Lists.{take-of-table}
+use Rattle.lists.specs.Lists.{table}
+use Rattle.settings.specs.declared.Settings.{Settings}
+use Rattle.settings.specs.Refusal.{refusal}
+use Rattle.settings.specs.Sizes.{depth}
+use Rattle.block.specs.Block.{bitCount}
+use Rattle.channels.specs.Msc.{mscBlock}
+use Rattle.superframe.specs.Read.{ReadCall}
+use Rattle.superframe.specs.Runs.{Begun, stateAt, memoryAt, Bits, Closed, readCount, handed, Fed, Accepts, Run, bits}
+use Rattle.superframe.specs.Standard.{superFrame, standard}
+use Rattle.superframe.specs.WholeRuns.{standardCells, firstBits, allBits, WholeRuns}
+use Rattle.superframe.proofs.Coding.{Coding, depth-low, depth-high}
+use Rattle.superframe.proofs.History.{frameAt}
+use Rattle.superframe.proofs.Reader.{sentAge}
+use Rattle.superframe.proofs.CodeRuns.{Whole}
+use Rattle.superframe.proofs.ReadRuns.{between, reads-back, feedAll, feeds-all}
+use Rattle.superframe.proofs.Runs.{startOf, begun-allowed, begun-state, begun-memory, coded-by, begun-keeps, bits-whole, run-sends, run-refuses}
+use Rattle.superframe.proofs.SameBits.{fac-same, sdc-same, same-frames, super-frames-same}
+
+-- What is handed out from the first super frame on.
+pub between-first : (s : Settings) (B : Bits) → Whole s B → (j : ℕ) → j ≤ length (B .sdc) → between s B 0 j ≡ firstBits (depth s) j B
+unfolding between firstBits
+between-first s B w j h = λ i. record { fac = facs i; sdc = sdcs i; frames = framed i }
+  where
+    facs : table (λ i. getD (B .fac) i []) 0 (3 * j) ≡ take (3 * j) (B .fac)
+    facs = take-table [] (B .fac) (3 * j) (omega (arith, w .fac))
+
+    sdcs : table (λ i. getD (B .sdc) i []) 0 j ≡ take j (B .sdc)
+    sdcs = take-table [] (B .sdc) j h
+
+    framed : table (λ i. getD (B .frames) i []) (0 - (depth s - 1)) (3 * (0 + j) - (depth s - 1) - (0 - (depth s - 1))) ≡ take (3 * j - (depth s - 1)) (B .frames)
+    framed = rw (zero-sub, zero-add, sub-zero) (take-table [] (B .frames) (3 * j - (depth s - 1)) (omega (arith, w .frames)))
+
+module _ (coding : (s : Settings) → refusal s ≡ 0 → Coding s) where
+  -- A reader of the run's settings, over the super frames of bits B.
+  module _ (reader : Begun) (B : Bits) (w : Whole (reader .settings) B) where
+    -- Fed in order it accepts every call that feeds, and hands out what was brought.
+    pub reader-back : (calls : List ReadCall)
+        → Fed (standard (reader .settings) B) (stateAt reader) (memoryAt reader) calls
+        → Accepts (standard (reader .settings) B) (stateAt reader) (memoryAt reader) calls
+        × (handed (stateAt reader) (memoryAt reader) calls ≡ firstBits (depth (reader .settings)) (readCount (stateAt reader) (memoryAt reader) calls) B)
+    unfolding standard
+    reader-back calls F =
+        let s = reader .settings in
+        let r = reads-back s (coded-by coding reader) (begun-allowed reader) B w calls 0 (length (B .sdc)) (startOf s) (zero-add _) (begun-keeps coding reader (frameAt s (B .frames)) (sentAge (depth s)))
+        (subst₂ (λ st me. Fed (table (superFrame s B) 0 (length (B .sdc))) st me calls) (begun-state reader) (begun-memory reader) F) in (
+          subst₂ (λ st me. Accepts (table (superFrame s B) 0 (length (B .sdc))) st me calls) (sym (begun-state reader)) (sym (begun-memory reader)) (r .0),
+          rw (begun-state reader, begun-memory reader) (r .2 ∙ between-first s B w _ (r .1)),
+        )
+
+    -- There are calls that feed it all the super frames.
+    pub reader-all : Fed (standard (reader .settings) B) (stateAt reader) (memoryAt reader) (feedAll (reader .settings) (standard (reader .settings) B))
+        × (readCount (stateAt reader) (memoryAt reader) (feedAll (reader .settings) (standard (reader .settings) B)) ≡ length (B .sdc))
+    unfolding standard
+    reader-all =
+        let s = reader .settings in
+        let r = feeds-all s (coded-by coding reader) (begun-allowed reader) B w (length (B .sdc)) 0 (startOf s) (zero-add _) (begun-keeps coding reader (frameAt s (B .frames)) (sentAge (depth s))) in (
+          subst₂ (λ st me. Fed (table (superFrame s B) 0 (length (B .sdc))) st me (feedAll s (table (superFrame s B) 0 (length (B .sdc))))) (sym (begun-state reader)) (sym (begun-memory reader)) (r .0),
+          rw (begun-state reader, begun-memory reader) (r .1),
+        )
+
+-- The first of equal elements.
+take-equal : {A : Type 0} (z : A) (n m : ℕ) → m ≤ n → take m (replicate n z) ≡ replicate m z
+take-equal z n m h = ap (take m) (replicate-table z 0 n) ∙ take-of-table (λ i. z) 0 n m h ∙ sym (replicate-table z 0 m)
+
+-- A closed run has six frames.
+closed-six : (s : Settings) (b : Bits) → Closed s b → 6 ≤ length (b .frames)
+closed-six s b c =
+    let e : length (b .frames) - (length (b .frames) - 6) ≡ 6 = sym (length-drop (length (b .frames) - 6) (b .frames)) ∙ ap length (c .zeros) ∙ length-replicate 6 (replicate {A = ℕ} (bitCount (mscBlock s)) 0) in
+    omega arith
+
+-- Of a closed run's frames a reader hands out all before the closing, and of the closing's the first 7 - D.
+pub closed-frames : (s : Settings) (b : Bits) → Whole s b → Closed s b
+    → take (3 * length (b .sdc) - (depth s - 1)) (b .frames)
+    ≡ take (length (b .frames) - 6) (b .frames) ++ replicate (7 - depth s) (replicate (bitCount (mscBlock s)) 0)
+closed-frames s b w c =
+    let x = depth-low s in
+    let y = depth-high s in
+    let e : 3 * length (b .sdc) - (depth s - 1) ≡ (length (b .frames) - 6) + (7 - depth s) = omega (arith, w .frames, closed-six s b c) in
+    rw (e, take-add (length (b .frames) - 6) (7 - depth s) (b .frames), c .zeros, take-equal (replicate {A = ℕ} (bitCount (mscBlock s)) 0) 6 (7 - depth s) (omega arith))
+
+-- And all blocks.
+pub closed-all : (s : Settings) (b : Bits) → Whole s b → Closed s b → firstBits (depth s) (length (b .sdc)) b ≡ allBits s b
+unfolding firstBits allBits
+closed-all s b w c =
+    λ i. record {
+      fac = take-all (3 * length (b .sdc)) (b .fac) (omega (arith, w .fac)) i;
+      sdc = take-all (length (b .sdc)) (b .sdc) (omega arith) i;
+      frames = closed-frames s b w c i;
+    }
+
+-- Demand 3, of all settings whose coding is recovered.
+pub whole-runs-of : ((s : Settings) → refusal s ≡ 0 → Coding s) → WholeRuns
+unfolding standardCells
+whole-runs-of coding =
+    record {
+      sends = run-sends coding;
+      same = λ one two e n c d. (
+        λ p. ap₂ standard e p,
+        λ p.
+            let s = one .begun .settings in
+            let each = super-frames-same s (bits one) (bits two) (p ∙ ap (λ x. standard x (bits two)) (sym e)) in
+            λ i. record {
+              fac = fac-same s (coded-by coding (one .begun)) (bits one) (bits two) (bits-whole coding one) (whole two s (sym e)) n (λ m l. ap (λ f. f .fac) (each m l)) i;
+              sdc = sdc-same s (coded-by coding (one .begun)) (bits one) (bits two) (bits-whole coding one) (whole two s (sym e)) n (λ m l. ap (λ f. f .sdc) (each m l)) i;
+              frames = same-frames coding one two e n c d .1 (ap (map (λ f. f .msc)) p) i;
+            },
+      );
+      readsBack = back;
+      readsAll = λ run reader calls e c F h.
+          back run reader calls e F .1
+          ∙ ap (λ j. firstBits (depth (reader .settings)) j (bits run)) h
+          ∙ closed-all (reader .settings) (bits run) (whole run (reader .settings) (sym e)) (subst (λ x. Closed x (bits run)) (sym e) c);
+      readable = λ run reader e.
+          let calls = feedAll (reader .settings) (standard (reader .settings) (bits run)) in
+          let r = reader-all coding reader (bits run) (whole run (reader .settings) (sym e)) in
+          (calls, (subst (λ x. Fed (standard x (bits run)) (stateAt reader) (memoryAt reader) calls) e (r .0), r .1));
+      refuses = run-refuses coding;
+    }
+  where
+    whole : (one : Run) (s : Settings) → one .begun .settings ≡ s → Whole s (bits one)
+    whole one s e = subst (λ x. Whole x (bits one)) e (bits-whole coding one)
+
+    back : (run : Run) (reader : Begun) (calls : List ReadCall)
+        → reader .settings ≡ run .begun .settings
+        → Fed (standardCells run) (stateAt reader) (memoryAt reader) calls
+        → Accepts (standardCells run) (stateAt reader) (memoryAt reader) calls
+        × (handed (stateAt reader) (memoryAt reader) calls
+        ≡ firstBits (depth (reader .settings)) (readCount (stateAt reader) (memoryAt reader) calls) (bits run))
+    back run reader calls e F =
+        let r = reader-back coding reader (bits run) (whole run (reader .settings) (sym e)) calls
+        (subst (λ x. Fed (standard x (bits run)) (stateAt reader) (memoryAt reader) calls) (sym e) F) in
+        (subst (λ x. Accepts (standard x (bits run)) (stateAt reader) (memoryAt reader) calls) e (r .0), r .1)
