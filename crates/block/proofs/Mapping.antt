@@ -14,11 +14,11 @@ use Rattle.component.specs.Bits.{Bits}
 use Rattle.component.proofs.Bits.{bits-nil}
 use Rattle.lists.proofs.Counting.{below-or}
 use Rattle.lists.proofs.Tables.{length-table, table-at, table-is}
-use Rattle.block.specs.Mapping.{coordinate, qam4, qam16, standard64, symmetric64, Constellation, constellation, axis, numberAt, mapped, weave, woven}
+use Rattle.block.specs.Mapping.{coordinate, qam4, qam16, standard64, symmetric64, Constellation, constellation, axis, labelAt, mapped, weave, woven}
 use Rattle.lists.specs.Same.{sameNumber}
 use Rattle.block.specs.Points.{onAxis, arePoints}
 use Rattle.lists.proofs.Bools.{every-table}
-use Rattle.block.specs.Reading.{placeOf, numbersOf, streamIn, unmapped, taken}
+use Rattle.block.specs.Reading.{placeOf, labelsOf, streamIn, unmapped, taken}
 use Rattle.block.specs.Fits.{Streams, Labelling, Labels}
 use Rattle.lists.proofs.Same.{sameNumber-refl}
 use Rattle.block.proofs.Lists.{bits-table}
@@ -79,54 +79,54 @@ streams-rest : {n : ℕ} {y : List ℕ} {ys : List (List ℕ)} → Streams n (y 
 streams-rest S = record { long = λ i h. S .long (suc i) (omega arith); bits = λ i. S .bits (suc i) }
 
 -- the number of m level bits is below 2^m
-pub number-low : {n : ℕ} {ys : List (List ℕ)} → Streams n ys → (j : ℕ) → numberAt ys j < 2 ^ length ys
-unfolding numberAt
+pub number-low : {n : ℕ} {ys : List (List ℕ)} → Streams n ys → (j : ℕ) → labelAt ys j < 2 ^ length ys
+unfolding labelAt
 number-low {ys = []} S j = omega arith
 number-low {ys = y ∷ ys} S j = rw pow-suc (omega (arith, number-low (streams-rest S) j, S .bits 0 .bit j))
 
 -- its digits are the level bits
-pub number-digit : {n : ℕ} {ys : List (List ℕ)} → Streams n ys → (j i : ℕ) → numberAt ys j / 2 ^ i % 2 ≡ getD (getD ys i []) j 0
-unfolding numberAt
+pub number-digit : {n : ℕ} {ys : List (List ℕ)} → Streams n ys → (j i : ℕ) → labelAt ys j / 2 ^ i % 2 ≡ getD (getD ys i []) j 0
+unfolding labelAt
 number-digit {ys = []} S j i = rw zero-div
 number-digit {ys = y ∷ ys} S j zero = omega (arith, S .bits 0 .bit j)
 number-digit {ys = y ∷ ys} S j (suc i) =
-    let e : (getD y j 0 + 2 * numberAt ys j) / 2 ≡ numberAt ys j = omega (arith, S .bits 0 .bit j) in
+    let e : (getD y j 0 + 2 * labelAt ys j) / 2 ≡ labelAt ys j = omega (arith, S .bits 0 .bit j) in
     rw (shr-suc, e) (number-digit (streams-rest S) j i)
 
 -- so many numbers are mapped
 pub length-mapped : (k : Constellation) (n : ℕ) (ys : List (List ℕ)) → length (mapped k n ys) ≡ n
 unfolding mapped
-length-mapped k n ys = length-table (λ j. getD (axis k j) (numberAt ys j) (pos 0)) 0 n
+length-mapped k n ys = length-table (λ j. getD (axis k j) (labelAt ys j) (pos 0)) 0 n
 
 -- each by its level bits
-pub getD-mapped : (k : Constellation) (n : ℕ) (ys : List (List ℕ)) (j : ℕ) → j < n → getD (mapped k n ys) j (pos 0) ≡ getD (axis k j) (numberAt ys j) (pos 0)
+pub getD-mapped : (k : Constellation) (n : ℕ) (ys : List (List ℕ)) (j : ℕ) → j < n → getD (mapped k n ys) j (pos 0) ≡ getD (axis k j) (labelAt ys j) (pos 0)
 unfolding mapped
-getD-mapped k n ys j h = table-at (λ i. getD (axis k i) (numberAt ys i) (pos 0)) 0 n j (pos 0) h ∙ rw zero-add
+getD-mapped k n ys j h = table-at (λ i. getD (axis k i) (labelAt ys i) (pos 0)) 0 n j (pos 0) h ∙ rw zero-add
 
 -- there are as many numbers as coordinates
-pub length-numbers : (k : Constellation) (cells : List ℤ) → length (numbersOf k cells) ≡ length cells
-unfolding numbersOf
+pub length-numbers : (k : Constellation) (cells : List ℤ) → length (labelsOf k cells) ≡ length cells
+unfolding labelsOf
 length-numbers k cells = length-table (λ j. placeOf (axis k j) (getD cells j (pos 0))) 0 (length cells)
 
 -- mapping and back: the numbers of the level bits
 pub numbers-mapped : {m w : ℕ} {k : Constellation} {ys : List (List ℕ)} → Labels m k → Streams w ys → length ys ≡ m
-    → (n : ℕ) → numbersOf k (mapped k n ys) ≡ table (numberAt ys) 0 n
-unfolding numbersOf
+    → (n : ℕ) → labelsOf k (mapped k n ys) ≡ table (labelAt ys) 0 n
+unfolding labelsOf
 numbers-mapped {m} {w} {k} {ys} L S e n =
-    table-is (λ j. placeOf (axis k j) (getD (mapped k n ys) j (pos 0))) 0 (length (mapped k n ys)) (table (numberAt ys) 0 n)
-    (length-table (numberAt ys) 0 n ∙ sym (length-mapped k n ys))
+    table-is (λ j. placeOf (axis k j) (getD (mapped k n ys) j (pos 0))) 0 (length (mapped k n ys)) (table (labelAt ys) 0 n)
+    (length-table (labelAt ys) 0 n ∙ sym (length-mapped k n ys))
     (λ j h. let l : j < n = omega (arith, length-mapped k n ys) in
-    rw (getD-mapped k n ys j l, table-at (numberAt ys) 0 n j 0 l, zero-add)
-    (axis-labels L j .found (numberAt ys j) (rw e at (number-low S j))))
+    rw (getD-mapped k n ys j l, table-at (labelAt ys) 0 n j 0 l, zero-add)
+    (axis-labels L j .found (labelAt ys j) (rw e at (number-low S j))))
 
 -- the streams that the levels give back, where each goes to both axes
 streams-same : {m n : ℕ} {k : Constellation} {ys : List (List ℕ)} → Labels m k → Streams n ys → length ys ≡ m
-    → (l : ℕ) → l < length ys → streamIn false (numbersOf k (mapped k n ys)) l ≡ getD ys l []
+    → (l : ℕ) → l < length ys → streamIn false (labelsOf k (mapped k n ys)) l ≡ getD ys l []
 unfolding streamIn taken
 streams-same {m} {n} {k} {ys} L S e l h =
-    rw (numbers-mapped L S e n, length-table (numberAt ys) 0 n)
-    (table-is (λ j. getD (table (numberAt ys) 0 n) j 0 / 2 ^ l % 2) 0 n (getD ys l []) (S .long l h)
-    (λ j i. rw (table-at (numberAt ys) 0 n j 0 i, zero-add) (number-digit S j l)))
+    rw (numbers-mapped L S e n, length-table (labelAt ys) 0 n)
+    (table-is (λ j. getD (table (labelAt ys) 0 n) j 0 / 2 ^ l % 2) 0 n (getD ys l []) (S .long l h)
+    (λ j i. rw (table-at (labelAt ys) 0 n j 0 i, zero-add) (number-digit S j l)))
 
 -- a woven stream
 pub length-weave : (re im : List ℕ) → length (weave re im) ≡ 2 * length re
@@ -187,11 +187,11 @@ of-pair ys i (suc (suc a)) l e h = absurd (omega arith)
 
 -- the streams that the levels give back, where each goes to one axis
 streams-apart : {m n : ℕ} {k : Constellation} {ys : List (List ℕ)} → Labels m k → Streams n ys → length ys ≡ 2 * m
-    → (l : ℕ) → l < length ys → streamIn true (numbersOf k (mapped k (2 * n) (woven ys))) l ≡ getD ys l []
+    → (l : ℕ) → l < length ys → streamIn true (labelsOf k (mapped k (2 * n) (woven ys))) l ≡ getD ys l []
 unfolding streamIn taken
 streams-apart {m} {n} {k} {ys} L S e l h =
     let W = streams-woven m S e in
-    let f = numberAt (woven ys) in
+    let f = labelAt (woven ys) in
     let g : ℕ → ℕ = λ j. getD (table f 0 (2 * n)) (2 * j + l % 2) 0 in
     let q : 2 * n / 2 ≡ n = omega arith in
     rw (numbers-mapped L W (length-woven m ys e) (2 * n), length-table f 0 (2 * n), q, length-table g 0 n)
@@ -214,8 +214,8 @@ pub unmapped-mapped : {m : ℕ} {k : Constellation} {ys : List (List ℕ)} (one 
     → Labels m k → Streams (cond one c (2 * c)) ys → length ys ≡ cond one (2 * m) m
     → unmapped k one (length ys) (mapped k (2 * c) (cond one (woven ys) ys)) ≡ ys
 unfolding unmapped
-unmapped-mapped {k = k} {ys} true c L S e = table-is (streamIn true (numbersOf k (mapped k (2 * c) (woven ys)))) [] (length ys) ys refl (streams-apart L S e)
-unmapped-mapped {k = k} {ys} false c L S e = table-is (streamIn false (numbersOf k (mapped k (2 * c) ys))) [] (length ys) ys refl (streams-same L S e)
+unmapped-mapped {k = k} {ys} true c L S e = table-is (streamIn true (labelsOf k (mapped k (2 * c) (woven ys)))) [] (length ys) ys refl (streams-apart L S e)
+unmapped-mapped {k = k} {ys} false c L S e = table-is (streamIn false (labelsOf k (mapped k (2 * c) ys))) [] (length ys) ys refl (streams-same L S e)
 
 -- a coordinate of a labelling is on its axis
 onAxis-getD : (l : List ℤ) (i : ℕ) → i < length l → onAxis l (getD l i (pos 0)) ≡ true
@@ -234,4 +234,4 @@ unfolding arePoints
 points-mapped {m} {w} {k} {ys} L S e n =
     every-table (λ j. onAxis (axis k j) (getD (mapped k n ys) j (pos 0))) 0 (length (mapped k n ys))
     (λ j a b. let l : j < n = omega (arith, length-mapped k n ys) in
-    rw (getD-mapped k n ys j l) (onAxis-getD (axis k j) (numberAt ys j) (rw (axis-labels L j .size, ← e) (number-low S j))))
+    rw (getD-mapped k n ys j l) (onAxis-getD (axis k j) (labelAt ys j) (rw (axis-labels L j .size, ← e) (number-low S j))))

@@ -66,13 +66,13 @@ unfoldable pub axis : Constellation → ℕ → List ℤ
 axis k j = cond (eqb (j % 2) 0) (k .real) (k .imaginary)
 
 -- The number i0 + 2 × i1 + 4 × i2 of the level bits at place j of the levels' streams.
-unfoldable pub numberAt : List (List ℕ) → ℕ → ℕ
-numberAt [] j = 0
-numberAt (y ∷ ys) j = getD y j 0 + 2 * numberAt ys j
+unfoldable pub labelAt : List (List ℕ) → ℕ → ℕ
+labelAt [] j = 0
+labelAt (y ∷ ys) j = getD y j 0 + 2 * labelAt ys j
 
 -- The first n numbers of the cells: each level's bits go alternately to the real and the imaginary axis.
 unfoldable pub mapped : Constellation → ℕ → List (List ℕ) → List ℤ
-mapped k n ys = table (λ j. getD (axis k j) (numberAt ys j) (pos 0)) 0 n
+mapped k n ys = table (λ j. getD (axis k j) (labelAt ys j) (pos 0)) 0 n
 
 -- HMmix: a level of the real axis and one of the imaginary axis as one stream, real before imaginary.
 unfoldable pub weave : List ℕ → List ℕ → List ℕ

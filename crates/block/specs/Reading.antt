@@ -25,8 +25,8 @@ placeOf [] v = 0
 placeOf (w ∷ ws) v = cond (sameNumber w v) 0 (suc (placeOf ws v))
 
 -- These numbers of all cells, flat, real before imaginary.
-unfoldable pub numbersOf : Constellation → List ℤ → List ℕ
-numbersOf k cells = table (λ j. placeOf (axis k j) (getD cells j (pos 0))) 0 (length cells)
+unfoldable pub labelsOf : Constellation → List ℤ → List ℕ
+labelsOf k cells = table (λ j. placeOf (axis k j) (getD cells j (pos 0))) 0 (length cells)
 
 -- The bits of the level with that weight.
 unfoldable pub taken : ℕ → List ℕ → List ℕ
@@ -43,7 +43,7 @@ streamIn one numbers l =
 
 -- The streams of m levels from the cells.
 unfoldable pub unmapped : Constellation → Bool → ℕ → List ℤ → List (List ℕ)
-unmapped k one m cells = let numbers = numbersOf k cells in table (streamIn one numbers) 0 m
+unmapped k one m cells = let numbers = labelsOf k cells in table (streamIn one numbers) 0 m
 
 -- Bit interleaving undone; bits as they are where t is 0.
 unfoldable pub unmixed : ℕ → List ℕ → List ℕ

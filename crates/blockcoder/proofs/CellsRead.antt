@@ -9,7 +9,7 @@ use lib.ListN.{length, take, drop}
 use lib.Seq.{length-take-le, drop-at}
 use Rattle.lists.specs.Lists.{table}
 use Rattle.lists.proofs.Parts.{from-start, to-end, length-start, length-written, length-second, both-written}
-use Rattle.block.specs.Reading.{numbersOf, streamIn, unmapped, inputsA, inputsB, candidate}
+use Rattle.block.specs.Reading.{labelsOf, streamIn, unmapped, inputsA, inputsB, candidate}
 use Rattle.block.specs.declared.Block.{Block}
 use Rattle.block.specs.Dispersal.{dispersed, dispersedParts}
 use Rattle.block.specs.Mapping.{constellation}
@@ -27,11 +27,11 @@ digits-low true s l h k = omega arith
 digits-low false s l h k = omega arith
 
 module _ {k : Block} {cells : List ℤ} {a b : List ℕ} (R : ReadsCells k cells a b) where
-  -- the levels can be read from the numbers of the block's coordinates
-  pub reads-both : {numbers p : List ℕ} → numbers ≡ p → length p ≡ length cells → ReadsLevels k numbers a b
-  reads-both {numbers} g h =
+  -- the levels can be read from the labels of the block's coordinates
+  pub reads-both : {labels p : List ℕ} → labels ≡ p → length p ≡ length cells → ReadsLevels k labels a b
+  reads-both {labels} g h =
       let F = R .fits in
-      let e : length numbers ≡ 2 * k .cells = rw g (h ∙ R .long) in
+      let e : length labels ≡ 2 * k .cells = rw g (h ∙ R .long) in
       let half : 2 * k .cells / 2 ≡ k .cells = omega arith in
       record {
         few = F .few;
@@ -44,7 +44,7 @@ module _ {k : Block} {cells : List ℤ} {a b : List ℕ} (R : ReadsCells k cells
         high = omega (arith, e, F .most);
       }
 
-  -- coordinates of the block's cells, to numbers
+  -- coordinates of the block's cells, to labels
   pub unmaps : {out : List ℕ} → length out ≡ length cells → Unmaps (k .constellation) cells out
   unmaps e = record { known = R .fits .known; whole = rw (R .long) (omega arith); same = e }
 
@@ -52,9 +52,9 @@ module _ {k : Block} {cells : List ℤ} {a b : List ℕ} (R : ReadsCells k cells
   cells-low = omega (arith, R .long, R .fits .most)
 
   -- what is read from them
-  pub read-both : {a′ b′ numbers : List ℕ} → numbers ≡ numbersOf (constellation (k .constellation)) cells
-      → a′ ≡ inputsA (levelsOf k) (table (streamIn (oneAxis k) numbers) 0 (k .count))
-      → b′ ≡ inputsB (levelsOf k) (table (streamIn (oneAxis k) numbers) 0 (k .count))
+  pub read-both : {a′ b′ labels : List ℕ} → labels ≡ labelsOf (constellation (k .constellation)) cells
+      → a′ ≡ inputsA (levelsOf k) (table (streamIn (oneAxis k) labels) 0 (k .count))
+      → b′ ≡ inputsB (levelsOf k) (table (streamIn (oneAxis k) labels) 0 (k .count))
       → CellsRead k cells a′ b′
   unfolding unmapped pointsOf
   read-both e p q = record { partA = rw (count-is (R .fits)) (rw e at p); partB = rw (count-is (R .fits)) (rw e at q) }

@@ -19,9 +19,9 @@ use Rattle.block.specs.declared.Block.{Block}
 use Rattle.block.specs.Packing.{unpacked}
 use Rattle.block.specs.Dispersal.{dispersedParts}
 use Rattle.block.specs.Levels.{streams}
-use Rattle.block.specs.Mapping.{constellation, numberAt, mapped, weave, woven}
-use Rattle.mapping.specs.Numbers.{coordinates}
-use Rattle.mapping.specs.Contracts.{Numbers}
+use Rattle.block.specs.Mapping.{constellation, labelAt, mapped, weave, woven}
+use Rattle.mapping.specs.Labels.{coordinates}
+use Rattle.mapping.specs.Contracts.{ThreeBits}
 use Rattle.block.specs.Block.{levelsOf, pointsOf, oneAxis, bitCount, streamsOf, cellsOf, cellsFrom}
 use Rattle.multilevel.specs.Contracts.{bitsBefore, streamAt, stepped, CodesLevels}
 use Rattle.multilevel.proofs.Totals.{total-A, all-bits, streams-are, count-is, three, codes-levels, length-streamAt, number-low}
@@ -30,14 +30,14 @@ use Rattle.block.proofs.Packing.{length-unpacked}
 use Rattle.block.proofs.Dispersal.{length-dispersedParts, bits-dispersedParts}
 use Rattle.blockcoder.specs.Contracts.{cellsBy, UnpacksParts, MapsParts, MapsAxesParts, CodesParts, CodesBits}
 use Rattle.block.specs.Fits.{BlockLent}
-use Rattle.blockcoder.proofs.Woven.{mapped-numbers, numbers-woven}
+use Rattle.blockcoder.proofs.Woven.{mapped-labels, labels-woven}
 
--- the numbers of at most three levels are numbers of level bits
-numbers-low : (ls : List Level) (a b : List ℕ) (l s m n : ℕ) → m ≤ 3 → Numbers (table (numberAt (stepped (streamAt ls a b) l s m)) 0 n)
-numbers-low ls a b l s m n h = record { low = λ k. go k (below-or k n) }
+-- the labels of at most three levels are labels of level bits
+labels-low : (ls : List Level) (a b : List ℕ) (l s m n : ℕ) → m ≤ 3 → ThreeBits (table (labelAt (stepped (streamAt ls a b) l s m)) 0 n)
+labels-low ls a b l s m n h = record { low = λ k. go k (below-or k n) }
   where
     f : ℕ → ℕ
-    f = numberAt (stepped (streamAt ls a b) l s m)
+    f = labelAt (stepped (streamAt ls a b) l s m)
 
     go : (k : ℕ) → (k < n) ⊎ (n ≤ k) → getD (table f 0 n) k 0 < 8
     go k (inl i) = rw (getD-table 0 f n k i) (omega (arith, number-low ls a b l s m k, pow-mono {i = m} {j = 3} h))
@@ -55,15 +55,15 @@ module _ {k : Block} {a b : List ℕ} {out : List ℤ} (C : CodesParts k a b out
   few = omega (arith, sym (count-is (C .fits)) ∙ rw one at (C .fits .levels), three (C .fits))
 
   -- they can be coded
-  pub codes-both : {numbers : List ℕ} → length numbers ≡ length out → CodesLevels (k .levels) 0 1 (k .count) a b numbers
+  pub codes-both : {labels : List ℕ} → length labels ≡ length out → CodesLevels (k .levels) 0 1 (k .count) a b labels
   codes-both e = codes-levels (C .fits) (C .parts) both out-low (C .inputA) (C .inputB) 1 0 (k .count) (omega arith) (omega arith) (omega arith) few (omega arith) e
 
-  module _ {numbers : List ℕ} (e : numbers ≡ table (numberAt (stepped (streamAt (k .levels) a b) 0 1 (k .count))) 0 (length out)) where
-    same-count : length numbers ≡ length out
+  module _ {labels : List ℕ} (e : labels ≡ table (labelAt (stepped (streamAt (k .levels) a b) 0 1 (k .count))) 0 (length out)) where
+    same-count : length labels ≡ length out
     same-count = rw e (length-table _ 0 (length out))
 
-    -- and their numbers mapped
-    pub maps-both : MapsParts (k .constellation) (k .parta) numbers out
+    -- and their labels mapped
+    pub maps-both : MapsParts (k .constellation) (k .parta) labels out
     maps-both =
         record {
           known = C .fits .known;
@@ -71,14 +71,14 @@ module _ {k : Block} {a b : List ℕ} {out : List ℤ} (C : CodesParts k a b out
           whole = rw (same-count, C .cells) (omega arith);
           part = rw same-count (omega (arith, C .cells, C .fits .part));
           high = rw same-count (omega (arith, out-low));
-          low = rw e (numbers-low (k .levels) a b 0 1 (k .count) (length out) few);
+          low = rw e (labels-low (k .levels) a b 0 1 (k .count) (length out) few);
         }
 
     -- to the cells
-    pub mapped-both : {out′ : List ℤ} → out′ ≡ coordinates (constellation (k .constellation)) numbers
+    pub mapped-both : {out′ : List ℤ} → out′ ≡ coordinates (constellation (k .constellation)) labels
         → out′ ≡ mapped (pointsOf k) (2 * k .cells) (streams (levelsOf k) a b)
     unfolding pointsOf
-    mapped-both f = f ∙ rw (e, streams-are (C .fits) a b, C .cells) (mapped-numbers (constellation (k .constellation)) (2 * k .cells) _)
+    mapped-both f = f ∙ rw (e, streams-are (C .fits) a b, C .cells) (mapped-labels (constellation (k .constellation)) (2 * k .cells) _)
 
 -- levels that go to one axis
 module _ {k : Block} {a b : List ℕ} {out : List ℤ} (C : CodesParts k a b out) (one : oneAxis k ≡ true) where
@@ -98,20 +98,20 @@ module _ {k : Block} {a b : List ℕ} {out : List ℤ} (C : CodesParts k a b out
   twice = omega (arith, count)
 
   -- those of the real axis can be coded, and those of the imaginary one
-  pub codes-axis : {numbers : List ℕ} (l : ℕ) → l ≤ 1 → length numbers ≡ k .cells → CodesLevels (k .levels) l 2 (k .count / 2) a b numbers
+  pub codes-axis : {labels : List ℕ} (l : ℕ) → l ≤ 1 → length labels ≡ k .cells → CodesLevels (k .levels) l 2 (k .count / 2) a b labels
   codes-axis l h e =
       codes-levels (C .fits) (C .parts) axis cells-low (C .inputA) (C .inputB) 2 l (k .count / 2) (omega arith) (omega arith) h pairs (omega (arith, twice)) e
 
   module _ {re im : List ℕ}
-      (e : re ≡ table (numberAt (stepped (streamAt (k .levels) a b) 0 2 (k .count / 2))) 0 (k .cells))
-      (f : im ≡ table (numberAt (stepped (streamAt (k .levels) a b) 1 2 (k .count / 2))) 0 (k .cells)) where
+      (e : re ≡ table (labelAt (stepped (streamAt (k .levels) a b) 0 2 (k .count / 2))) 0 (k .cells))
+      (f : im ≡ table (labelAt (stepped (streamAt (k .levels) a b) 1 2 (k .count / 2))) 0 (k .cells)) where
     real-count : length re ≡ k .cells
     real-count = rw e (length-table _ 0 (k .cells))
 
     imaginary-count : length im ≡ k .cells
     imaginary-count = rw f (length-table _ 0 (k .cells))
 
-    -- their numbers can be mapped
+    -- their labels can be mapped
     pub maps-both-axes : MapsAxesParts (k .constellation) (k .parta) re im out
     maps-both-axes =
         record {
@@ -120,8 +120,8 @@ module _ {k : Block} {a b : List ℕ} {out : List ℤ} (C : CodesParts k a b out
           both = imaginary-count ∙ sym real-count;
           part = rw real-count (C .fits .part);
           high = rw real-count (omega (arith, cells-low));
-          lowReal = rw e (numbers-low (k .levels) a b 0 2 (k .count / 2) (k .cells) pairs);
-          lowImaginary = rw f (numbers-low (k .levels) a b 1 2 (k .count / 2) (k .cells) pairs);
+          lowReal = rw e (labels-low (k .levels) a b 0 2 (k .count / 2) (k .cells) pairs);
+          lowImaginary = rw f (labels-low (k .levels) a b 1 2 (k .count / 2) (k .cells) pairs);
         }
 
     -- to the cells
@@ -130,11 +130,11 @@ module _ {k : Block} {a b : List ℕ} {out : List ℤ} (C : CodesParts k a b out
     unfolding pointsOf
     mapped-axes g =
         let S = streamAt (k .levels) a b in
-        let w : weave re im ≡ table (numberAt (woven (stepped S 0 1 (k .count)))) 0 (2 * k .cells) =
+        let w : weave re im ≡ table (labelAt (woven (stepped S 0 1 (k .count)))) 0 (2 * k .cells) =
         rw (e, f)
-        (numbers-woven S (k .cells) (k .count / 2) (λ i h. length-streamAt (C .fits) (C .parts) axis cells-low (C .inputA) (C .inputB) i (omega (arith, twice)))
-        ∙ ap (λ m. table (numberAt (woven (stepped S 0 1 m))) 0 (2 * k .cells)) twice) in
-        g ∙ rw (w, streams-are (C .fits) a b) (mapped-numbers (constellation (k .constellation)) (2 * k .cells) _)
+        (labels-woven S (k .cells) (k .count / 2) (λ i h. length-streamAt (C .fits) (C .parts) axis cells-low (C .inputA) (C .inputB) i (omega (arith, twice)))
+        ∙ ap (λ m. table (labelAt (woven (stepped S 0 1 m))) 0 (2 * k .cells)) twice) in
+        g ∙ rw (w, streams-are (C .fits) a b) (mapped-labels (constellation (k .constellation)) (2 * k .cells) _)
 
 -- the dispersed bits of a block
 module _ {k : Block} {bits : List ℕ} {out : List ℤ} (C : CodesBits k bits out) {at : ℕ} (e : at ≡ bitsBefore (k .levels) false (k .count)) where

@@ -1,4 +1,4 @@
--- Bits unpacked and numbers mapped in two parts. Assumes nothing.
+-- Bits unpacked and labels mapped in two parts. Assumes nothing.
 use Prim.Native.Nat.{ℕ, _-_, _*_, _≤_}
 use mathlib.Core.Path.{_≡_, sym, ap, ap₂, _∙_}
 use mathlib.Core.List.{List, _++_}
@@ -11,13 +11,13 @@ use Rattle.lists.proofs.Tables.{length-table}
 use Rattle.block.specs.Packing.{bitAt, unpacked}
 use Rattle.block.specs.Dispersal.{dispersed, dispersedParts}
 use Rattle.block.specs.Mapping.{Constellation, constellation, weave}
-use Rattle.mapping.specs.Numbers.{coordinates}
+use Rattle.mapping.specs.Labels.{coordinates}
 use Rattle.mapping.specs.Contracts.{Maps, MapsAxes}
 use Rattle.block.proofs.Dispersal.{length-dispersed}
 use Rattle.block.proofs.Mapping.{length-weave}
 use Rattle.blockcoder.specs.Contracts.{UnpacksParts, MapsParts, MapsAxesParts}
 use Rattle.lists.proofs.Parts.{from-start, to-end, length-start, length-end, length-second, both-written}
-use Rattle.blockcoder.proofs.Lists.{take-table, drop-table, numbers-take, numbers-drop, coordinates-parts, weave-take, weave-drop}
+use Rattle.blockcoder.proofs.Lists.{take-table, drop-table, labels-take, labels-drop, coordinates-parts, weave-take, weave-drop}
 
 module _ {bytes : List ℕ} {v : ℕ} {bits : List ℕ} (U : UnpacksParts bytes v bits)
     {p : List ℕ} (e : p ≡ dispersed 0 (table (bitAt bytes) 0 (length (take (v - 0) bits)))) where
@@ -39,62 +39,62 @@ module _ {bytes : List ℕ} {v : ℕ} {bits : List ℕ} (U : UnpacksParts bytes 
       (e ∙ ap (λ n. dispersed 0 (table (bitAt bytes) 0 n)) (length-start v bits (U .front)) ∙ ap (dispersed 0) (sym (take-table (bitAt bytes) v (length bits) (U .front))))
       (f ∙ ap (λ n. dispersed 0 (table (bitAt bytes) v n)) (length-second bits p v (U .front) length-bits) ∙ ap (dispersed 0) (sym (drop-table (bitAt bytes) v (length bits) (U .front))))
 
--- as many coordinates as numbers
-pub length-coordinates : (k : Constellation) (numbers : List ℕ) → length (coordinates k numbers) ≡ length numbers
+-- as many coordinates as labels
+pub length-coordinates : (k : Constellation) (labels : List ℕ) → length (coordinates k labels) ≡ length labels
 unfolding coordinates
-length-coordinates k numbers = length-table _ 0 (length numbers)
+length-coordinates k labels = length-table _ 0 (length labels)
 
--- a buffer of as many coordinates as numbers, written in two parts
-module _ (k : Constellation) (numbers : List ℕ) (out p : List ℤ) (n : ℕ) (h : 2 * n ≤ length numbers) (s : length out ≡ length numbers)
-    (e : p ≡ coordinates k (take (2 * n) numbers)) where
+-- a buffer of as many coordinates as labels, written in two parts
+module _ (k : Constellation) (labels : List ℕ) (out p : List ℤ) (n : ℕ) (h : 2 * n ≤ length labels) (s : length out ≡ length labels)
+    (e : p ≡ coordinates k (take (2 * n) labels)) where
   pub length-coded : length p ≡ 2 * n
-  length-coded = rw e (length-coordinates k (take (2 * n) numbers)) ∙ length-take-le (2 * n) numbers h
+  length-coded = rw e (length-coordinates k (take (2 * n) labels)) ∙ length-take-le (2 * n) labels h
 
-  pub coordinates-written : (q : List ℤ) → q ≡ coordinates k (drop (2 * n) numbers)
+  pub coordinates-written : (q : List ℤ) → q ≡ coordinates k (drop (2 * n) labels)
       → take (2 * n) (p ++ drop (2 * n - 0) out)
       ++ (q ++ drop (length (p ++ drop (2 * n - 0) out) - 2 * n) (drop (2 * n) (p ++ drop (2 * n - 0) out)))
-      ≡ coordinates k numbers
+      ≡ coordinates k labels
   coordinates-written q f =
-      both-written out p (2 * n) (rw s h) length-coded q ∙ ap₂ _++_ e f ∙ coordinates-parts k numbers n h
+      both-written out p (2 * n) (rw s h) length-coded q ∙ ap₂ _++_ e f ∙ coordinates-parts k labels n h
 
-module _ {c n1 : ℕ} {numbers : List ℕ} {out : List ℤ} (M : MapsParts c n1 numbers out) where
+module _ {c n1 : ℕ} {labels : List ℕ} {out : List ℤ} (M : MapsParts c n1 labels out) where
   -- part A can be mapped
-  pub maps-first : Maps c (take (2 * n1 - 0) numbers) (take (2 * n1 - 0) out)
+  pub maps-first : Maps c (take (2 * n1 - 0) labels) (take (2 * n1 - 0) out)
   maps-first =
-      let e : length (take (2 * n1 - 0) numbers) ≡ 2 * n1 = length-start (2 * n1) numbers (M .part) in
+      let e : length (take (2 * n1 - 0) labels) ≡ 2 * n1 = length-start (2 * n1) labels (M .part) in
       record {
         known = M .known;
         same = length-start (2 * n1) out (omega (arith, M .part, M .same)) ∙ sym e;
         whole = rw e (omega arith);
-        low = numbers-take (2 * n1 - 0) (M .low);
+        low = labels-take (2 * n1 - 0) (M .low);
       }
 
-  module _ {p : List ℤ} (e : p ≡ coordinates (constellation c) (take (2 * n1 - 0) numbers)) where
-    first-cells : p ≡ coordinates (constellation c) (take (2 * n1) numbers)
+  module _ {p : List ℤ} (e : p ≡ coordinates (constellation c) (take (2 * n1 - 0) labels)) where
+    first-cells : p ≡ coordinates (constellation c) (take (2 * n1) labels)
     first-cells = rw (from-start (2 * n1)) at e
 
     length-cells : length p ≡ 2 * n1
-    length-cells = length-coded (constellation c) numbers out p n1 (M .part) (M .same) first-cells
+    length-cells = length-coded (constellation c) labels out p n1 (M .part) (M .same) first-cells
 
     -- and so can part B
-    pub maps-second : Maps c (take (length numbers - 2 * n1) (drop (2 * n1) numbers))
+    pub maps-second : Maps c (take (length labels - 2 * n1) (drop (2 * n1) labels))
         (take (length (p ++ drop (2 * n1 - 0) out) - 2 * n1) (drop (2 * n1) (p ++ drop (2 * n1 - 0) out)))
     maps-second =
-        let f : length (take (length numbers - 2 * n1) (drop (2 * n1) numbers)) ≡ length numbers - 2 * n1 = length-end (2 * n1) numbers in
+        let f : length (take (length labels - 2 * n1) (drop (2 * n1) labels)) ≡ length labels - 2 * n1 = length-end (2 * n1) labels in
         record {
           known = M .known;
           same = length-second out p (2 * n1) (omega (arith, M .part, M .same)) length-cells ∙ rw (M .same) (sym f);
           whole = rw f (omega (arith, M .whole, M .part));
-          low = numbers-take (length numbers - 2 * n1) (numbers-drop (2 * n1) (M .low));
+          low = labels-take (length labels - 2 * n1) (labels-drop (2 * n1) (M .low));
         }
 
     -- the coordinates of both
-    pub mapped-parts : {q : List ℤ} → q ≡ coordinates (constellation c) (take (length numbers - 2 * n1) (drop (2 * n1) numbers))
+    pub mapped-parts : {q : List ℤ} → q ≡ coordinates (constellation c) (take (length labels - 2 * n1) (drop (2 * n1) labels))
         → take (2 * n1) (p ++ drop (2 * n1 - 0) out)
         ++ (q ++ drop (length (p ++ drop (2 * n1 - 0) out) - 2 * n1) (drop (2 * n1) (p ++ drop (2 * n1 - 0) out)))
-        ≡ coordinates (constellation c) numbers
+        ≡ coordinates (constellation c) labels
     mapped-parts {q} f =
-        coordinates-written (constellation c) numbers out p n1 (M .part) (M .same) first-cells q (rw (to-end (2 * n1) numbers) at f)
+        coordinates-written (constellation c) labels out p n1 (M .part) (M .same) first-cells q (rw (to-end (2 * n1) labels) at f)
 
 module _ {c n1 : ℕ} {re im : List ℕ} {out : List ℤ} (M : MapsAxesParts c n1 re im out) where
   all : length out ≡ length (weave re im)
@@ -111,8 +111,8 @@ module _ {c n1 : ℕ} {re im : List ℕ} {out : List ℤ} (M : MapsAxesParts c n
         known = M .known;
         same = length-start (2 * n1) out (omega (arith, M .part, M .same)) ∙ rw e;
         both = length-start n1 im (omega (arith, M .part, M .both)) ∙ sym e;
-        lowReal = numbers-take (n1 - 0) (M .lowReal);
-        lowImaginary = numbers-take (n1 - 0) (M .lowImaginary);
+        lowReal = labels-take (n1 - 0) (M .lowReal);
+        lowImaginary = labels-take (n1 - 0) (M .lowImaginary);
       }
 
   module _ {p : List ℤ} (e : p ≡ coordinates (constellation c) (weave (take (n1 - 0) re) (take (n1 - 0) im))) where
@@ -131,8 +131,8 @@ module _ {c n1 : ℕ} {re im : List ℕ} {out : List ℤ} (M : MapsAxesParts c n
           known = M .known;
           same = length-second out p (2 * n1) (rw all within) length-axes ∙ rw f (omega (arith, M .same));
           both = length-end n1 im ∙ rw (M .both) (sym f);
-          lowReal = numbers-take (length re - n1) (numbers-drop n1 (M .lowReal));
-          lowImaginary = numbers-take (length im - n1) (numbers-drop n1 (M .lowImaginary));
+          lowReal = labels-take (length re - n1) (labels-drop n1 (M .lowReal));
+          lowImaginary = labels-take (length im - n1) (labels-drop n1 (M .lowImaginary));
         }
 
     -- the coordinates of both

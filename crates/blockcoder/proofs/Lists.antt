@@ -14,8 +14,8 @@ use Rattle.lists.specs.Lists.{table}
 use Rattle.lists.proofs.Counting.{below-or}
 use Rattle.lists.proofs.Tables.{length-table, table-ext, table-add, table-from}
 use Rattle.block.specs.Mapping.{Constellation, axis, weave}
-use Rattle.mapping.specs.Numbers.{coordinates}
-use Rattle.mapping.specs.Contracts.{Numbers}
+use Rattle.mapping.specs.Labels.{coordinates}
+use Rattle.mapping.specs.Contracts.{ThreeBits}
 
 -- a table's first values, and those after them
 module _ {A : Type 0} (f : ℕ → A) (m n : ℕ) (h : m ≤ n) where
@@ -28,39 +28,39 @@ module _ {A : Type 0} (f : ℕ → A) (m n : ℕ) (h : m ≤ n) where
   pub drop-table : drop m (table f 0 n) ≡ table f m (n - m)
   drop-table = rw table-parts (drop-at (table f 0 m) (table f m (n - m)) m (length-table f 0 m))
 
--- the first numbers of level bits, and those after them
-pub numbers-take : {l : List ℕ} (n : ℕ) → Numbers l → Numbers (take n l)
-numbers-take {l} n N = record { low = λ k. go k (below-or k n) }
+-- the first labels of level bits, and those after them
+pub labels-take : {l : List ℕ} (n : ℕ) → ThreeBits l → ThreeBits (take n l)
+labels-take {l} n N = record { low = λ k. go k (below-or k n) }
   where
     go : (k : ℕ) → (k < n) ⊎ (n ≤ k) → getD (take n l) k 0 < 8
     go k (inl h) = rw (getD-take n l k 0 h) (N .low k)
     go k (inr h) = rw (List·getD-eq-default (take n l) 0 {n = k} (rw length-take (omega arith))) (omega arith)
 
-pub numbers-drop : {l : List ℕ} (n : ℕ) → Numbers l → Numbers (drop n l)
-numbers-drop {l} n N = record { low = λ k. rw (getD-drop n l k 0) (N .low (n + k)) }
+pub labels-drop : {l : List ℕ} (n : ℕ) → ThreeBits l → ThreeBits (drop n l)
+labels-drop {l} n N = record { low = λ k. rw (getD-drop n l k 0) (N .low (n + k)) }
 
 -- the coordinates of whole cells, and those of the cells after them
-pub coordinates-parts : (k : Constellation) (numbers : List ℕ) (n : ℕ) → 2 * n ≤ length numbers
-    → coordinates k (take (2 * n) numbers) ++ coordinates k (drop (2 * n) numbers) ≡ coordinates k numbers
+pub coordinates-parts : (k : Constellation) (labels : List ℕ) (n : ℕ) → 2 * n ≤ length labels
+    → coordinates k (take (2 * n) labels) ++ coordinates k (drop (2 * n) labels) ≡ coordinates k labels
 unfolding coordinates axis
-coordinates-parts k numbers n h =
-    let f : ℕ → ℤ = λ j. getD (axis k j) (getD numbers j 0) (pos 0) in
-    let g : ℕ → ℤ = λ j. getD (axis k j) (getD (take (2 * n) numbers) j 0) (pos 0) in
-    let d : ℕ → ℤ = λ j. getD (axis k j) (getD (drop (2 * n) numbers) j 0) (pos 0) in
-    let m : ℕ = length numbers - 2 * n in
-    let a : table g 0 (2 * n) ≡ table f 0 (2 * n) = table-ext g f 0 (2 * n) (λ i x y. rw (getD-take (2 * n) numbers i 0 (omega arith))) in
+coordinates-parts k labels n h =
+    let f : ℕ → ℤ = λ j. getD (axis k j) (getD labels j 0) (pos 0) in
+    let g : ℕ → ℤ = λ j. getD (axis k j) (getD (take (2 * n) labels) j 0) (pos 0) in
+    let d : ℕ → ℤ = λ j. getD (axis k j) (getD (drop (2 * n) labels) j 0) (pos 0) in
+    let m : ℕ = length labels - 2 * n in
+    let a : table g 0 (2 * n) ≡ table f 0 (2 * n) = table-ext g f 0 (2 * n) (λ i x y. rw (getD-take (2 * n) labels i 0 (omega arith))) in
     let b : table d 0 m ≡ table f (2 * n) m =
     table-ext d (λ i. f (2 * n + i)) 0 m (λ i x y.
-    let r : (2 * n + i) % 2 ≡ i % 2 = omega arith in rw (getD-drop (2 * n) numbers i 0, r))
+    let r : (2 * n + i) % 2 ≡ i % 2 = omega arith in rw (getD-drop (2 * n) labels i 0, r))
     ∙ sym (table-from f (2 * n) m) in
-    rw (length-take-le (2 * n) numbers h, length-drop (2 * n) numbers)
-    (ap₂ _++_ a b ∙ sym (table-parts f (2 * n) (length numbers) h))
+    rw (length-take-le (2 * n) labels h, length-drop (2 * n) labels)
+    (ap₂ _++_ a b ∙ sym (table-parts f (2 * n) (length labels) h))
 
 module _ (re im : List ℕ) (n : ℕ) (h : n ≤ length re) where
   w : ℕ → ℕ
   w j = getD (cond (eqb (j % 2) 0) re im) (j / 2) 0
 
-  -- the first numbers of two axes woven
+  -- the first labels of two axes woven
   pub weave-take : weave (take n re) (take n im) ≡ take (2 * n) (weave re im)
   unfolding weave w
   weave-take =

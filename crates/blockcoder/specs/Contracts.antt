@@ -8,7 +8,7 @@ use Rattle.component.specs.Bits.{Bits}
 use Rattle.block.specs.declared.Block.{Block}
 use Rattle.block.specs.Block.{bitCount, pointsOf, oneAxis, streamsOf, levelsOf}
 use Rattle.block.specs.Fits.{BlockFits}
-use Rattle.mapping.specs.Contracts.{Numbers}
+use Rattle.mapping.specs.Contracts.{ThreeBits}
 use Rattle.multilevel.specs.Contracts.{PartsOf}
 use mathlib.Core.Bool.{cond, Bool}
 use Rattle.block.specs.Mapping.{mapped, woven}
@@ -22,24 +22,24 @@ pub record UnpacksParts (bytes : List ℕ) (v : ℕ) (bits : List ℕ) : Type 0 
   pub front : v ≤ length bits
   pub there : length bits ≤ 8 * length bytes
 
--- Numbers of whole cells, the first n1 cells of which are part A's.
-pub record MapsParts (c n1 : ℕ) (numbers : List ℕ) (out : List ℤ) : Type 0 where
+-- ThreeBits of whole cells, the first n1 cells of which are part A's.
+pub record MapsParts (c n1 : ℕ) (labels : List ℕ) (out : List ℤ) : Type 0 where
   pub known : c < 5
-  pub same : length out ≡ length numbers
-  pub whole : length numbers % 2 ≡ 0
-  pub part : 2 * n1 ≤ length numbers
-  pub high : length numbers ≤ 16384
-  pub low : Numbers numbers
+  pub same : length out ≡ length labels
+  pub whole : length labels % 2 ≡ 0
+  pub part : 2 * n1 ≤ length labels
+  pub high : length labels ≤ 16384
+  pub low : ThreeBits labels
 
--- Numbers of both axes, a number a cell, the first n1 of which are part A's.
+-- ThreeBits of both axes, a number a cell, the first n1 of which are part A's.
 pub record MapsAxesParts (c n1 : ℕ) (re im : List ℕ) (out : List ℤ) : Type 0 where
   pub known : c < 5
   pub same : length out ≡ 2 * length re
   pub both : length im ≡ length re
   pub part : n1 ≤ length re
   pub high : length re ≤ 16384
-  pub lowReal : Numbers re
-  pub lowImaginary : Numbers im
+  pub lowReal : ThreeBits re
+  pub lowImaginary : ThreeBits im
 
 -- A block that fits, and the bits of its parts A and B.
 pub record CodesParts (k : Block) (a b : List ℕ) (out : List ℤ) : Type 0 where

@@ -19,10 +19,10 @@ fn read_cells(k: Block, cells: &[i16], a: &mut [u8], b: &mut [u8])
     requires { ⌜ ReadsCells k (now cells) (now a) (now b) ⌝ }
     ensures { λ r. ⌜ CellsRead k (now (cells .entry)) (now (a .exit)) (now (b .exit)) ⌝ }
 {
-    let mut numbers = cell_buffer();
+    let mut labels = cell_buffer();
     let n = cells.len();
-    unmap_cells(k.constellation, cells, &mut numbers[0..n]);
-    read_levels(k, &numbers[0..n], a, b);
+    unmap_cells(k.constellation, cells, &mut labels[0..n]);
+    read_levels(k, &labels[0..n], a, b);
 }
 
 // The first `vspp` bits and the others, dispersed each from the sequence's start.

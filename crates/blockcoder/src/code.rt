@@ -24,10 +24,10 @@ fn code_both(k: Block, a: &[u8], b: &[u8], out: &mut [i16])
     requires { ⌜ CodesParts k (now a) (now b) (now out) × (oneAxis k ≡ false) ⌝ }
     ensures { λ r. ⌜ now (out .exit) ≡ mapped (pointsOf k) (2 * k .cells) (streams (levelsOf k) (now (a .entry)) (now (b .entry))) ⌝ }
 {
-    let mut numbers = cell_buffer();
+    let mut labels = cell_buffer();
     let n = out.len();
-    code_levels(k, 0, 1, k.count, a, b, &mut numbers[0..n]);
-    map_parts(k.constellation, k.parta, &numbers[0..n], out);
+    code_levels(k, 0, 1, k.count, a, b, &mut labels[0..n]);
+    map_parts(k.constellation, k.parta, &labels[0..n], out);
 }
 
 // Levels in pairs: the first of each for the real axis, the second for the imaginary one.

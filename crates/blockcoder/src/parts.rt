@@ -7,7 +7,7 @@ ghost use lib.ListN.{length};
 ghost use Rattle.block.specs.Packing.{unpacked};
 ghost use Rattle.block.specs.Dispersal.{dispersedParts};
 ghost use Rattle.block.specs.Mapping.{constellation, weave};
-ghost use Rattle.mapping.specs.Numbers.{coordinates};
+ghost use Rattle.mapping.specs.Labels.{coordinates};
 ghost use Rattle.blockcoder.specs.Contracts.{UnpacksParts, MapsParts, MapsAxesParts};
 
 // The bits of the very strongly protected part and the remainder: the sequence starts anew for each.
@@ -19,17 +19,17 @@ pub fn unpack_parts(bytes: &[u8], vspp: usize, bits: &mut [u8])
     unpack_dispersed(bytes, vspp, &mut bits[vspp..]);
 }
 
-// Part A's numbers to the first n1 cells, part B's to the cells from there on by the same step.
-pub fn map_parts(c: u8, n1: usize, numbers: &[u8], out: &mut [i16])
-    requires { ⌜ MapsParts c n1 (now numbers) (now out) ⌝ }
-    ensures { λ r. ⌜ now (out .exit) ≡ coordinates (constellation c) (now (numbers .entry)) ⌝ }
+// Part A's labels to the first n1 cells, part B's to the cells from there on by the same step.
+pub fn map_parts(c: u8, n1: usize, labels: &[u8], out: &mut [i16])
+    requires { ⌜ MapsParts c n1 (now labels) (now out) ⌝ }
+    ensures { λ r. ⌜ now (out .exit) ≡ coordinates (constellation c) (now (labels .entry)) ⌝ }
 {
     let at = 2 * n1;
-    map_cells(c, &numbers[0..at], &mut out[0..at]);
-    map_cells(c, &numbers[at..], &mut out[at..]);
+    map_cells(c, &labels[0..at], &mut out[0..at]);
+    map_cells(c, &labels[at..], &mut out[at..]);
 }
 
-// The same, where each axis has numbers of its own.
+// The same, where each axis has labels of its own.
 pub fn map_axes_parts(c: u8, n1: usize, re: &[u8], im: &[u8], out: &mut [i16])
     requires { ⌜ MapsAxesParts c n1 (now re) (now im) (now out) ⌝ }
     ensures { λ r. ⌜ now (out .exit) ≡ coordinates (constellation c) (weave (now (re .entry)) (now (im .entry))) ⌝ }

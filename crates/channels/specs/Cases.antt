@@ -13,7 +13,7 @@ use Rattle.settings.specs.Formulas.{sdcBits}
 use Rattle.settings.specs.Lengths.{n1, l2, lVspp}
 use Rattle.settings.specs.Refusal.{refusal}
 use Rattle.block.specs.Dispersal.{p}
-use Rattle.block.specs.Mapping.{standard64, symmetric64, numberAt}
+use Rattle.block.specs.Mapping.{standard64, symmetric64, labelAt}
 
 -- Settings by their numbers in 01's order, X as one number.
 unfoldable pub settingsOf : ℕ → ℕ → ℕ → ℕ → ℕ → ℕ → ℕ → ℕ → ℕ → Settings
@@ -32,7 +32,7 @@ settingsOf mode occupancy msc levela levelb vspp x sdc interleaving =
 
 -- A coordinate from the level bits i0, i1, i2.
 unfoldable pub coordinateOf : List ℤ → ℕ → ℕ → ℕ → ℤ
-coordinateOf labelling i0 i1 i2 = getD labelling (numberAt ((i0 ∷ []) ∷ (i1 ∷ []) ∷ (i2 ∷ []) ∷ []) 0) (pos 0)
+coordinateOf labelling i0 i1 i2 = getD labelling (labelAt ((i0 ∷ []) ∷ (i1 ∷ []) ∷ (i2 ∷ []) ∷ []) 0) (pos 0)
 
 -- 01 "Cases", the marked ones in its order.
 pub record Cases : Type 0 where

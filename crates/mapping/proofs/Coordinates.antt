@@ -18,7 +18,7 @@ use mir.Facts.{toZ-ofZ}
 use Rattle.lists.specs.Lists.{table}
 use Rattle.lists.proofs.Tables.{Filled, filled-start, filled-turn, filled-end, getD-table}
 use Rattle.block.specs.Mapping.{Constellation, coordinate, qam4, qam16, standard64, symmetric64, constellation, axis, weave}
-use Rattle.mapping.specs.Numbers.{coordinates}
+use Rattle.mapping.specs.Labels.{coordinates}
 use Rattle.block.proofs.Mapping.{getD-weave}
 
 -- every coordinate of a labelling is a signed 16-bit number
@@ -64,42 +64,42 @@ pub axis-odd : (k : Constellation) (j : ℕ) → j % 2 ≡ 1 → axis k j ≡ k 
 unfolding axis
 axis-odd k j e = rw (ne-eqb (j % 2) 0 (omega arith))
 
--- before the turn at cell k of the coordinates of numbers
-pub record Placing (c : ℕ) (numbers : List ℕ) (d out : List ℤ) (k : ℕ) : Type 0 where
-  pub long : length d ≡ length numbers
+-- before the turn at cell k of the coordinates of labels
+pub record Placing (c : ℕ) (labels : List ℕ) (d out : List ℤ) (k : ℕ) : Type 0 where
+  pub long : length d ≡ length labels
   pub whole : 2 * k ≤ length d
-  pub filled : Filled (pos 0) (λ j. getD (axis (constellation c) j) (getD numbers j 0) (pos 0)) d out (2 * k)
+  pub filled : Filled (pos 0) (λ j. getD (axis (constellation c) j) (getD labels j 0) (pos 0)) d out (2 * k)
 
-pub start : (c : ℕ) (numbers : List ℕ) (d : List ℤ) → length d ≡ length numbers → Placing c numbers d d 0
-start c numbers d e = record { long = e; whole = omega arith; filled = filled-start (pos 0) _ d }
+pub start : (c : ℕ) (labels : List ℕ) (d : List ℤ) → length d ≡ length labels → Placing c labels d d 0
+start c labels d e = record { long = e; whole = omega arith; filled = filled-start (pos 0) _ d }
 
--- a turn places the two coordinates of a cell, whose numbers are re and im
-pub turn : {c : ℕ} {numbers : List ℕ} {d out : List ℤ} {k : ℕ} → Placing c numbers d out k → 2 * k + 1 < length d
+-- a turn places the two coordinates of a cell, whose labels are re and im
+pub turn : {c : ℕ} {labels : List ℕ} {d out : List ℤ} {k : ℕ} → Placing c labels d out k → 2 * k + 1 < length d
     → (real imaginary : List ℤ) → real ≡ table (λ n. getD (constellation c .real) n (pos 0)) 0 8
     → imaginary ≡ table (λ n. getD (constellation c .imaginary) n (pos 0)) 0 8
-    → (re im : ℕ) → re ≡ getD numbers (2 * k) 0 → im ≡ getD numbers (2 * k + 1) 0 → re < 8 → im < 8
-    → Placing c numbers d
+    → (re im : ℕ) → re ≡ getD labels (2 * k) 0 → im ≡ getD labels (2 * k + 1) 0 → re < 8 → im < 8
+    → Placing c labels d
     (set (set out (2 * k) (toZ w16 (ofZ w16 (getD real re (pos 0))))) (2 * k + 1) (toZ w16 (ofZ w16 (getD imaginary im (pos 0)))))
     (k + 1)
-turn {c} {numbers} {d} {out} {k} P h real imaginary er ei re im e f lr li =
+turn {c} {labels} {d} {out} {k} P h real imaginary er ei re im e f lr li =
     let a = toZ w16 (ofZ w16 (getD real re (pos 0))) in
     let b = toZ w16 (ofZ w16 (getD imaginary im (pos 0))) in
-    let ea : a ≡ getD (axis (constellation c) (2 * k)) (getD numbers (2 * k) 0) (pos 0)
+    let ea : a ≡ getD (axis (constellation c) (2 * k)) (getD labels (2 * k) 0) (pos 0)
     = point _ real (fitting-real c) er re lr ∙ rw (axis-even (constellation c) (2 * k) (omega arith), e) in
-    let eb : b ≡ getD (axis (constellation c) (2 * k + 1)) (getD numbers (2 * k + 1) 0) (pos 0)
+    let eb : b ≡ getD (axis (constellation c) (2 * k + 1)) (getD labels (2 * k + 1) 0) (pos 0)
     = point _ imaginary (fitting-imaginary c) ei im li ∙ rw (axis-odd (constellation c) (2 * k + 1) (omega arith), f) in
     let one = filled-turn (pos 0) _ d out (2 * k) a (omega arith) ea (P .filled) in
     let two = filled-turn (pos 0) _ d (set out (2 * k) a) (2 * k + 1) b (omega arith) eb one in
     let n : 2 * k + 1 + 1 ≡ 2 * (k + 1) = omega arith in
     record { long = P .long; whole = omega arith; filled = rw n at two }
 
-pub done : {c : ℕ} {numbers : List ℕ} {d out : List ℤ} {k : ℕ} → Placing c numbers d out k → length d ≤ 2 * k → out ≡ coordinates (constellation c) numbers
+pub done : {c : ℕ} {labels : List ℕ} {d out : List ℤ} {k : ℕ} → Placing c labels d out k → length d ≤ 2 * k → out ≡ coordinates (constellation c) labels
 unfolding coordinates
-done {c} {numbers} {d} {out} {k} P h =
-    let e : 2 * k ≡ length numbers = omega (arith, P .whole, P .long) in
-    filled-end (pos 0) _ d out (length numbers) (P .long) (rw e at (P .filled))
+done {c} {labels} {d} {out} {k} P h =
+    let e : 2 * k ≡ length labels = omega (arith, P .whole, P .long) in
+    filled-end (pos 0) _ d out (length labels) (P .long) (rw e at (P .filled))
 
--- the real numbers stand at the even places of woven ones, the imaginary ones at the odd places
+-- the real labels stand at the even places of woven ones, the imaginary ones at the odd places
 pub weave-even : (re im : List ℕ) (k : ℕ) → k < length re → getD (weave re im) (2 * k) 0 ≡ getD re k 0
 weave-even re im k h = rw add-zero at (getD-weave re im k 0 h (omega arith))
 

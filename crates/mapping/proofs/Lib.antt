@@ -1,4 +1,4 @@
 pub mod Coordinates
-pub mod Numbers
+pub mod Labels
 pub mod Signed
 pub mod PointTests

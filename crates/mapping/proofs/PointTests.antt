@@ -27,7 +27,7 @@ use Rattle.mapping.specs.declared.PointTest.{PointTest}
 use Rattle.mapping.specs.PointTests.{isBlank, cellPasses, pointsPass, pointsOnly}
 use Rattle.mapping.specs.Contracts.{inTable, Holds}
 use Rattle.mapping.proofs.Coordinates.{fitting, fitting-at, axis-even, axis-odd}
-use Rattle.mapping.proofs.Numbers.{None, coordinates-all}
+use Rattle.mapping.proofs.Labels.{None, coordinates-all}
 use Rattle.mapping.proofs.Signed.{digits-low}
 
 -- coordinates by their four lowest binary digits, 1 where there is none

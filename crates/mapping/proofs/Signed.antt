@@ -1,4 +1,4 @@
--- Signed 16-bit numbers by their bits, as a match on one sees them. Assumes nothing.
+-- Signed 16-bit labels by their bits, as a match on one sees them. Assumes nothing.
 use Prim.Native.Nat.{ℕ, zero, suc, _%_, _<_}
 use mathlib.Core.Bool.{Bool, true, false}
 use mathlib.Core.Path.{_≡_, refl, sym, ap, _∙_}

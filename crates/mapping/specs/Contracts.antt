@@ -12,24 +12,24 @@ use mir.Val.{SFits, ofZ}
 use Rattle.block.specs.Mapping.{constellation}
 use Rattle.block.specs.Points.{onAxis}
 
--- Numbers of at most three level bits.
-pub record Numbers (l : List ℕ) : Type 0 where
+-- ThreeBits of at most three level bits.
+pub record ThreeBits (l : List ℕ) : Type 0 where
   pub low : (k : ℕ) → getD l k 0 < 8
 
 -- A constellation, whole cells, and a number of level bits for each coordinate.
-pub record Maps (c : ℕ) (numbers : List ℕ) (out : List ℤ) : Type 0 where
+pub record Maps (c : ℕ) (labels : List ℕ) (out : List ℤ) : Type 0 where
   pub known : c < 5
-  pub same : length out ≡ length numbers
-  pub whole : length numbers % 2 ≡ 0
-  pub low : Numbers numbers
+  pub same : length out ≡ length labels
+  pub whole : length labels % 2 ≡ 0
+  pub low : ThreeBits labels
 
 -- A constellation, and a number of level bits of each axis for each cell.
 pub record MapsAxes (c : ℕ) (re im : List ℕ) (out : List ℤ) : Type 0 where
   pub known : c < 5
   pub same : length out ≡ 2 * length re
   pub both : length im ≡ length re
-  pub lowReal : Numbers re
-  pub lowImaginary : Numbers im
+  pub lowReal : ThreeBits re
+  pub lowImaginary : ThreeBits im
 
 -- A constellation, whole cells, and room for a number for each coordinate.
 pub record Unmaps (c : ℕ) (cells : List ℤ) (out : List ℕ) : Type 0 where

@@ -1,3 +1,3 @@
 pub mod Contracts
-pub mod Numbers
+pub mod Labels
 pub mod PointTests

@@ -8,8 +8,8 @@ ghost use mir.Syntax.{w16};
 ghost use mir.Val.{ofZ};
 ghost use Rattle.lists.specs.Lists.{table};
 ghost use Rattle.block.specs.Mapping.{standard64, constellation, axis, weave};
-ghost use Rattle.block.specs.Reading.{placeOf, numbersOf};
-ghost use Rattle.mapping.specs.Numbers.{coordinates, numbersBy};
+ghost use Rattle.block.specs.Reading.{placeOf, labelsOf};
+ghost use Rattle.mapping.specs.Labels.{coordinates, labelsBy};
 ghost use Rattle.mapping.specs.Contracts.{Maps, MapsAxes, Unmaps};
 
 // The coordinates of an axis by the number of its level bits, filled up with zeros to eight.
@@ -51,23 +51,23 @@ fn imaginary_axis(c: u8) -> [i16; 8]
     }
 }
 
-// Numbers i0 + 2 × i1 + 4 × i2, flat, real before imaginary, to coordinates.
-pub fn map_cells(c: u8, numbers: &[u8], out: &mut [i16])
-    requires { ⌜ Maps c (now numbers) (now out) ⌝ }
-    ensures { λ r. ⌜ now (out .exit) ≡ coordinates (constellation c) (now (numbers .entry)) ⌝ }
+// ThreeBits i0 + 2 × i1 + 4 × i2, flat, real before imaginary, to coordinates.
+pub fn map_cells(c: u8, labels: &[u8], out: &mut [i16])
+    requires { ⌜ Maps c (now labels) (now out) ⌝ }
+    ensures { λ r. ⌜ now (out .exit) ≡ coordinates (constellation c) (now (labels .entry)) ⌝ }
 {
     let real = real_axis(c);
     let imaginary = imaginary_axis(c);
     let cells = out.len() / 2;
     let mut k = 0;
     while k < cells {
-        out[2 * k] = real[numbers[2 * k] as usize];
-        out[2 * k + 1] = imaginary[numbers[2 * k + 1] as usize];
+        out[2 * k] = real[labels[2 * k] as usize];
+        out[2 * k + 1] = imaginary[labels[2 * k + 1] as usize];
         k += 1;
     }
 }
 
-// Numbers of the real and of the imaginary axis to coordinates.
+// ThreeBits of the real and of the imaginary axis to coordinates.
 pub fn map_axes(c: u8, re: &[u8], im: &[u8], out: &mut [i16])
     requires { ⌜ MapsAxes c (now re) (now im) (now out) ⌝ }
     ensures { λ r. ⌜ now (out .exit) ≡ coordinates (constellation c) (weave (now (re .entry)) (now (im .entry))) ⌝ }
@@ -105,62 +105,62 @@ fn place_of(v: i16) -> usize
     8
 }
 
-// Numbers of level bits by a coordinate's place among 7, 5, .. -7; the last one stands for what is no coordinate.
-const NUMBERS4: [u8; 9] = [2, 2, 2, 0, 1, 2, 2, 2, 2];
+// ThreeBits of level bits by a coordinate's place among 7, 5, .. -7; the last one stands for what is no coordinate.
+const LABELS4: [u8; 9] = [2, 2, 2, 0, 1, 2, 2, 2, 2];
 
-const NUMBERS16: [u8; 9] = [4, 4, 0, 1, 2, 3, 4, 4, 4];
+const LABELS16: [u8; 9] = [4, 4, 0, 1, 2, 3, 4, 4, 4];
 
-const NUMBERS_STANDARD64: [u8; 9] = [0, 1, 2, 3, 4, 5, 6, 7, 8];
+const LABELS_STANDARD64: [u8; 9] = [0, 1, 2, 3, 4, 5, 6, 7, 8];
 
-const NUMBERS_SYMMETRIC64: [u8; 9] = [0, 2, 4, 6, 1, 3, 5, 7, 8];
+const LABELS_SYMMETRIC64: [u8; 9] = [0, 2, 4, 6, 1, 3, 5, 7, 8];
 
-// The numbers of a constellation's axis: axis 0 is the real, axis 1 the imaginary one.
-fn axis_numbers(c: u8, a: usize) -> [u8; 9]
+// The labels of a constellation's axis: axis 0 is the real, axis 1 the imaginary one.
+fn axis_labels(c: u8, a: usize) -> [u8; 9]
     requires { ⌜ (c < 5) × (a < 2) ⌝ }
-    ensures { λ r. ⌜ r ≡ numbersBy (axis (constellation c) a) ⌝ }
+    ensures { λ r. ⌜ r ≡ labelsBy (axis (constellation c) a) ⌝ }
 {
     match c {
-        0 => NUMBERS4,
-        1 => NUMBERS16,
-        2 => NUMBERS_STANDARD64,
-        3 => NUMBERS_SYMMETRIC64,
+        0 => LABELS4,
+        1 => LABELS16,
+        2 => LABELS_STANDARD64,
+        3 => LABELS_SYMMETRIC64,
         _ => {
             if a == 0 {
-                return NUMBERS_SYMMETRIC64;
+                return LABELS_SYMMETRIC64;
             }
-            NUMBERS_STANDARD64
+            LABELS_STANDARD64
         }
     }
 }
 
 // The number of a coordinate's level bits.
-fn number_of(numbers: &[u8; 9], v: i16) -> u8
-    ensures { λ r. ⌜ r ≡ getD (now (numbers .entry)) (placeOf standard64 v) 0 ⌝ }
+fn label_of(labels: &[u8; 9], v: i16) -> u8
+    ensures { λ r. ⌜ r ≡ getD (now (labels .entry)) (placeOf standard64 v) 0 ⌝ }
 {
-    numbers[place_of(v)]
+    labels[place_of(v)]
 }
 
 // The number of a coordinate's level bits on an axis of a constellation.
-pub fn axis_number(c: u8, a: usize, v: i16) -> u8
+pub fn axis_label(c: u8, a: usize, v: i16) -> u8
     requires { ⌜ (c < 5) × (a < 2) ⌝ }
     ensures { λ r. ⌜ r ≡ placeOf (axis (constellation c) a) v ⌝ }
 {
-    let numbers = axis_numbers(c, a);
-    number_of(&numbers, v)
+    let labels = axis_labels(c, a);
+    label_of(&labels, v)
 }
 
-// Coordinates, real before imaginary, back to numbers.
+// Coordinates, real before imaginary, back to labels.
 pub fn unmap_cells(c: u8, cells: &[i16], out: &mut [u8])
     requires { ⌜ Unmaps c (now cells) (now out) ⌝ }
-    ensures { λ r. ⌜ now (out .exit) ≡ numbersOf (constellation c) (now (cells .entry)) ⌝ }
+    ensures { λ r. ⌜ now (out .exit) ≡ labelsOf (constellation c) (now (cells .entry)) ⌝ }
 {
-    let real = axis_numbers(c, 0);
-    let imaginary = axis_numbers(c, 1);
+    let real = axis_labels(c, 0);
+    let imaginary = axis_labels(c, 1);
     let n = out.len() / 2;
     let mut k = 0;
     while k < n {
-        out[2 * k] = number_of(&real, cells[2 * k]);
-        out[2 * k + 1] = number_of(&imaginary, cells[2 * k + 1]);
+        out[2 * k] = label_of(&real, cells[2 * k]);
+        out[2 * k + 1] = label_of(&imaginary, cells[2 * k + 1]);
         k += 1;
     }
 }

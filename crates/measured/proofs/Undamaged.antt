@@ -19,7 +19,7 @@ use Rattle.settings.specs.Refusal.{first, refusal}
 use Rattle.settings.specs.Cells.{facCells}
 use Rattle.settings.specs.Formulas.{facBits}
 use Rattle.settings.proofs.Bounds.{accepted-of}
-use Rattle.block.specs.Mapping.{constellation, axis, numberAt, mapped}
+use Rattle.block.specs.Mapping.{constellation, axis, labelAt, mapped}
 use Rattle.block.specs.Packing.{packed}
 use Rattle.block.specs.Points.{onAxis, arePoints}
 use Rattle.block.specs.Reading.{placeOf}
@@ -185,7 +185,7 @@ module _ (block : List ℕ) (B : Bits block) (e : length block ≡ 72) where
   cells-are = points-cells fac-fits own-bits
 
   cell-is : (j : ℕ) → j < 130 → getD cells j (pos 0) ≡ getD (axis (constellation 0) j) (getD (facSent block) j 0 + 2 * 0) (pos 0)
-  unfolding cells numberAt
+  unfolding cells labelAt
   cell-is j h = rw (cells-mapped block e) (getD-mapped (constellation 0) 130 (facSent block ∷ []) j h)
 
   bit-is : (j : ℕ) → j < 130 → bitAt 0 (replicate 65 0) (asFloats cells) (j / 1) (j % 1) ≡ getD (facSent block) j 0

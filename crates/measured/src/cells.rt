@@ -2,7 +2,7 @@
 use crate::Measured;
 use crate::MeasuredCell;
 use crate::axis::decide_axis;
-use mapping::points::axis_number;
+use mapping::points::axis_label;
 ghost use mathlib.Core.Path.{_≡_};
 ghost use Prim.Native.Nat.{_/_, _%_, _^_, _<_};
 ghost use Rattle.block.specs.Mapping.{constellation};
@@ -65,7 +65,7 @@ pub fn bit(c: u8, cell: MeasuredCell, m: usize, v: i16, l: usize) -> u8
     ensures { λ r. ⌜ r ≡ bitOn (constellation c) cell m l ⌝ }
 {
     match cell {
-        MeasuredCell::Pair(p) => digit(axis_number(c, m % 2, v), l),
+        MeasuredCell::Pair(p) => digit(axis_label(c, m % 2, v), l),
         MeasuredCell::Fade(gain) => 2,
     }
 }

@@ -15,7 +15,7 @@ use Rattle.component.proofs.Decoding.{length-decode}
 use Rattle.block.specs.declared.Level.{Level}
 use Rattle.block.specs.declared.Block.{Block}
 use Rattle.block.specs.Block.{levelsOf, oneAxis}
-use Rattle.multilevel.specs.Contracts.{levelAt, bitsIn, bitsBefore, ReadsLevel, LevelRead, ReadsAt, ReadAt, digitAt, axisNumbers, ReadsLevels, ReadsStream}
+use Rattle.multilevel.specs.Contracts.{levelAt, bitsIn, bitsBefore, ReadsLevel, LevelRead, ReadsAt, ReadAt, digitAt, axisLabels, ReadsLevels, ReadsStream}
 use Rattle.multilevel.proofs.Totals.{levels-table}
 use Rattle.multilevel.proofs.Partition.{before-mono, part-long, ends-a, ends-b}
 
@@ -35,10 +35,10 @@ length-inputB : (l : Level) (y : List ℕ) → length (inputB l y) ≡ l .bitsb
 unfolding inputB
 length-inputB l y = length-decode _ _ 0 (l .bitsb) _
 
-module _ {ls : List Level} {l w : ℕ} {numbers coded a b : List ℕ} (R : ReadsAt ls l w numbers coded a b)
+module _ {ls : List Level} {l w : ℕ} {labels coded a b : List ℕ} (R : ReadsAt ls l w labels coded a b)
     {s r : ℕ} (es : s ≡ bitsBefore ls false l) (er : r ≡ bitsBefore ls true l) where
   -- what reading the level requires
-  pub reads-level : ReadsLevel (levelAt ls l) w numbers coded (take (s + levelAt ls l .bitsa - s) (drop s a)) (take (r + levelAt ls l .bitsb - r) (drop r b))
+  pub reads-level : ReadsLevel (levelAt ls l) w labels coded (take (s + levelAt ls l .bitsa - s) (drop s a)) (take (r + levelAt ls l .bitsb - r) (drop r b))
   reads-level =
       record {
         fits = R .level .fits;
@@ -50,12 +50,12 @@ module _ {ls : List Level} {l w : ℕ} {numbers coded a b : List ℕ} (R : Reads
       }
 
   -- and then its bits stand at their places
-  pub read-at : {a′ b′ : List ℕ} → LevelRead (levelAt ls l) (taken w numbers) a′ b′
-      → ReadAt ls l (taken w numbers) a b
+  pub read-at : {a′ b′ : List ℕ} → LevelRead (levelAt ls l) (taken w labels) a′ b′
+      → ReadAt ls l (taken w labels) a b
       (take s a ++ (a′ ++ drop (s + levelAt ls l .bitsa - s) (drop s a)))
       (take r b ++ (b′ ++ drop (r + levelAt ls l .bitsb - r) (drop r b)))
   read-at {a′} {b′} L =
-      let y = taken w numbers in
+      let y = taken w labels in
       let la : length a′ ≡ levelAt ls l .bitsa = rw (L .partA) (length-inputA (levelAt ls l) y) in
       let lb : length b′ ≡ levelAt ls l .bitsb = rw (L .partB) (length-inputB (levelAt ls l) y) in
       record {
@@ -126,10 +126,10 @@ pub record Reading (k : Block) (ys : ℕ → List ℕ) (a₀ b₀ a b : List ℕ
 pub start : (k : Block) (ys : ℕ → List ℕ) (a b : List ℕ) → Reading k ys a b a b 0
 start k ys a b = record { turns = omega arith; partA = placed-start _ (k .levels) false a; partB = placed-start _ (k .levels) true b }
 
-module _ {k : Block} {numbers a₀ b₀ : List ℕ} (R : ReadsLevels k numbers a₀ b₀) where
+module _ {k : Block} {labels a₀ b₀ : List ℕ} (R : ReadsLevels k labels a₀ b₀) where
   -- reading one more level requires the same of the buffers as they are then
-  pub reads-stream : {coded a b : List ℕ} {l : ℕ} → Reading k (streamIn (oneAxis k) numbers) a₀ b₀ a b l → l < k .count → length coded ≡ 12236
-      → ReadsStream k l numbers coded a b
+  pub reads-stream : {coded a b : List ℕ} {l : ℕ} → Reading k (streamIn (oneAxis k) labels) a₀ b₀ a b l → l < k .count → length coded ≡ 12236
+      → ReadsStream k l labels coded a b
   reads-stream L h e =
       record {
         all = record {
@@ -146,8 +146,8 @@ module _ {k : Block} {numbers a₀ b₀ : List ℕ} (R : ReadsLevels k numbers a
         buffer = omega (arith, e, R .high);
       }
 
-  pub turn : {a b : List ℕ} {l : ℕ} → Reading k (streamIn (oneAxis k) numbers) a₀ b₀ a b l → l < k .count
-      → {a′ b′ : List ℕ} → ReadAt (k .levels) l (streamIn (oneAxis k) numbers l) a b a′ b′ → Reading k (streamIn (oneAxis k) numbers) a₀ b₀ a′ b′ (l + 1)
+  pub turn : {a b : List ℕ} {l : ℕ} → Reading k (streamIn (oneAxis k) labels) a₀ b₀ a b l → l < k .count
+      → {a′ b′ : List ℕ} → ReadAt (k .levels) l (streamIn (oneAxis k) labels l) a b a′ b′ → Reading k (streamIn (oneAxis k) labels) a₀ b₀ a′ b′ (l + 1)
   unfolding bitsIn
   turn {l = l} L h E =
       record {
@@ -156,18 +156,18 @@ module _ {k : Block} {numbers a₀ b₀ : List ℕ} (R : ReadsLevels k numbers a
         partB = placed-turn (L .partB) (length-inputB _ _) (omega (arith, before-mono (k .levels) true (suc l) (k .count) (omega arith), R .long .1)) (E .partB);
       }
 
-  pub done : {a b : List ℕ} {l : ℕ} → Reading k (streamIn (oneAxis k) numbers) a₀ b₀ a b l → k .count ≤ l
-      → (a ≡ inputsA (levelsOf k) (table (streamIn (oneAxis k) numbers) 0 (k .count))) × (b ≡ inputsB (levelsOf k) (table (streamIn (oneAxis k) numbers) 0 (k .count)))
+  pub done : {a b : List ℕ} {l : ℕ} → Reading k (streamIn (oneAxis k) labels) a₀ b₀ a b l → k .count ≤ l
+      → (a ≡ inputsA (levelsOf k) (table (streamIn (oneAxis k) labels) 0 (k .count))) × (b ≡ inputsB (levelsOf k) (table (streamIn (oneAxis k) labels) 0 (k .count)))
   done {l = l} L h =
       let e : l ≡ k .count = omega (arith, L .turns) in
       rw (levels-table k (R .room)) (
-        placed-done (L .partA) e (R .long .0) ∙ sym (inputsA-joined (levelAt (k .levels)) (streamIn (oneAxis k) numbers) 0 (k .count)),
-        placed-done (L .partB) e (R .long .1) ∙ sym (inputsB-joined (levelAt (k .levels)) (streamIn (oneAxis k) numbers) 0 (k .count)),
+        placed-done (L .partA) e (R .long .0) ∙ sym (inputsA-joined (levelAt (k .levels)) (streamIn (oneAxis k) labels) 0 (k .count)),
+        placed-done (L .partB) e (R .long .1) ∙ sym (inputsB-joined (levelAt (k .levels)) (streamIn (oneAxis k) labels) 0 (k .count)),
       )
 
-module _ {k : Block} {l : ℕ} {numbers coded a b : List ℕ} (R : ReadsStream k l numbers coded a b) where
-  -- what reading the level from its numbers, of both axes or of one, requires
-  reads-at : {w : ℕ} (d : ℕ) → w ≡ 2 ^ d → (own : List ℕ) → LevelFits (length own) (levelAt (k .levels) l) → length own ≤ length numbers
+module _ {k : Block} {l : ℕ} {labels coded a b : List ℕ} (R : ReadsStream k l labels coded a b) where
+  -- what reading the level from its labels, of both axes or of one, requires
+  reads-at : {w : ℕ} (d : ℕ) → w ≡ 2 ^ d → (own : List ℕ) → LevelFits (length own) (levelAt (k .levels) l) → length own ≤ length labels
       → ReadsAt (k .levels) l w own coded a b
   reads-at d e own f m =
       let A = R .all in
@@ -184,10 +184,10 @@ module _ {k : Block} {l : ℕ} {numbers coded a b : List ℕ} (R : ReadsStream k
         weighs = record { digit = d; power = e };
       }
 
-  pub reads-both : {w : ℕ} → oneAxis k ≡ false → w ≡ 2 ^ l → ReadsAt (k .levels) l w numbers coded a b
-  reads-both one e = reads-at l e numbers (rw one at (R .all .fits l (R .known))) (omega arith)
+  pub reads-both : {w : ℕ} → oneAxis k ≡ false → w ≡ 2 ^ l → ReadsAt (k .levels) l w labels coded a b
+  reads-both one e = reads-at l e labels (rw one at (R .all .fits l (R .known))) (omega arith)
 
-  pub reads-axis : {w : ℕ} → oneAxis k ≡ true → w ≡ 2 ^ (l / 2) → {own : List ℕ} → length own ≡ length numbers / 2 → ReadsAt (k .levels) l w own coded a b
+  pub reads-axis : {w : ℕ} → oneAxis k ≡ true → w ≡ 2 ^ (l / 2) → {own : List ℕ} → length own ≡ length labels / 2 → ReadsAt (k .levels) l w own coded a b
   reads-axis one e {own} m = reads-at (l / 2) e own (rw m (rw one at (R .all .fits l (R .known)))) (omega (arith, m))
 
   pub digit-both : oneAxis k ≡ false → l < 3
@@ -199,12 +199,12 @@ module _ {k : Block} {l : ℕ} {numbers coded a b : List ℕ} (R : ReadsStream k
   digit-axis one = rw one at (R .all .digits l (R .known))
 
 -- and then it is read from its stream
-module _ {ls : List Level} {a b a′ b′ : List ℕ} {l w : ℕ} (one : Bool) (numbers : List ℕ) where
-  pub read-both : one ≡ false → w ≡ 2 ^ l → ReadAt ls l (taken w numbers) a b a′ b′ → ReadAt ls l (streamIn one numbers l) a b a′ b′
+module _ {ls : List Level} {a b a′ b′ : List ℕ} {l w : ℕ} (one : Bool) (labels : List ℕ) where
+  pub read-both : one ≡ false → w ≡ 2 ^ l → ReadAt ls l (taken w labels) a b a′ b′ → ReadAt ls l (streamIn one labels l) a b a′ b′
   unfolding streamIn
   read-both o e R = rw (o, ← e) R
 
-  pub read-axis : one ≡ true → w ≡ 2 ^ (l / 2) → (own : List ℕ) → own ≡ axisNumbers (l % 2) numbers
-      → ReadAt ls l (taken w own) a b a′ b′ → ReadAt ls l (streamIn one numbers l) a b a′ b′
-  unfolding streamIn axisNumbers
+  pub read-axis : one ≡ true → w ≡ 2 ^ (l / 2) → (own : List ℕ) → own ≡ axisLabels (l % 2) labels
+      → ReadAt ls l (taken w own) a b a′ b′ → ReadAt ls l (streamIn one labels l) a b a′ b′
+  unfolding streamIn axisLabels
   read-axis o e own f R = rw (o, ← e, ← f) R

@@ -22,10 +22,10 @@ use Rattle.block.proofs.Levels.{length-mixed}
 use Rattle.multilevel.proofs.Parts.{room-take, room-drop, front, length-by}
 
 -- part A can be coded
-pub a-encodes : {l : Level} {w : ℕ} {bits coded numbers : List ℕ} → CodesA l w bits coded numbers → Held (l .patterna) × Encodes (patternOf (l .patterna)) 0 bits coded 0
+pub a-encodes : {l : Level} {w : ℕ} {bits coded labels : List ℕ} → CodesA l w bits coded labels → Held (l .patterna) × Encodes (patternOf (l .patterna)) 0 bits coded 0
 a-encodes R = (R .held, record { sound = R .held .sound; seven = lit< tt; input = R .input; room = omega (arith, R .there, R .buffer) })
 
-module _ {l : Level} {w : ℕ} {bits coded numbers : List ℕ} (R : CodesA l w bits coded numbers)
+module _ {l : Level} {w : ℕ} {bits coded labels : List ℕ} (R : CodesA l w bits coded labels)
     {r n : ℕ} {coded′ : List ℕ} (E : Encoded (patternOf (l .patterna)) 0 bits coded 0 r n coded′) where
   length-first : length (encode (patternOf (l .patterna)) 0 0 bits) ≡ n
   length-first = omega (arith, E .place)
@@ -33,21 +33,21 @@ module _ {l : Level} {w : ℕ} {bits coded numbers : List ℕ} (R : CodesA l w b
   count : n ≡ codedLength (patternOf (l .patterna)) 0 (length bits)
   count = sym length-first ∙ length-by (R .held) 0 bits
 
-  -- part A's coded bits are within the buffer, and there are numbers for them
+  -- part A's coded bits are within the buffer, and there are labels for them
   pub within-coded : n ≤ length coded′
   within-coded = rw (E .written, length-sets coded 0 (encode (patternOf (l .patterna)) 0 0 bits)) (omega (arith, count, R .buffer, R .there))
 
-  pub within-numbers : n ≤ length numbers
-  within-numbers = omega (arith, count, R .there)
+  pub within-labels : n ≤ length labels
+  within-labels = omega (arith, count, R .there)
 
   first-is : take (n - 0) coded′ ≡ encode (patternOf (l .patterna)) 0 0 bits
   first-is = rw (from-start n, E .written) (front (encode (patternOf (l .patterna)) 0 0 bits) coded n length-first (omega (arith, count, R .buffer, R .there)))
 
-  length-taken : length (take (n - 0) numbers) ≡ n
-  length-taken = rw (from-start n) (length-take-le n numbers within-numbers)
+  length-taken : length (take (n - 0) labels) ≡ n
+  length-taken = rw (from-start n) (length-take-le n labels within-labels)
 
-  -- they can be added to the first numbers
-  pub adds-a : AddsPart (l .t) w (take (n - 0) coded′) (take (n - 0) numbers)
+  -- they can be added to the first labels
+  pub adds-a : AddsPart (l .t) w (take (n - 0) coded′) (take (n - 0) labels)
   adds-a =
       record {
         mixes = rw (length-taken, count) (R .mixes);
@@ -57,19 +57,19 @@ module _ {l : Level} {w : ℕ} {bits coded numbers : List ℕ} (R : CodesA l w b
       }
 
   -- and are then added
-  pub coded-a : {part : List ℕ} → part ≡ added w (mixed (l .t) (take (n - 0) coded′)) (take (n - 0) numbers)
-      → CodedA l w bits numbers r n (part ++ drop (n - 0) numbers)
+  pub coded-a : {part : List ℕ} → part ≡ added w (mixed (l .t) (take (n - 0) coded′)) (take (n - 0) labels)
+      → CodedA l w bits labels r n (part ++ drop (n - 0) labels)
   coded-a e =
       let x = mixed (l .t) (encode (patternOf (l .patterna)) 0 0 bits) in
       record {
         state = E .state;
         place = count;
-        written = rw (e, first-is, from-start n) (sym (added-front w x numbers n (length-mixed (l .t) (encode (patternOf (l .patterna)) 0 0 bits) ∙ length-first) within-numbers));
+        written = rw (e, first-is, from-start n) (sym (added-front w x labels n (length-mixed (l .t) (encode (patternOf (l .patterna)) 0 0 bits) ∙ length-first) within-labels));
       }
 
-module _ {l : Level} {r w : ℕ} {bits coded numbers : List ℕ} (R : CodesB l r w bits coded numbers) where
-  -- part B and its tail have as many coded bits as there are numbers
-  length-word : length (codedWithTail l r bits) ≡ length numbers
+module _ {l : Level} {r w : ℕ} {bits coded labels : List ℕ} (R : CodesB l r w bits coded labels) where
+  -- part B and its tail have as many coded bits as there are labels
+  length-word : length (codedWithTail l r bits) ≡ length labels
   length-word =
       rw (
         codeword-two r (segment (patternOf (l .patternb)) bits) (segment (patternOf (l .tail)) tailBits),
@@ -81,29 +81,29 @@ module _ {l : Level} {r w : ℕ} {bits coded numbers : List ℕ} (R : CodesB l r
       (omega (arith, R .size))
 
   module _ {coded′ : List ℕ} (e : coded′ ≡ sets coded 0 (codedWithTail l r bits)) where
-    word-is : take (length numbers - 0) coded′ ≡ codedWithTail l r bits
-    word-is = rw (from-start (length numbers), e) (front _ coded (length numbers) length-word (omega (arith, R .size, R .encodes .room)))
+    word-is : take (length labels - 0) coded′ ≡ codedWithTail l r bits
+    word-is = rw (from-start (length labels), e) (front _ coded (length labels) length-word (omega (arith, R .size, R .encodes .room)))
 
     -- they can be added to them
-    pub adds-b : AddsPart (l .t) w (take (length numbers - 0) coded′) numbers
+    pub adds-b : AddsPart (l .t) w (take (length labels - 0) coded′) labels
     adds-b = record { mixes = R .mixes; same = rw word-is length-word; input = rw word-is (codeword-bits r _); room = R .room }
 
     -- and are then added
-    pub coded-b : {out : List ℕ} → out ≡ added w (mixed (l .t) (take (length numbers - 0) coded′)) numbers
-        → out ≡ added w (mixed (l .t) (codedWithTail l r bits)) numbers
+    pub coded-b : {out : List ℕ} → out ≡ added w (mixed (l .t) (take (length labels - 0) coded′)) labels
+        → out ≡ added w (mixed (l .t) (codedWithTail l r bits)) labels
     coded-b f = rw word-is at f
 
-module _ {l : Level} {w : ℕ} {a b coded numbers : List ℕ} (R : CodesLevel l w a b coded numbers) where
+module _ {l : Level} {w : ℕ} {a b coded labels : List ℕ} (R : CodesLevel l w a b coded labels) where
   -- the coded bits of both parts together
-  sizes : codedLength (patternOf (l .patterna)) 0 (length a) + (codedLength (patternOf (l .patternb)) 0 (length b) + codedLength (patternOf (l .tail)) 0 6) ≡ length numbers
+  sizes : codedLength (patternOf (l .patterna)) 0 (length a) + (codedLength (patternOf (l .patternb)) 0 (length b) + codedLength (patternOf (l .tail)) 0 6) ≡ length labels
   unfolding sizeA sizeB
   sizes = rw (R .longA, R .longB) (R .fits .size)
 
-  room-all : Room (l .t) w numbers
+  room-all : Room (l .t) w labels
   room-all = record { small = R .fits .small; high = R .high; sums = R .sums }
 
   -- part A can be coded
-  pub codes-a : CodesA l w a coded numbers
+  pub codes-a : CodesA l w a coded labels
   unfolding sizeA
   codes-a =
       record {
@@ -121,31 +121,31 @@ module _ {l : Level} {w : ℕ} {a b coded numbers : List ℕ} (R : CodesLevel l 
   unfolding stream codedA codedB
   stream-is = rw (codeword-one 0 (segment (patternOf (l .patterna)) a))
 
-  module _ {r n : ℕ} {numbers′ : List ℕ} (C : CodedA l w a numbers r n numbers′) where
+  module _ {r n : ℕ} {labels′ : List ℕ} (C : CodedA l w a labels r n labels′) where
     first-length : length (mixed (l .t) (encode (patternOf (l .patterna)) 0 0 a)) ≡ n
     first-length = length-mixed (l .t) (encode (patternOf (l .patterna)) 0 0 a) ∙ length-by (R .fits .heldA) 0 a ∙ sym (C .place)
 
-    low : n ≤ length numbers
+    low : n ≤ length labels
     low = omega (arith, sizes, C .place)
 
-    kept : length numbers′ ≡ length numbers
-    kept = rw (C .written) (added-length w (mixed (l .t) (encode (patternOf (l .patterna)) 0 0 a)) numbers)
+    kept : length labels′ ≡ length labels
+    kept = rw (C .written) (added-length w (mixed (l .t) (encode (patternOf (l .patterna)) 0 0 a)) labels)
 
-    -- there are numbers behind part A
-    pub behind-a : n ≤ length numbers′
+    -- there are labels behind part A
+    pub behind-a : n ≤ length labels′
     behind-a = omega (arith, low, kept)
 
-    rest-is : take (length numbers′ - n) (drop n numbers′) ≡ drop n numbers′
-    rest-is = take-all (length numbers′ - n) (drop n numbers′) (rw length-drop (omega arith))
+    rest-is : take (length labels′ - n) (drop n labels′) ≡ drop n labels′
+    rest-is = take-all (length labels′ - n) (drop n labels′) (rw length-drop (omega arith))
 
-    rest-length : length (drop n numbers′) ≡ codedLength (patternOf (l .patternb)) 0 (length b) + codedLength (patternOf (l .tail)) 0 6
+    rest-length : length (drop n labels′) ≡ codedLength (patternOf (l .patternb)) 0 (length b) + codedLength (patternOf (l .tail)) 0 6
     rest-length = rw length-drop (omega (arith, sizes, C .place, kept))
 
-    rest-kept : drop n numbers′ ≡ drop n numbers
-    rest-kept = rw (C .written) (added-rest w (mixed (l .t) (encode (patternOf (l .patterna)) 0 0 a)) numbers n first-length low)
+    rest-kept : drop n labels′ ≡ drop n labels
+    rest-kept = rw (C .written) (added-rest w (mixed (l .t) (encode (patternOf (l .patterna)) 0 0 a)) labels n first-length low)
 
     -- part B can be coded and added to them
-    pub codes-b : {coded′ : List ℕ} → length coded′ ≡ length coded → CodesB l r w b coded′ (take (length numbers′ - n) (drop n numbers′))
+    pub codes-b : {coded′ : List ℕ} → length coded′ ≡ length coded → CodesB l r w b coded′ (take (length labels′ - n) (drop n labels′))
     unfolding sizeB
     codes-b e =
         record {
@@ -161,16 +161,16 @@ module _ {l : Level} {w : ℕ} {a b coded numbers : List ℕ} (R : CodesLevel l 
           room = rw (rest-is, rest-kept) (room-drop n room-all);
         }
 
-    none-left : drop (length numbers′ - n) (drop n numbers′) ≡ []
-    none-left = rw (← length-drop n numbers′) (drop-length (drop n numbers′))
+    none-left : drop (length labels′ - n) (drop n labels′) ≡ []
+    none-left = rw (← length-drop n labels′) (drop-length (drop n labels′))
 
     -- and then the level's stream is added
     pub coded-level : {part : List ℕ}
-        → part ≡ added w (mixed (l .t) (codedWithTail l r b)) (take (length numbers′ - n) (drop n numbers′))
-        → take n numbers′ ++ (part ++ drop (length numbers′ - n) (drop n numbers′))
-        ≡ added w (stream l a b) numbers
+        → part ≡ added w (mixed (l .t) (codedWithTail l r b)) (take (length labels′ - n) (drop n labels′))
+        → take n labels′ ++ (part ++ drop (length labels′ - n) (drop n labels′))
+        ≡ added w (stream l a b) labels
     coded-level {part} e =
         let x = mixed (l .t) (encode (patternOf (l .patterna)) 0 0 a) in
         let y = mixed (l .t) (codedWithTail l (after 0 a) b) in
-        let p : part ≡ added w y (drop n numbers′) = rw (rest-is, C .state) at e in
-        rw (none-left, append-nil part, p, C .written, stream-is) (sym (added-behind w x y numbers n first-length low))
+        let p : part ≡ added w y (drop n labels′) = rw (rest-is, C .state) at e in
+        rw (none-left, append-nil part, p, C .written, stream-is) (sym (added-behind w x y labels n first-length low))

@@ -21,7 +21,7 @@ use Rattle.block.specs.declared.Level.{Level}
 use Rattle.multilevel.proofs.Parts.{cycles}
 
 -- what taking them out requires
-pub takes : {t w : ℕ} {numbers out : List ℕ} → TakesPart t w numbers out → (t ≡ 0 → ⊥) → (length numbers ≡ 0 → ⊥) → Takes t w numbers out
+pub takes : {t w : ℕ} {labels out : List ℕ} → TakesPart t w labels out → (t ≡ 0 → ⊥) → (length labels ≡ 0 → ⊥) → Takes t w labels out
 takes R p q =
     record {
       lends = record { fits = record { cycles = cycles (R .mixes) p q; high = R .high; small = R .small }; same = R .same };
@@ -39,17 +39,17 @@ module _ (t : ℕ) (v : List ℕ) where
   unmixed-cycle p = rw (ne-eqb t 0 p)
 
 -- a part can be decoded from the bits that were taken out
-pub decodes : {p : Pattern} {r t w : ℕ} {numbers coded out coded′ : List ℕ} → ReadsPart p r t w numbers coded out → length coded′ ≡ length coded
+pub decodes : {p : Pattern} {r t w : ℕ} {labels coded out coded′ : List ℕ} → ReadsPart p r t w labels coded out → length coded′ ≡ length coded
     → Held p × Decodes (patternOf p) r coded′ 0 out
 decodes R e = (R .held, record { sound = R .held .sound; seven = R .seven; room = omega (arith, R .there, R .takes .same, e) })
 
 -- what is decoded of the bits that were taken out
-pub part-read : {p : Pattern} {r t w n r′ at : ℕ} {numbers coded out : List ℕ} → coded ≡ unmixed t (taken w numbers) → Decoded (patternOf p) r coded 0 n r′ at out
-    → PartRead p r t w numbers n r′ out
+pub part-read : {p : Pattern} {r t w n r′ at : ℕ} {labels coded out : List ℕ} → coded ≡ unmixed t (taken w labels) → Decoded (patternOf p) r coded 0 n r′ at out
+    → PartRead p r t w labels n r′ out
 part-read e D = record { state = rw (D .written) (D .state); written = rw (← e) (D .written) }
 
-module _ {l : Level} {w : ℕ} {numbers coded a b : List ℕ} (R : ReadsLevel l w numbers coded a b) where
-  all-sizes : codedLength (patternOf (l .patterna)) 0 (length a) + (codedLength (patternOf (l .patternb)) 0 (length b) + codedLength (patternOf (l .tail)) 0 6) ≡ length numbers
+module _ {l : Level} {w : ℕ} {labels coded a b : List ℕ} (R : ReadsLevel l w labels coded a b) where
+  all-sizes : codedLength (patternOf (l .patterna)) 0 (length a) + (codedLength (patternOf (l .patternb)) 0 (length b) + codedLength (patternOf (l .tail)) 0 6) ≡ length labels
   unfolding sizeA sizeB
   all-sizes = rw (R .longA, R .longB) (R .fits .size)
 
@@ -62,18 +62,18 @@ module _ {l : Level} {w : ℕ} {numbers coded a b : List ℕ} (R : ReadsLevel l 
     front-is : first ≡ codedLength (patternOf (l .patterna)) 0 (length a)
     front-is = rw (R .longA) first-is
 
-    -- part A's numbers are there, and its coded bits have room
-    pub first-numbers : first ≤ length numbers
-    first-numbers = omega (arith, all-sizes, front-is)
+    -- part A's labels are there, and its coded bits have room
+    pub first-labels : first ≤ length labels
+    first-labels = omega (arith, all-sizes, front-is)
 
     pub first-coded : first ≤ length coded
-    first-coded = omega (arith, first-numbers, R .buffer)
+    first-coded = omega (arith, first-labels, R .buffer)
 
     -- part A can be read
-    pub reads-a : ReadsPart (l .patterna) 0 (l .t) w (take (first - 0) numbers) (take (first - 0) coded) a
+    pub reads-a : ReadsPart (l .patterna) 0 (l .t) w (take (first - 0) labels) (take (first - 0) coded) a
     unfolding sizeA
     reads-a =
-        let e : length (take (first - 0) numbers) ≡ first = rw (from-start first) (length-take-le first numbers first-numbers) in
+        let e : length (take (first - 0) labels) ≡ first = rw (from-start first) (length-take-le first labels first-labels) in
         let f : length (take (first - 0) coded) ≡ first = rw (from-start first) (length-take-le first coded first-coded) in
         record {
           held = R .fits .heldA;
@@ -81,50 +81,50 @@ module _ {l : Level} {w : ℕ} {numbers coded a b : List ℕ} (R : ReadsLevel l 
           takes = record {
             mixes = rw (e, front-is, R .longA) (R .fits .mixesA);
             small = R .fits .small;
-            high = omega (arith, e, first-numbers, R .high);
+            high = omega (arith, e, first-labels, R .high);
             same = f ∙ sym e;
             weighs = R .weighs;
           };
           there = omega (arith, e, front-is);
         }
 
-    module _ {r : ℕ} {a′ : List ℕ} (P : PartRead (l .patterna) 0 (l .t) w (take (first - 0) numbers) (length a) r a′) where
-      rest-all : take (length numbers - first) (drop first numbers) ≡ drop first numbers
-      rest-all = take-all (length numbers - first) (drop first numbers) (rw length-drop (omega arith))
+    module _ {r : ℕ} {a′ : List ℕ} (P : PartRead (l .patterna) 0 (l .t) w (take (first - 0) labels) (length a) r a′) where
+      rest-all : take (length labels - first) (drop first labels) ≡ drop first labels
+      rest-all = take-all (length labels - first) (drop first labels) (rw length-drop (omega arith))
 
       -- part B can be read from the register behind part A
       pub reads-b : (part : List ℕ) → length part ≡ length (take (first - 0) coded)
-          → ReadsPart (l .patternb) r (l .t) w (take (length numbers - first) (drop first numbers)) (take (length numbers - first - 0) (part ++ drop (first - 0) coded)) b
+          → ReadsPart (l .patternb) r (l .t) w (take (length labels - first) (drop first labels)) (take (length labels - first - 0) (part ++ drop (first - 0) coded)) b
       unfolding sizeB
       reads-b part h =
-          let e : length (drop first numbers) ≡ codedLength (patternOf (l .patternb)) 0 (length b) + codedLength (patternOf (l .tail)) 0 6 =
+          let e : length (drop first labels) ≡ codedLength (patternOf (l .patternb)) 0 (length b) + codedLength (patternOf (l .tail)) 0 6 =
           rw length-drop (omega (arith, all-sizes, front-is)) in
           let f : length (part ++ drop (first - 0) coded) ≡ length coded =
           rw (length-append, h, from-start first, length-take-le first coded first-coded, length-drop) (omega (arith, first-coded)) in
-          let g : length (take (length numbers - first - 0) (part ++ drop (first - 0) coded)) ≡ length (drop first numbers) =
-          length-take-le (length numbers - first - 0) (part ++ drop (first - 0) coded) (omega (arith, f, R .buffer)) ∙ rw length-drop (omega arith) in
+          let g : length (take (length labels - first - 0) (part ++ drop (first - 0) coded)) ≡ length (drop first labels) =
+          length-take-le (length labels - first - 0) (part ++ drop (first - 0) coded) (omega (arith, f, R .buffer)) ∙ rw length-drop (omega arith) in
           record {
             held = R .fits .heldB;
             seven = rw (P .state) (after-low (lit< tt) (rw (P .written) (decode-bits (patternOf (l .patterna)) 0 0 (length a) _)));
             takes = record {
               mixes = rw (rest-all, e, R .longB) (R .fits .mixesB);
               small = R .fits .small;
-              high = rw rest-all (omega (arith, length-drop first numbers, R .high));
+              high = rw rest-all (omega (arith, length-drop first labels, R .high));
               same = rw rest-all g;
               weighs = R .weighs;
             };
             there = rw (rest-all, e) (omega arith);
           }
 
-      part-a : a′ ≡ decode (patternOf (l .patterna)) 0 0 (length a) (unmixed (l .t) (take (codedLength (patternOf (l .patterna)) 0 (length a)) (taken w numbers)))
-      part-a = rw (from-start first, ← take-taken w first numbers, front-is) at (P .written)
+      part-a : a′ ≡ decode (patternOf (l .patterna)) 0 0 (length a) (unmixed (l .t) (take (codedLength (patternOf (l .patterna)) 0 (length a)) (taken w labels)))
+      part-a = rw (from-start first, ← take-taken w first labels, front-is) at (P .written)
 
       -- and both parts are then the level's input bits
-      pub level-read : {r′ : ℕ} {b′ : List ℕ} → PartRead (l .patternb) r (l .t) w (take (length numbers - first) (drop first numbers)) (length b) r′ b′
-          → LevelRead l (taken w numbers) a′ b′
+      pub level-read : {r′ : ℕ} {b′ : List ℕ} → PartRead (l .patternb) r (l .t) w (take (length labels - first) (drop first labels)) (length b) r′ b′
+          → LevelRead l (taken w labels) a′ b′
       unfolding inputA inputB sizeA
       level-read Q =
           record {
             partA = rw (R .longA) at part-a;
-            partB = rw (← R .longA, ← part-a, ← P .state, ← R .longB) (rw (rest-all, ← drop-taken w first numbers, front-is) at (Q .written));
+            partB = rw (← R .longA, ← part-a, ← P .state, ← R .longB) (rw (rest-all, ← drop-taken w first labels, front-is) at (Q .written));
           }

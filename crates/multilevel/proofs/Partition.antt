@@ -62,10 +62,10 @@ module _ {ls : List Level} {n : ℕ} {a b : List ℕ} {l : ℕ} (L : LevelThere 
   unfolding bitsBefore bitsIn
   ends-b er = rw er (L .withinB)
 
-module _ {ls : List Level} {l w : ℕ} {a b coded numbers : List ℕ} (C : CodesAt ls l w a b coded numbers)
+module _ {ls : List Level} {l w : ℕ} {a b coded labels : List ℕ} (C : CodesAt ls l w a b coded labels)
     {s r : ℕ} (es : s ≡ bitsBefore ls false l) (er : r ≡ bitsBefore ls true l) where
   -- what coding the level requires
-  pub codes-level : CodesLevel (levelAt ls l) w (take (s + levelAt ls l .bitsa - s) (drop s a)) (take (r + levelAt ls l .bitsb - r) (drop r b)) coded numbers
+  pub codes-level : CodesLevel (levelAt ls l) w (take (s + levelAt ls l .bitsa - s) (drop s a)) (take (r + levelAt ls l .bitsb - r) (drop r b)) coded labels
   codes-level =
       record {
         fits = C .level .fits;
@@ -78,10 +78,10 @@ module _ {ls : List Level} {l w : ℕ} {a b coded numbers : List ℕ} (C : Codes
         sums = C .sums;
       }
 
-  -- so that the numbers have its stream added
+  -- so that the labels have its stream added
   pub coded-is : {after : List ℕ}
-      → after ≡ added w (stream (levelAt ls l) (take (s + levelAt ls l .bitsa - s) (drop s a)) (take (r + levelAt ls l .bitsb - r) (drop r b))) numbers
-      → after ≡ added w (streamAt ls a b l) numbers
+      → after ≡ added w (stream (levelAt ls l) (take (s + levelAt ls l .bitsa - s) (drop s a)) (take (r + levelAt ls l .bitsb - r) (drop r b))) labels
+      → after ≡ added w (streamAt ls a b l) labels
   unfolding streamAt
   coded-is e =
       rw (part-is a s (levelAt ls l .bitsa) (bitsBefore ls false l) es, part-is b r (levelAt ls l .bitsb) (bitsBefore ls true l) er) at e

@@ -1,4 +1,4 @@
--- The parts of a level in the working buffers: their coded bits, added to numbers and taken out of them. Assumes nothing.
+-- The parts of a level in the working buffers: their coded bits, added to labels and taken out of them. Assumes nothing.
 use Prim.Native.Nat.{ℕ, _+_, _*_, _≤_, _<_}
 use mathlib.Core.Path.{_≡_, sym, _∙_}
 use mathlib.Core.Logic.{_⊎_, inl, inr}
@@ -61,7 +61,7 @@ module _ (t : ℕ) (v : List ℕ) where
   unfolding mixed
   mixed-cycle p = rw (ne-eqb t 0 p)
 
--- there is room in the first numbers, and in those after them
+-- there is room in the first labels, and in those after them
 pub room-take : {t w : ℕ} {d : List ℕ} (n : ℕ) → Room t w d → Room t w (take n d)
 room-take {t} {w} {d} n R = record { small = R .small; high = rw length-take (omega (arith, R .high)); sums = λ k. go k (below-or k n) }
   where

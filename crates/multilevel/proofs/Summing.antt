@@ -1,4 +1,4 @@
--- Streams of levels summed into numbers, level by level. Assumes nothing.
+-- Streams of levels summed into labels, level by level. Assumes nothing.
 use Prim.Native.Nat.{ℕ, suc, _+_, _*_, _-_, _^_, _≤_, _<_}
 use mathlib.Core.Path.{_≡_, sym, _∙_}
 use mathlib.Core.Logic.{_⊎_, inl, inr}
@@ -13,7 +13,7 @@ use Rattle.multilevel.specs.Contracts.{added, levelAt, streamAt, stepped
 use Rattle.lists.proofs.Counting.{below-or}
 use Rattle.lists.proofs.Tables.{length-table, getD-table, table-is}
 use Rattle.multilevel.proofs.Weights.{weighed-le, added-length, added-at}
-use Rattle.block.specs.Mapping.{numberAt}
+use Rattle.block.specs.Mapping.{labelAt}
 use Rattle.block.specs.declared.Level.{Level}
 use Rattle.block.proofs.Levels.{bits-stream}
 
@@ -36,18 +36,18 @@ others-there none h = absurd (omega arith)
 others-there (more {m = m} H R) h = let e : suc m - 1 ≡ m = omega arith in rw e R
 
 -- before the turn at level l, with m levels left: what is there plus the weight times what is left is the whole
-pub record Summing (ls : List Level) (a b : List ℕ) (n first s count : ℕ) (numbers : List ℕ) (l w m : ℕ) : Type 0 where
-  pub long : length numbers ≡ n
+pub record Summing (ls : List Level) (a b : List ℕ) (n first s count : ℕ) (labels : List ℕ) (l w m : ℕ) : Type 0 where
+  pub long : length labels ≡ n
   pub levels : LevelsThere ls n a b s l m
   pub weight : w * 2 ^ m ≤ 8
   pub near : l + s * m ≤ first + s * count
-  pub low : (j : ℕ) → getD numbers j 0 < w
+  pub low : (j : ℕ) → getD labels j 0 < w
   pub whole : (j : ℕ) → j < n
-      → getD numbers j 0 + w * numberAt (stepped (streamAt ls a b) l s m) j ≡ numberAt (stepped (streamAt ls a b) first s count) j
+      → getD labels j 0 + w * labelAt (stepped (streamAt ls a b) l s m) j ≡ labelAt (stepped (streamAt ls a b) first s count) j
 
-pub start : {ls : List Level} {a b : List ℕ} {first s count : ℕ} {d numbers : List ℕ} → CodesLevels ls first s count a b d
-    → numbers ≡ table (λ j. 0) 0 (length d) → {n : ℕ} → n ≡ length d → Summing ls a b n first s count numbers first 1 count
-start {ls} {a} {b} {first} {s} {count} {d} {numbers} C e {n} f =
+pub start : {ls : List Level} {a b : List ℕ} {first s count : ℕ} {d labels : List ℕ} → CodesLevels ls first s count a b d
+    → labels ≡ table (λ j. 0) 0 (length d) → {n : ℕ} → n ≡ length d → Summing ls a b n first s count labels first 1 count
+start {ls} {a} {b} {first} {s} {count} {d} {labels} C e {n} f =
     rw
     f
     (record {
@@ -59,11 +59,11 @@ start {ls} {a} {b} {first} {s} {count} {d} {numbers} C e {n} f =
       whole = λ j h. omega (arith, zero-at j (inl h));
     })
   where
-    zero-at : (j : ℕ) → (j < length d) ⊎ (length d ≤ j) → getD numbers j 0 ≡ 0
+    zero-at : (j : ℕ) → (j < length d) ⊎ (length d ≤ j) → getD labels j 0 ≡ 0
     zero-at j (inl h) = rw e (getD-table 0 (λ j. 0) (length d) j h)
     zero-at j (inr h) = rw e (List·getD-eq-default (table (λ j. 0) 0 (length d)) 0 (rw length-table h))
 
-module _ {ls : List Level} {a b : List ℕ} {n first s count : ℕ} {numbers : List ℕ} {l w m : ℕ} (S : Summing ls a b n first s count numbers l w m) (h : 0 < m) where
+module _ {ls : List Level} {a b : List ℕ} {n first s count : ℕ} {labels : List ℕ} {l w m : ℕ} (S : Summing ls a b n first s count labels l w m) (h : 0 < m) where
   -- the weight is at most 4
   pub weight-low : w ≤ 4
   weight-low = let f : 2 ≤ 2 ^ m = pow-mono {i = 1} {j = m} h in omega (arith, S .weight, mul-le-mul-left w f)
@@ -73,7 +73,7 @@ module _ {ls : List Level} {a b : List ℕ} {n first s count : ℕ} {numbers : L
   next-near C = omega (arith, S .near, mul-le-mul-left {m = 1} {n = m} s h, mul-le-mul-left {m = count} {n = 3} s (C .three), C .near .0, C .near .1)
 
   -- what coding the level requires
-  pub codes-at : {coded d : List ℕ} → CodesLevels ls first s count a b d → length d ≡ n → length coded ≡ 12236 → CodesAt ls l w a b coded numbers
+  pub codes-at : {coded d : List ℕ} → CodesLevels ls first s count a b d → length d ≡ n → length coded ≡ 12236 → CodesAt ls l w a b coded labels
   codes-at C e f =
       record {
         level = rw (S .long) (first-there (S .levels) h);
@@ -84,12 +84,12 @@ module _ {ls : List Level} {a b : List ℕ} {n first s count : ℕ} {numbers : L
       }
 
   -- and the turn
-  pub turn : {next : List ℕ} → next ≡ added w (streamAt ls a b l) numbers → Summing ls a b n first s count next (l + s) (2 * w) (m - 1)
-  unfolding stepped numberAt
+  pub turn : {next : List ℕ} → next ≡ added w (streamAt ls a b l) labels → Summing ls a b n first s count next (l + s) (2 * w) (m - 1)
+  unfolding stepped labelAt
   turn {next} e =
       let f : m ≡ suc (m - 1) = omega arith in
       record {
-        long = rw e (added-length w (streamAt ls a b l) numbers) ∙ S .long;
+        long = rw e (added-length w (streamAt ls a b l) labels) ∙ S .long;
         levels = others-there (S .levels) h;
         weight = rw (twice w (m - 1)) (rw f at (S .weight));
         near = omega (arith, rw f at (S .near));
@@ -97,16 +97,16 @@ module _ {ls : List Level} {a b : List ℕ} {n first s count : ℕ} {numbers : L
         whole = λ j k. omega (arith, at j k, rw f at (S .whole j k));
       }
     where
-      at : (j : ℕ) → j < n → getD next j 0 ≡ getD numbers j 0 + w * getD (streamAt ls a b l) j 0
-      at j k = rw e (added-at w (streamAt ls a b l) numbers j (rw (S .long) k))
+      at : (j : ℕ) → j < n → getD next j 0 ≡ getD labels j 0 + w * getD (streamAt ls a b l) j 0
+      at j k = rw e (added-at w (streamAt ls a b l) labels j (rw (S .long) k))
 
       low-at : (j : ℕ) → (j < n) ⊎ (n ≤ j) → getD next j 0 < 2 * w
       low-at j (inl k) = omega (arith, at j k, S .low j, weighed-le w (getD (streamAt ls a b l) j 0) (stream-bits ls a b l .bit j))
       low-at j (inr k) = omega (arith, List·getD-eq-default next 0 {n = j} (rw (e, added-length, S .long) k), S .low j)
 
-pub done : {ls : List Level} {a b : List ℕ} {k n first s count : ℕ} {numbers : List ℕ} {l w m : ℕ} → Summing ls a b n first s count numbers l w m → m ≤ 0 → n ≡ k
-    → numbers ≡ table (numberAt (stepped (streamAt ls a b) first s count)) 0 k
-unfolding stepped numberAt
-done {ls} {a} {b} {k} {n} {first} {s} {count} {numbers} {l} {w} {m} S h g =
+pub done : {ls : List Level} {a b : List ℕ} {k n first s count : ℕ} {labels : List ℕ} {l w m : ℕ} → Summing ls a b n first s count labels l w m → m ≤ 0 → n ≡ k
+    → labels ≡ table (labelAt (stepped (streamAt ls a b) first s count)) 0 k
+unfolding stepped labelAt
+done {ls} {a} {b} {k} {n} {first} {s} {count} {labels} {l} {w} {m} S h g =
     let f : m ≡ 0 = omega arith in
-    rw (← g) (sym (table-is _ 0 n numbers (S .long) (λ j k. sym (omega (arith, rw f at (S .whole j k))))))
+    rw (← g) (sym (table-is _ 0 n labels (S .long) (λ j k. sym (omega (arith, rw f at (S .whole j k))))))

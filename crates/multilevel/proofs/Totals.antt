@@ -18,7 +18,7 @@ use Rattle.component.proofs.Bits.{bits-drop}
 use Rattle.block.specs.declared.Level.{Level}
 use Rattle.block.specs.declared.Block.{Block}
 use Rattle.block.specs.Levels.{totalA, totalB, streams}
-use Rattle.block.specs.Mapping.{constellation, numberAt}
+use Rattle.block.specs.Mapping.{constellation, labelAt}
 use Rattle.block.specs.Block.{levelsOf, pointsOf, oneAxis, bitCount}
 use Rattle.block.specs.Fits.{Labels, LevelFits, LevelsFit, none, more, BlockFits}
 use Rattle.block.proofs.Lists.{bits-take}
@@ -52,13 +52,13 @@ module _ (ls : List Level) where
   streams-table a b k (suc n) =
       ap (λ v. streamAt ls a b k ∷ v) (rw (left a false k, left b true k, add-one k) (streams-table a b (suc k) n))
 
-  -- every stream is bits, and so the numbers of m streams are below 2 ^ m
+  -- every stream is bits, and so the labels of m streams are below 2 ^ m
   stream-bits : (a b : List ℕ) (l : ℕ) → Bits (streamAt ls a b l)
   unfolding streamAt
   stream-bits a b l = bits-stream (levelAt ls l) _ _
 
-  pub number-low : (a b : List ℕ) (l s m j : ℕ) → numberAt (stepped (streamAt ls a b) l s m) j < 2 ^ m
-  unfolding numberAt stepped
+  pub number-low : (a b : List ℕ) (l s m j : ℕ) → labelAt (stepped (streamAt ls a b) l s m) j < 2 ^ m
+  unfolding labelAt stepped
   number-low a b l s zero j = omega arith
   number-low a b l s (suc m) j = rw pow-suc (omega (arith, number-low a b (l + s) s m j, stream-bits a b l .bit j))
 
@@ -149,8 +149,8 @@ module _ {k : Block} (F : BlockFits k) where
 
     module _ (A : Bits a) (B : Bits b) where
       -- what coding them requires
-      pub codes-levels : {numbers : List ℕ} (s l m : ℕ) → 0 < s → s ≤ 2 → l ≤ 1 → m ≤ 3 → l + s * m < k .count + s → length numbers ≡ n
-          → CodesLevels (k .levels) l s m a b numbers
+      pub codes-levels : {labels : List ℕ} (s l m : ℕ) → 0 < s → s ≤ 2 → l ≤ 1 → m ≤ 3 → l + s * m < k .count + s → length labels ≡ n
+          → CodesLevels (k .levels) l s m a b labels
       codes-levels s l m p s2 l1 m3 h g =
           record {
             levels = rw g (all-there s l m p h);

@@ -1,4 +1,4 @@
--- Level bits added to numbers with their weight, and taken out again. Assumes nothing.
+-- Level bits added to labels with their weight, and taken out again. Assumes nothing.
 use mathlib.Core.Path.{_≡_, refl, sym, ap, ap₂, _∙_}
 use mathlib.Core.List.{List, [], _∷_, _++_, append-nil}
 use Prim.Native.Nat.{ℕ, zero, suc, _+_, _-_, _*_, _/_, _%_, _^_, _≤_, _<_, min}
@@ -31,28 +31,28 @@ pub added-next : (t w s q p i : ℕ) (bits d : List ℕ) (f : ℕ → ℕ) (out 
 added-next t w s q p i bits d f out l a g = rw (g .rest i (omega arith), interleaved-at 0 t bits i l, a .place-is)
 
 -- What is filled with sums up to the end is the list with the bits added.
-pub added-end : (w i : ℕ) (bits numbers out : List ℕ) → i ≡ length numbers
-    → Filled 0 (λ k. getD numbers k 0 + w * getD bits k 0) numbers out i → out ≡ added w bits numbers
+pub added-end : (w i : ℕ) (bits labels out : List ℕ) → i ≡ length labels
+    → Filled 0 (λ k. getD labels k 0 + w * getD bits k 0) labels out i → out ≡ added w bits labels
 unfolding added
-added-end w i bits numbers out e h = filled-end 0 _ numbers out (length numbers) refl (rw e at h)
+added-end w i bits labels out e h = filled-end 0 _ labels out (length labels) refl (rw e at h)
 
--- There are as many bits as numbers.
-pub taken-length : (w : ℕ) (numbers : List ℕ) → length (taken w numbers) ≡ length numbers
+-- There are as many bits as labels.
+pub taken-length : (w : ℕ) (labels : List ℕ) → length (taken w labels) ≡ length labels
 unfolding taken
-taken-length w numbers = length-table _ 0 (length numbers)
+taken-length w labels = length-table _ 0 (length labels)
 
 -- Bit i is that of number i.
-pub taken-at : (w : ℕ) (numbers : List ℕ) (i : ℕ) → i < length numbers → getD (taken w numbers) i 0 ≡ getD numbers i 0 / w % 2
+pub taken-at : (w : ℕ) (labels : List ℕ) (i : ℕ) → i < length labels → getD (taken w labels) i 0 ≡ getD labels i 0 / w % 2
 unfolding taken
-taken-at w numbers i h = getD-table 0 _ (length numbers) i h
+taken-at w labels i h = getD-table 0 _ (length labels) i h
 
 -- With all bits taken back to their places the list is the deinterleaved one.
-pub taken-end : (t w i : ℕ) (numbers out : List ℕ) → Cycles t (length numbers) → i ≡ length numbers
-    → Returned 0 t (length numbers) (taken w numbers) out i → out ≡ deinterleaved 0 t (taken w numbers)
-taken-end t w i numbers out c e h =
-    let l = taken-length w numbers in
-    let n = length (taken w numbers) in
-    deinterleaved-end 0 t (taken w numbers) (rw l c) out n (omega arith) (omega arith) (rw (e, ← l) at h)
+pub taken-end : (t w i : ℕ) (labels out : List ℕ) → Cycles t (length labels) → i ≡ length labels
+    → Returned 0 t (length labels) (taken w labels) out i → out ≡ deinterleaved 0 t (taken w labels)
+taken-end t w i labels out c e h =
+    let l = taken-length w labels in
+    let n = length (taken w labels) in
+    deinterleaved-end 0 t (taken w labels) (rw l c) out n (omega arith) (omega arith) (rw (e, ← l) at h)
 
 -- A mask with a weight gives the weight times the bit.
 weighed : (w x : ℕ) (h : Weight w) → bitAnd x w ≡ x / w % 2 * w
@@ -76,38 +76,38 @@ weighed-one w x h e = go (x / w % 2) (weighed w x h) (omega arith)
     go zero g l = absurd (e (omega arith))
     go (suc m) g l = omega arith
 
--- There are as many sums as numbers.
-pub added-length : (w : ℕ) (bits numbers : List ℕ) → length (added w bits numbers) ≡ length numbers
+-- There are as many sums as labels.
+pub added-length : (w : ℕ) (bits labels : List ℕ) → length (added w bits labels) ≡ length labels
 unfolding added
-added-length w bits numbers = length-table _ 0 (length numbers)
+added-length w bits labels = length-table _ 0 (length labels)
 
 -- Sum i is number i with its bit added.
-pub added-at : (w : ℕ) (bits numbers : List ℕ) (i : ℕ) → i < length numbers → getD (added w bits numbers) i 0 ≡ getD numbers i 0 + w * getD bits i 0
+pub added-at : (w : ℕ) (bits labels : List ℕ) (i : ℕ) → i < length labels → getD (added w bits labels) i 0 ≡ getD labels i 0 + w * getD bits i 0
 unfolding added
-added-at w bits numbers i h = getD-table 0 _ (length numbers) i h
+added-at w bits labels i h = getD-table 0 _ (length labels) i h
 
--- a level's bits of the first numbers, and of those after them
-pub take-taken : (w n : ℕ) (numbers : List ℕ) → take n (taken w numbers) ≡ taken w (take n numbers)
+-- a level's bits of the first labels, and of those after them
+pub take-taken : (w n : ℕ) (labels : List ℕ) → take n (taken w labels) ≡ taken w (take n labels)
 unfolding taken
-take-taken w n numbers =
-    let f : ℕ → ℕ = λ i. getD numbers i 0 / w % 2 in
-    sym (table-is (λ i. getD (take n numbers) i 0 / w % 2) 0 (length (take n numbers)) (take n (table f 0 (length numbers)))
-    (rw (length-take, length-table f 0 (length numbers), length-take))
+take-taken w n labels =
+    let f : ℕ → ℕ = λ i. getD labels i 0 / w % 2 in
+    sym (table-is (λ i. getD (take n labels) i 0 / w % 2) 0 (length (take n labels)) (take n (table f 0 (length labels)))
+    (rw (length-take, length-table f 0 (length labels), length-take))
     (λ i h.
-    let l : i < min n (length numbers) = rw length-take at h in
-    rw (getD-take n numbers i 0 (omega arith), getD-take n (table f 0 (length numbers)) i 0 (omega arith), table-at f 0 (length numbers) i 0 (omega arith), zero-add)))
+    let l : i < min n (length labels) = rw length-take at h in
+    rw (getD-take n labels i 0 (omega arith), getD-take n (table f 0 (length labels)) i 0 (omega arith), table-at f 0 (length labels) i 0 (omega arith), zero-add)))
 
-pub drop-taken : (w n : ℕ) (numbers : List ℕ) → drop n (taken w numbers) ≡ taken w (drop n numbers)
+pub drop-taken : (w n : ℕ) (labels : List ℕ) → drop n (taken w labels) ≡ taken w (drop n labels)
 unfolding taken
-drop-taken w n numbers =
-    let f : ℕ → ℕ = λ i. getD numbers i 0 / w % 2 in
-    sym (table-is (λ i. getD (drop n numbers) i 0 / w % 2) 0 (length (drop n numbers)) (drop n (table f 0 (length numbers)))
-    (rw (length-drop, length-table f 0 (length numbers), length-drop))
+drop-taken w n labels =
+    let f : ℕ → ℕ = λ i. getD labels i 0 / w % 2 in
+    sym (table-is (λ i. getD (drop n labels) i 0 / w % 2) 0 (length (drop n labels)) (drop n (table f 0 (length labels)))
+    (rw (length-drop, length-table f 0 (length labels), length-drop))
     (λ i h.
-    let l : i < length numbers - n = rw length-drop at h in
-    rw (getD-drop n numbers i 0, getD-drop n (table f 0 (length numbers)) i 0, table-at f 0 (length numbers) (n + i) 0 (omega arith), zero-add)))
+    let l : i < length labels - n = rw length-drop at h in
+    rw (getD-drop n labels i 0, getD-drop n (table f 0 (length labels)) i 0, table-at f 0 (length labels) (n + i) 0 (omega arith), zero-add)))
 
--- no numbers stay as they are
+-- no labels stay as they are
 pub added-none : (w : ℕ) (bits d : List ℕ) → length d ≡ 0 → d ≡ added w bits d
 unfolding added table
 added-none w bits [] e = refl
@@ -125,7 +125,7 @@ added-nothing : (w : ℕ) (d : List ℕ) → added w [] d ≡ d
 unfolding added
 added-nothing w d = table-is _ 0 (length d) d refl (λ i h. omega arith)
 
--- bits are added to the first numbers, and further bits to those after them
+-- bits are added to the first labels, and further bits to those after them
 added-append : (w : ℕ) (x y d : List ℕ) (n : ℕ) → length x ≡ n → n ≤ length d
     → added w (x ++ y) d ≡ added w x (take n d) ++ added w y (drop n d)
 unfolding added
@@ -140,7 +140,7 @@ added-append w x y d n e h =
     rw (length-take-le n d h, length-drop n d)
     (ap (table f 0) {x = length d} {y = n + m} (omega arith) ∙ table-add f 0 n m ∙ ap₂ _++_ p₁ (rw zero-add p₂))
 
--- with bits for the first n numbers only, those after them stay
+-- with bits for the first n labels only, those after them stay
 pub added-front : (w : ℕ) (x d : List ℕ) (n : ℕ) → length x ≡ n → n ≤ length d → added w x d ≡ added w x (take n d) ++ drop n d
 added-front w x d n e h = rw (append-nil x, added-nothing w (drop n d)) at (added-append w x [] d n e h)
 
@@ -148,15 +148,15 @@ pub added-rest : (w : ℕ) (x d : List ℕ) (n : ℕ) → length x ≡ n → n �
 added-rest w x d n e h =
     rw (added-front w x d n e h) (drop-at (added w x (take n d)) (drop n d) n (added-length w x (take n d) ∙ length-take-le n d h))
 
--- bits added to numbers, and further bits to those after the first n
+-- bits added to labels, and further bits to those after the first n
 pub added-behind : (w : ℕ) (x y d : List ℕ) (n : ℕ) → length x ≡ n → n ≤ length d
     → added w (x ++ y) d ≡ take n (added w x d) ++ added w y (drop n (added w x d))
 added-behind w x y d n e h =
     let l : length (added w x (take n d)) ≡ n = added-length w x (take n d) ∙ length-take-le n d h in
     rw (added-front w x d n e h, take-at (added w x (take n d)) (drop n d) n l, drop-at (added w x (take n d)) (drop n d) n l) (added-append w x y d n e h)
 
--- what is filled with the bits of all numbers are the bits taken out of them
-pub taken-filled : (w i : ℕ) (numbers d out : List ℕ) → length d ≡ length numbers → i ≡ length numbers
-    → Filled 0 (λ k. getD numbers k 0 / w % 2) d out i → out ≡ taken w numbers
+-- what is filled with the bits of all labels are the bits taken out of them
+pub taken-filled : (w i : ℕ) (labels d out : List ℕ) → length d ≡ length labels → i ≡ length labels
+    → Filled 0 (λ k. getD labels k 0 / w % 2) d out i → out ≡ taken w labels
 unfolding taken
-taken-filled w i numbers d out e n F = filled-end 0 _ d out (length numbers) e (rw n at F)
+taken-filled w i labels d out e n F = filled-end 0 _ d out (length labels) e (rw n at F)

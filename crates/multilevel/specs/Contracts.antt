@@ -20,24 +20,24 @@ use lib.Seq.{sets}
 use Rattle.block.specs.Block.{oneAxis}
 use Rattle.block.specs.Reading.{taken, unmixed, inputA, inputB}
 
--- A level's bits, times their weight, are added to the numbers.
+-- A level's bits, times their weight, are added to the labels.
 unfoldable pub added : ℕ → List ℕ → List ℕ → List ℕ
-added weight bits numbers = table (λ i. getD numbers i 0 + weight * getD bits i 0) 0 (length numbers)
+added weight bits labels = table (λ i. getD labels i 0 + weight * getD bits i 0) 0 (length labels)
 
 -- A weight is a power of two.
 pub record Weight (weight : ℕ) : Type 0 where
   pub digit : ℕ
   pub power : weight ≡ 2 ^ digit
 
--- What adding interleaved bits requires: bits, and numbers that stay below 256.
-pub record Adds (t weight : ℕ) (bits numbers : List ℕ) : Type 0 where
-  pub lends : Lends t bits numbers
+-- What adding interleaved bits requires: bits, and labels that stay below 256.
+pub record Adds (t weight : ℕ) (bits labels : List ℕ) : Type 0 where
+  pub lends : Lends t bits labels
   pub bit : (k : ℕ) → getD bits k 0 < 2
-  pub room : (k : ℕ) → getD numbers k 0 + weight < 256
+  pub room : (k : ℕ) → getD labels k 0 + weight < 256
 
--- What taking interleaved bits out of numbers requires.
-pub record Takes (t weight : ℕ) (numbers out : List ℕ) : Type 0 where
-  pub lends : Lends t numbers out
+-- What taking interleaved bits out of labels requires.
+pub record Takes (t weight : ℕ) (labels out : List ℕ) : Type 0 where
+  pub lends : Lends t labels out
   pub weighs : Weight weight
 
 -- What the code would find past the last of a block's places.
@@ -87,27 +87,27 @@ pub record LevelThere (ls : List Level) (n : ℕ) (a b : List ℕ) (l : ℕ) : T
   pub short : (length a ≤ 65536) × (length b ≤ 65536)
   pub high : n ≤ 12236
 
--- What coding level l requires: bits, room for its coded bits, and numbers that they can be added to.
-pub record CodesAt (ls : List Level) (l weight : ℕ) (a b coded numbers : List ℕ) : Type 0 where
-  pub level : LevelThere ls (length numbers) a b l
+-- What coding level l requires: bits, room for its coded bits, and labels that they can be added to.
+pub record CodesAt (ls : List Level) (l weight : ℕ) (a b coded labels : List ℕ) : Type 0 where
+  pub level : LevelThere ls (length labels) a b l
   pub inputA : Bits a
   pub inputB : Bits b
-  pub buffer : length numbers ≤ length coded
-  pub sums : (k : ℕ) → getD numbers k 0 + weight < 256
+  pub buffer : length labels ≤ length coded
+  pub sums : (k : ℕ) → getD labels k 0 + weight < 256
 
 -- So many levels from level l on, every s-th.
 pub data LevelsThere (ls : List Level) (n : ℕ) (a b : List ℕ) (s : ℕ) : ℕ → ℕ → Type 0 where
   none : {l : ℕ} → LevelsThere ls n a b s l 0
   more : {l m : ℕ} → LevelThere ls n a b l → LevelsThere ls n a b s (l + s) m → LevelsThere ls n a b s l (suc m)
 
--- What coding at most three levels into numbers requires.
-pub record CodesLevels (ls : List Level) (first step many : ℕ) (a b numbers : List ℕ) : Type 0 where
-  pub levels : LevelsThere ls (length numbers) a b step first many
+-- What coding at most three levels into labels requires.
+pub record CodesLevels (ls : List Level) (first step many : ℕ) (a b labels : List ℕ) : Type 0 where
+  pub levels : LevelsThere ls (length labels) a b step first many
   pub three : many ≤ 3
   pub near : (first ≤ 2) × (step ≤ 2)
   pub inputA : Bits a
   pub inputB : Bits b
-  pub high : length numbers ≤ 12236
+  pub high : length labels ≤ 12236
 
 -- The bits of all levels in parts A and B.
 pub record PartsOf (k : Block) (a b : List ℕ) : Type 0 where
@@ -122,33 +122,33 @@ codedWithTail l register bits = codeword register (segment (patternOf (l .patter
 abbrev pub sizeWithTail : Level → ℕ → ℕ
 sizeWithTail l n = codedLength (patternOf (l .patternb)) 0 n + codedLength (patternOf (l .tail)) 0 6
 
--- Numbers that a level's bits can be added to: few enough for the interleaver, and below 256 with the weight.
-pub record Room (t weight : ℕ) (numbers : List ℕ) : Type 0 where
+-- ThreeBits that a level's bits can be added to: few enough for the interleaver, and below 256 with the weight.
+pub record Room (t weight : ℕ) (labels : List ℕ) : Type 0 where
   pub small : t < 64
-  pub high : length numbers ≤ 16384
-  pub sums : (k : ℕ) → getD numbers k 0 + weight < 256
+  pub high : length labels ≤ 16384
+  pub sums : (k : ℕ) → getD labels k 0 + weight < 256
 
--- What adding a part's bits to as many numbers requires.
-pub record AddsPart (t weight : ℕ) (bits numbers : List ℕ) : Type 0 where
-  pub mixes : Mixes t (length numbers)
-  pub same : length bits ≡ length numbers
+-- What adding a part's bits to as many labels requires.
+pub record AddsPart (t weight : ℕ) (bits labels : List ℕ) : Type 0 where
+  pub mixes : Mixes t (length labels)
+  pub same : length bits ≡ length labels
   pub input : Bits bits
-  pub room : Room t weight numbers
+  pub room : Room t weight labels
 
--- What coding part A and adding it to the first of the numbers requires.
-pub record CodesA (l : Level) (weight : ℕ) (bits coded numbers : List ℕ) : Type 0 where
+-- What coding part A and adding it to the first of the labels requires.
+pub record CodesA (l : Level) (weight : ℕ) (bits coded labels : List ℕ) : Type 0 where
   pub held : Held (l .patterna)
   pub input : Bits bits
   pub mixes : Mixes (l .t) (codedLength (patternOf (l .patterna)) 0 (length bits))
-  pub there : codedLength (patternOf (l .patterna)) 0 (length bits) ≤ length numbers
-  pub buffer : length numbers ≤ length coded
-  pub room : Room (l .t) weight numbers
+  pub there : codedLength (patternOf (l .patterna)) 0 (length bits) ≤ length labels
+  pub buffer : length labels ≤ length coded
+  pub room : Room (l .t) weight labels
 
--- What it promises: the register and the numbers behind part A, its bits added to those before, the rest of the numbers as it was.
-pub record CodedA (l : Level) (weight : ℕ) (bits numbers : List ℕ) (register at : ℕ) (numbers' : List ℕ) : Type 0 where
+-- What it promises: the register and the labels behind part A, its bits added to those before, the rest of the labels as it was.
+pub record CodedA (l : Level) (weight : ℕ) (bits labels : List ℕ) (register at : ℕ) (labels' : List ℕ) : Type 0 where
   pub state : register ≡ after 0 bits
   pub place : at ≡ codedLength (patternOf (l .patterna)) 0 (length bits)
-  pub written : numbers' ≡ added weight (mixed (l .t) (encode (patternOf (l .patterna)) 0 0 bits)) numbers
+  pub written : labels' ≡ added weight (mixed (l .t) (encode (patternOf (l .patterna)) 0 0 bits)) labels
 
 -- What coding part B and its tail requires.
 pub record EncodesB (l : Level) (register : ℕ) (bits out : List ℕ) : Type 0 where
@@ -158,51 +158,51 @@ pub record EncodesB (l : Level) (register : ℕ) (bits out : List ℕ) : Type 0 
   pub input : Bits bits
   pub room : sizeWithTail l (length bits) ≤ length out
 
--- What adding them to as many numbers requires besides.
-pub record CodesB (l : Level) (register weight : ℕ) (bits coded numbers : List ℕ) : Type 0 where
+-- What adding them to as many labels requires besides.
+pub record CodesB (l : Level) (register weight : ℕ) (bits coded labels : List ℕ) : Type 0 where
   pub encodes : EncodesB l register bits coded
-  pub mixes : Mixes (l .t) (length numbers)
-  pub size : sizeWithTail l (length bits) ≡ length numbers
-  pub room : Room (l .t) weight numbers
+  pub mixes : Mixes (l .t) (length labels)
+  pub size : sizeWithTail l (length bits) ≡ length labels
+  pub room : Room (l .t) weight labels
 
--- What coding a level requires: a level that fits, its bits, a buffer for its coded bits, and numbers that they can be added to.
-pub record CodesLevel (l : Level) (weight : ℕ) (a b coded numbers : List ℕ) : Type 0 where
-  pub fits : LevelFits (length numbers) l
+-- What coding a level requires: a level that fits, its bits, a buffer for its coded bits, and labels that they can be added to.
+pub record CodesLevel (l : Level) (weight : ℕ) (a b coded labels : List ℕ) : Type 0 where
+  pub fits : LevelFits (length labels) l
   pub longA : length a ≡ l .bitsa
   pub longB : length b ≡ l .bitsb
   pub inputA : Bits a
   pub inputB : Bits b
-  pub buffer : length numbers ≤ length coded
-  pub high : length numbers ≤ 16384
-  pub sums : (k : ℕ) → getD numbers k 0 + weight < 256
+  pub buffer : length labels ≤ length coded
+  pub high : length labels ≤ 16384
+  pub sums : (k : ℕ) → getD labels k 0 + weight < 256
 
--- What taking a part's bits out of as many numbers requires.
-pub record TakesPart (t weight : ℕ) (numbers out : List ℕ) : Type 0 where
-  pub mixes : Mixes t (length numbers)
+-- What taking a part's bits out of as many labels requires.
+pub record TakesPart (t weight : ℕ) (labels out : List ℕ) : Type 0 where
+  pub mixes : Mixes t (length labels)
   pub small : t < 64
-  pub high : length numbers ≤ 16384
-  pub same : length out ≡ length numbers
+  pub high : length labels ≤ 16384
+  pub same : length out ≡ length labels
   pub weighs : Weight weight
 
 -- What reading a part requires: all coded bits of the input bits wanted are there.
-pub record ReadsPart (p : Pattern) (register t weight : ℕ) (numbers coded out : List ℕ) : Type 0 where
+pub record ReadsPart (p : Pattern) (register t weight : ℕ) (labels coded out : List ℕ) : Type 0 where
   pub held : Held p
   pub seven : register < 128
-  pub takes : TakesPart t weight numbers coded
-  pub there : codedLength (patternOf p) 0 (length out) ≤ length numbers
+  pub takes : TakesPart t weight labels coded
+  pub there : codedLength (patternOf p) 0 (length out) ≤ length labels
 
 -- What it promises: the part's n input bits, and the register behind them.
-pub record PartRead (p : Pattern) (register t weight : ℕ) (numbers : List ℕ) (n register' : ℕ) (out' : List ℕ) : Type 0 where
+pub record PartRead (p : Pattern) (register t weight : ℕ) (labels : List ℕ) (n register' : ℕ) (out' : List ℕ) : Type 0 where
   pub state : register' ≡ after register out'
-  pub written : out' ≡ decode (patternOf p) register 0 n (unmixed t (taken weight numbers))
+  pub written : out' ≡ decode (patternOf p) register 0 n (unmixed t (taken weight labels))
 
--- What reading a level requires: it fits, and there is room for its bits and its coded bits. The numbers may be any.
-pub record ReadsLevel (l : Level) (weight : ℕ) (numbers coded a b : List ℕ) : Type 0 where
-  pub fits : LevelFits (length numbers) l
+-- What reading a level requires: it fits, and there is room for its bits and its coded bits. The labels may be any.
+pub record ReadsLevel (l : Level) (weight : ℕ) (labels coded a b : List ℕ) : Type 0 where
+  pub fits : LevelFits (length labels) l
   pub longA : length a ≡ l .bitsa
   pub longB : length b ≡ l .bitsb
-  pub high : length numbers ≤ 12236
-  pub buffer : length numbers ≤ length coded
+  pub high : length labels ≤ 12236
+  pub buffer : length labels ≤ length coded
   pub weighs : Weight weight
 
 -- What it promises: the level's input bits of both parts from its stream y.
@@ -211,9 +211,9 @@ pub record LevelRead (l : Level) (y a b : List ℕ) : Type 0 where
   pub partB : b ≡ inputB l y
 
 -- What reading level l requires: its bits have places in those of parts A and B.
-pub record ReadsAt (ls : List Level) (l weight : ℕ) (numbers coded a b : List ℕ) : Type 0 where
-  pub level : LevelThere ls (length numbers) a b l
-  pub buffer : length numbers ≤ length coded
+pub record ReadsAt (ls : List Level) (l weight : ℕ) (labels coded a b : List ℕ) : Type 0 where
+  pub level : LevelThere ls (length labels) a b l
+  pub buffer : length labels ≤ length coded
   pub weighs : Weight weight
 
 -- What it promises: with y as level l's stream, the level's bits at their places in parts A and B, the rest of these as it was.
@@ -221,32 +221,32 @@ pub record ReadAt (ls : List Level) (l : ℕ) (y a b a' b' : List ℕ) : Type 0 
   pub partA : a' ≡ sets a (bitsBefore ls false l) (inputA (levelAt ls l) y)
   pub partB : b' ≡ sets b (bitsBefore ls true l) (inputB (levelAt ls l) y)
 
--- The digit of level l in the numbers: where each level has one axis only, levels 2 i and 2 i + 1 have digit i.
+-- The digit of level l in the labels: where each level has one axis only, levels 2 i and 2 i + 1 have digit i.
 unfoldable pub digitAt : Bool → ℕ → ℕ
 digitAt one l = cond one (l / 2) l
 
--- The numbers of one axis, a number a cell: axis 0 is the real, axis 1 the imaginary one.
-unfoldable pub axisNumbers : ℕ → List ℕ → List ℕ
-axisNumbers a numbers = table (λ k. getD numbers (2 * k + a) 0) 0 (length numbers / 2)
+-- The labels of one axis, a number a cell: axis 0 is the real, axis 1 the imaginary one.
+unfoldable pub axisLabels : ℕ → List ℕ → List ℕ
+axisLabels a labels = table (λ k. getD labels (2 * k + a) 0) 0 (length labels / 2)
 
 -- What taking them requires.
-pub record TakesAxis (a : ℕ) (numbers out : List ℕ) : Type 0 where
+pub record TakesAxis (a : ℕ) (labels out : List ℕ) : Type 0 where
   pub real : a < 2
-  pub same : length numbers ≡ 2 * length out
+  pub same : length labels ≡ 2 * length out
 
--- What reading a block's levels from the numbers requires: every level fits and has a weight of at most 4, and the buffers fit.
-pub record ReadsLevels (k : Block) (numbers a b : List ℕ) : Type 0 where
+-- What reading a block's levels from the labels requires: every level fits and has a weight of at most 4, and the buffers fit.
+pub record ReadsLevels (k : Block) (labels a b : List ℕ) : Type 0 where
   pub few : k .count ≤ 6
   pub room : k .count ≤ length (k .levels)
-  pub fits : (l : ℕ) → l < k .count → LevelFits (cond (oneAxis k) (length numbers / 2) (length numbers)) (levelAt (k .levels) l)
+  pub fits : (l : ℕ) → l < k .count → LevelFits (cond (oneAxis k) (length labels / 2) (length labels)) (levelAt (k .levels) l)
   pub digits : (l : ℕ) → l < k .count → digitAt (oneAxis k) l < 3
-  pub whole : length numbers % 2 ≡ 0
+  pub whole : length labels % 2 ≡ 0
   pub long : (length a ≡ bitsBefore (k .levels) false (k .count)) × (length b ≡ bitsBefore (k .levels) true (k .count))
   pub short : (length a ≤ 65536) × (length b ≤ 65536)
-  pub high : length numbers ≤ 12236
+  pub high : length labels ≤ 12236
 
 -- What reading level l of them requires.
-pub record ReadsStream (k : Block) (l : ℕ) (numbers coded a b : List ℕ) : Type 0 where
-  pub all : ReadsLevels k numbers a b
+pub record ReadsStream (k : Block) (l : ℕ) (labels coded a b : List ℕ) : Type 0 where
+  pub all : ReadsLevels k labels a b
   pub known : l < k .count
-  pub buffer : length numbers ≤ length coded
+  pub buffer : length labels ≤ length coded

@@ -1,4 +1,4 @@
-// The levels of a block coded, interleaved and added up as numbers. 01 "Partition" to "Bit interleaving".
+// The levels of a block coded, interleaved and added up as labels. 01 "Partition" to "Bit interleaving".
 use crate::bits::add_part;
 use crate::places::bits_before;
 use block::Block;
@@ -12,17 +12,17 @@ ghost use lib.Seq.{sets};
 ghost use Rattle.lists.specs.Lists.{table};
 ghost use Rattle.multilevel.specs.Contracts.{added, streamAt, stepped, CodesAt, CodesLevels, codedWithTail, CodesA, CodedA, EncodesB, CodesB, CodesLevel};
 ghost use Rattle.block.specs.Levels.{mixed, stream};
-ghost use Rattle.block.specs.Mapping.{numberAt};
+ghost use Rattle.block.specs.Mapping.{labelAt};
 
-// Part A coded and added to the first of the numbers.
-fn code_a(l: Level, weight: u8, a: &[u8], coded: &mut [u8], numbers: &mut [u8]) -> Coder
-    requires { ⌜ CodesA l weight (now a) (now coded) (now numbers) ⌝ }
-    ensures { λ r. ⌜ CodedA l weight (now (a .entry)) (now (numbers .entry)) (r .register) (r .at) (now (numbers .exit)) ⌝ }
+// Part A coded and added to the first of the labels.
+fn code_a(l: Level, weight: u8, a: &[u8], coded: &mut [u8], labels: &mut [u8]) -> Coder
+    requires { ⌜ CodesA l weight (now a) (now coded) (now labels) ⌝ }
+    ensures { λ r. ⌜ CodedA l weight (now (a .entry)) (now (labels .entry)) (r .register) (r .at) (now (labels .exit)) ⌝ }
 {
     let pattern = l.patterna;
     let coder = encode(pattern, 0, a, coded, 0);
     let n = coder.at;
-    add_part(l.t, weight, &coded[0..n], &mut numbers[0..n]);
+    add_part(l.t, weight, &coded[0..n], &mut labels[0..n]);
     coder
 }
 
@@ -38,30 +38,30 @@ fn encode_b(l: Level, register: u32, b: &[u8], out: &mut [u8])
     encode(tail, coder.register, &zeros, out, coder.at);
 }
 
-// Part B with its tail coded and added to the numbers.
-fn code_b(l: Level, register: u32, weight: u8, b: &[u8], coded: &mut [u8], numbers: &mut [u8])
-    requires { ⌜ CodesB l register weight (now b) (now coded) (now numbers) ⌝ }
-    ensures { λ r. ⌜ now (numbers .exit) ≡ added weight (mixed (l .t) (codedWithTail l register (now (b .entry)))) (now (numbers .entry)) ⌝ }
+// Part B with its tail coded and added to the labels.
+fn code_b(l: Level, register: u32, weight: u8, b: &[u8], coded: &mut [u8], labels: &mut [u8])
+    requires { ⌜ CodesB l register weight (now b) (now coded) (now labels) ⌝ }
+    ensures { λ r. ⌜ now (labels .exit) ≡ added weight (mixed (l .t) (codedWithTail l register (now (b .entry)))) (now (labels .entry)) ⌝ }
 {
     encode_b(l, register, b, coded);
-    let n = numbers.len();
-    add_part(l.t, weight, &coded[0..n], numbers);
+    let n = labels.len();
+    add_part(l.t, weight, &coded[0..n], labels);
 }
 
-// A level's bits coded, parts A and B interleaved separately, and added to the numbers with the level's weight. The register runs on from A into B.
-fn code_level(l: Level, weight: u8, a: &[u8], b: &[u8], coded: &mut [u8], numbers: &mut [u8])
-    requires { ⌜ CodesLevel l weight (now a) (now b) (now coded) (now numbers) ⌝ }
-    ensures { λ r. ⌜ now (numbers .exit) ≡ added weight (stream l (now (a .entry)) (now (b .entry))) (now (numbers .entry)) ⌝ }
+// A level's bits coded, parts A and B interleaved separately, and added to the labels with the level's weight. The register runs on from A into B.
+fn code_level(l: Level, weight: u8, a: &[u8], b: &[u8], coded: &mut [u8], labels: &mut [u8])
+    requires { ⌜ CodesLevel l weight (now a) (now b) (now coded) (now labels) ⌝ }
+    ensures { λ r. ⌜ now (labels .exit) ≡ added weight (stream l (now (a .entry)) (now (b .entry))) (now (labels .entry)) ⌝ }
 {
-    let coder = code_a(l, weight, a, coded, numbers);
+    let coder = code_a(l, weight, a, coded, labels);
     let n = coder.at;
-    code_b(l, coder.register, weight, b, coded, &mut numbers[n..]);
+    code_b(l, coder.register, weight, b, coded, &mut labels[n..]);
 }
 
-// Level l of a block coded and added to the numbers with its weight.
-fn code_at(k: Block, l: usize, weight: u8, a: &[u8], b: &[u8], coded: &mut [u8], numbers: &mut [u8])
-    requires { ⌜ CodesAt (k .levels) l weight (now a) (now b) (now coded) (now numbers) ⌝ }
-    ensures { λ r. ⌜ now (numbers .exit) ≡ added weight (streamAt (k .levels) (now (a .entry)) (now (b .entry)) l) (now (numbers .entry)) ⌝ }
+// Level l of a block coded and added to the labels with its weight.
+fn code_at(k: Block, l: usize, weight: u8, a: &[u8], b: &[u8], coded: &mut [u8], labels: &mut [u8])
+    requires { ⌜ CodesAt (k .levels) l weight (now a) (now b) (now coded) (now labels) ⌝ }
+    ensures { λ r. ⌜ now (labels .exit) ≡ added weight (streamAt (k .levels) (now (a .entry)) (now (b .entry)) l) (now (labels .entry)) ⌝ }
 {
     let levels = k.levels;
     let level = levels[l];
@@ -69,20 +69,20 @@ fn code_at(k: Block, l: usize, weight: u8, a: &[u8], b: &[u8], coded: &mut [u8],
     let end = at + level.bitsa;
     let from = bits_before(k, true, l);
     let to = from + level.bitsb;
-    code_level(level, weight, &a[at..end], &b[from..to], coded, numbers);
+    code_level(level, weight, &a[at..end], &b[from..to], coded, labels);
 }
 
-fn clear(numbers: &mut [u8])
-    ensures { λ r. ⌜ now (numbers .exit) ≡ table (λ j. 0) 0 (length (now (numbers .entry))) ⌝ }
+fn clear(labels: &mut [u8])
+    ensures { λ r. ⌜ now (labels .exit) ≡ table (λ j. 0) 0 (length (now (labels .entry))) ⌝ }
 {
     let mut i = 0;
-    while i < numbers.len() {
-        numbers[i] = 0;
+    while i < labels.len() {
+        labels[i] = 0;
         i += 1;
     }
 }
 
-// The numbers i0 + 2 × i1 + 4 × i2 of the streams of `many` levels, from level `first` on, every step-th.
+// The labels i0 + 2 × i1 + 4 × i2 of the streams of `many` levels, from level `first` on, every step-th.
 pub fn code_levels(
     k: Block,
     first: usize,
@@ -90,19 +90,19 @@ pub fn code_levels(
     many: usize,
     a: &[u8],
     b: &[u8],
-    numbers: &mut [u8],
+    labels: &mut [u8],
 )
-    requires { ⌜ CodesLevels (k .levels) first step many (now a) (now b) (now numbers) ⌝ }
-    ensures { λ r. ⌜ now (numbers .exit) ≡ table (numberAt (stepped (streamAt (k .levels) (now (a .entry))
-        (now (b .entry))) first step many)) 0 (length (now (numbers .entry))) ⌝ }
+    requires { ⌜ CodesLevels (k .levels) first step many (now a) (now b) (now labels) ⌝ }
+    ensures { λ r. ⌜ now (labels .exit) ≡ table (labelAt (stepped (streamAt (k .levels) (now (a .entry))
+        (now (b .entry))) first step many)) 0 (length (now (labels .entry))) ⌝ }
 {
-    clear(numbers);
+    clear(labels);
     let mut coded = cell_buffer();
     let mut l = first;
     let mut weight: u8 = 1;
     let mut left = many;
     while 0 < left {
-        code_at(k, l, weight, a, b, &mut coded, numbers);
+        code_at(k, l, weight, a, b, &mut coded, labels);
         l += step;
         weight = 2 * weight;
         left -= 1;

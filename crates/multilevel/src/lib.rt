@@ -1,4 +1,4 @@
-// Levels of a block: coded into numbers and read from them.
+// Levels of a block: coded into labels and read from them.
 pub mod bits;
 pub mod code;
 pub mod places;

@@ -1,4 +1,4 @@
-// The levels of a block read from numbers: their bits taken out, put back to their places and decoded. 01 "Operations".
+// The levels of a block read from labels: their bits taken out, put back to their places and decoded. 01 "Operations".
 use crate::bits::take_part;
 use crate::places::bits_before;
 use block::Block;
@@ -15,30 +15,30 @@ ghost use lib.ListN.{length};
 ghost use Rattle.lists.specs.Lists.{table};
 ghost use Rattle.block.specs.Reading.{taken, streamIn, inputsA, inputsB};
 ghost use Rattle.block.specs.Block.{levelsOf, oneAxis};
-ghost use Rattle.multilevel.specs.Contracts.{ReadsPart, PartRead, ReadsLevel, LevelRead, ReadsAt, ReadAt, axisNumbers, TakesAxis, ReadsStream, ReadsLevels};
+ghost use Rattle.multilevel.specs.Contracts.{ReadsPart, PartRead, ReadsLevel, LevelRead, ReadsAt, ReadAt, axisLabels, TakesAxis, ReadsStream, ReadsLevels};
 
-// The input bits of a part, as many as out is long, from the numbers; the register behind them.
+// The input bits of a part, as many as out is long, from the labels; the register behind them.
 fn read_part(
     pattern: Pattern,
     register: u32,
     t: usize,
     weight: u8,
-    numbers: &[u8],
+    labels: &[u8],
     coded: &mut [u8],
     out: &mut [u8],
 ) -> u32
-    requires { ⌜ ReadsPart pattern register t weight (now numbers) (now coded) (now out) ⌝ }
-    ensures { λ r. ⌜ PartRead pattern register t weight (now (numbers .entry)) (length (now (out .entry))) r (now (out .exit)) ⌝ }
+    requires { ⌜ ReadsPart pattern register t weight (now labels) (now coded) (now out) ⌝ }
+    ensures { λ r. ⌜ PartRead pattern register t weight (now (labels .entry)) (length (now (out .entry))) r (now (out .exit)) ⌝ }
 {
-    take_part(t, weight, numbers, coded);
+    take_part(t, weight, labels, coded);
     let coder = decode(pattern, register, coded, 0, out);
     coder.register
 }
 
-// A level's input bits from the numbers: those of part A from register 0, those of part B from the register behind.
-fn read_level(l: Level, weight: u8, numbers: &[u8], coded: &mut [u8], a: &mut [u8], b: &mut [u8])
-    requires { ⌜ ReadsLevel l weight (now numbers) (now coded) (now a) (now b) ⌝ }
-    ensures { λ r. ⌜ LevelRead l (taken weight (now (numbers .entry))) (now (a .exit)) (now (b .exit)) ⌝ }
+// A level's input bits from the labels: those of part A from register 0, those of part B from the register behind.
+fn read_level(l: Level, weight: u8, labels: &[u8], coded: &mut [u8], a: &mut [u8], b: &mut [u8])
+    requires { ⌜ ReadsLevel l weight (now labels) (now coded) (now a) (now b) ⌝ }
+    ensures { λ r. ⌜ LevelRead l (taken weight (now (labels .entry))) (now (a .exit)) (now (b .exit)) ⌝ }
 {
     let patterna = l.patterna;
     let patternb = l.patternb;
@@ -48,34 +48,34 @@ fn read_level(l: Level, weight: u8, numbers: &[u8], coded: &mut [u8], a: &mut [u
         0,
         l.t,
         weight,
-        &numbers[0..front],
+        &labels[0..front],
         &mut coded[0..front],
         a,
     );
-    let n = numbers.len() - front;
+    let n = labels.len() - front;
     read_part(
         patternb,
         register,
         l.t,
         weight,
-        &numbers[front..],
+        &labels[front..],
         &mut coded[0..n],
         b,
     );
 }
 
-// Level l's bits, those with that weight in the numbers, read into their places in parts A and B.
+// Level l's bits, those with that weight in the labels, read into their places in parts A and B.
 fn read_at(
     k: Block,
     l: usize,
     weight: u8,
-    numbers: &[u8],
+    labels: &[u8],
     coded: &mut [u8],
     a: &mut [u8],
     b: &mut [u8],
 )
-    requires { ⌜ ReadsAt (k .levels) l weight (now numbers) (now coded) (now a) (now b) ⌝ }
-    ensures { λ r. ⌜ ReadAt (k .levels) l (taken weight (now (numbers .entry))) (now (a .entry)) (now (b .entry)) (now (a .exit)) (now (b .exit)) ⌝ }
+    requires { ⌜ ReadsAt (k .levels) l weight (now labels) (now coded) (now a) (now b) ⌝ }
+    ensures { λ r. ⌜ ReadAt (k .levels) l (taken weight (now (labels .entry))) (now (a .entry)) (now (b .entry)) (now (a .exit)) (now (b .exit)) ⌝ }
 {
     let levels = k.levels;
     let level = levels[l];
@@ -86,7 +86,7 @@ fn read_at(
     read_level(
         level,
         weight,
-        numbers,
+        labels,
         coded,
         &mut a[at..end],
         &mut b[from..to],
@@ -105,44 +105,44 @@ fn power(digit: usize) -> u8
     }
 }
 
-// The numbers of one axis.
-fn take_axis(a: usize, numbers: &[u8], out: &mut [u8])
-    requires { ⌜ TakesAxis a (now numbers) (now out) ⌝ }
-    ensures { λ r. ⌜ now (out .exit) ≡ axisNumbers a (now (numbers .entry)) ⌝ }
+// The labels of one axis.
+fn take_axis(a: usize, labels: &[u8], out: &mut [u8])
+    requires { ⌜ TakesAxis a (now labels) (now out) ⌝ }
+    ensures { λ r. ⌜ now (out .exit) ≡ axisLabels a (now (labels .entry)) ⌝ }
 {
     let mut k = 0;
     while k < out.len() {
-        out[k] = numbers[2 * k + a];
+        out[k] = labels[2 * k + a];
         k += 1;
     }
 }
 
-// Level l read from the numbers, or from those of its axis where each level has one axis only.
-fn read_stream(k: Block, l: usize, numbers: &[u8], coded: &mut [u8], a: &mut [u8], b: &mut [u8])
-    requires { ⌜ ReadsStream k l (now numbers) (now coded) (now a) (now b) ⌝ }
-    ensures { λ r. ⌜ ReadAt (k .levels) l (streamIn (oneAxis k) (now (numbers .entry)) l) (now (a .entry)) (now (b .entry)) (now (a .exit)) (now (b .exit)) ⌝ }
+// Level l read from the labels, or from those of its axis where each level has one axis only.
+fn read_stream(k: Block, l: usize, labels: &[u8], coded: &mut [u8], a: &mut [u8], b: &mut [u8])
+    requires { ⌜ ReadsStream k l (now labels) (now coded) (now a) (now b) ⌝ }
+    ensures { λ r. ⌜ ReadAt (k .levels) l (streamIn (oneAxis k) (now (labels .entry)) l) (now (a .entry)) (now (b .entry)) (now (a .exit)) (now (b .exit)) ⌝ }
 {
     if k.constellation == HMMIX {
         let mut axis = axis_buffer();
-        let n = numbers.len() / 2;
-        take_axis(l % 2, numbers, &mut axis[0..n]);
+        let n = labels.len() / 2;
+        take_axis(l % 2, labels, &mut axis[0..n]);
         read_at(k, l, power(l / 2), &axis[0..n], coded, a, b);
         return;
     }
-    read_at(k, l, power(l), numbers, coded, a, b);
+    read_at(k, l, power(l), labels, coded, a, b);
 }
 
-// All levels of a block, from the numbers of its coordinates.
-pub fn read_levels(k: Block, numbers: &[u8], a: &mut [u8], b: &mut [u8])
-    requires { ⌜ ReadsLevels k (now numbers) (now a) (now b) ⌝ }
-    ensures { λ r. ⌜ now (a .exit) ≡ inputsA (levelsOf k) (table (streamIn (oneAxis k) (now (numbers .entry))) 0 (k .count)) ⌝ }
-    ensures { λ r. ⌜ now (b .exit) ≡ inputsB (levelsOf k) (table (streamIn (oneAxis k) (now (numbers .entry))) 0 (k .count)) ⌝ }
+// All levels of a block, from the labels of its coordinates.
+pub fn read_levels(k: Block, labels: &[u8], a: &mut [u8], b: &mut [u8])
+    requires { ⌜ ReadsLevels k (now labels) (now a) (now b) ⌝ }
+    ensures { λ r. ⌜ now (a .exit) ≡ inputsA (levelsOf k) (table (streamIn (oneAxis k) (now (labels .entry))) 0 (k .count)) ⌝ }
+    ensures { λ r. ⌜ now (b .exit) ≡ inputsB (levelsOf k) (table (streamIn (oneAxis k) (now (labels .entry))) 0 (k .count)) ⌝ }
 {
     let mut coded = cell_buffer();
     let count = k.count;
     let mut l = 0;
     while l < count {
-        read_stream(k, l, numbers, &mut coded, a, b);
+        read_stream(k, l, labels, &mut coded, a, b);
         l += 1;
     }
 }

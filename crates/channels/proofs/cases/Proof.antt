@@ -12,13 +12,13 @@ use Rattle.settings.specs.Formulas.{hierarchical, width, bitsA, bitsB, partA, p
 use Rattle.settings.specs.Refusal.{paired, topLevel, first, rangeRefusal, refusal}
 use Rattle.settings.specs.Lengths.{nMux, n1, n2, l2, lVspp}
 use Rattle.block.specs.Dispersal.{p, sequence}
-use Rattle.block.specs.Mapping.{standard64, symmetric64, coordinate, numberAt}
+use Rattle.block.specs.Mapping.{standard64, symmetric64, coordinate, labelAt}
 use Rattle.channels.specs.Cases.{Cases, settingsOf, coordinateOf}
 use Rattle.channels.proofs.cases.Statement.{statement}
 use Rattle.channels.proofs.cases.Tie as tie
 
 cases : Cases
-unfolding table total ones onesIn next parity parities pattern table65 columns numerators denominators RX RY encode kept following place nextPlace again step offset size doubled rates table67 table68 table69 table71 commonDenominator vsppRate sdcRates entry muxTable hierarchical width bitsA bitsB partA partB partVspp roundUp cellsA sdcBits paired topLevel first rangeRefusal refusal nMux n1 n2 l2 lVspp p sequence standard64 symmetric64 coordinate numberAt settingsOf coordinateOf
+unfolding table total ones onesIn next parity parities pattern table65 columns numerators denominators RX RY encode kept following place nextPlace again step offset size doubled rates table67 table68 table69 table71 commonDenominator vsppRate sdcRates entry muxTable hierarchical width bitsA bitsB partA partB partVspp roundUp cellsA sdcBits paired topLevel first rangeRefusal refusal nMux n1 n2 l2 lVspp p sequence standard64 symmetric64 coordinate labelAt settingsOf coordinateOf
 cases =
     record {
       dispersal = refl;

@@ -6,8 +6,8 @@ use Rattle.blockcoder.proofs.Coding.{out-low, codes-both, maps-both, ma
 use Rattle.blockcoder.proofs.code.code_both.Statement.{statement}
 use Rattle.blockcoder.proofs.code.code_both.Tie as tie
 
-part-numbers-end : tie.Need-part-numbers-end
-part-numbers-end c = omega (arith, out-low (c .before .before .before .pre .0) (c .before .before .before .pre .1), c .cell-buffer .ensures .long)
+part-labels-end : tie.Need-part-labels-end
+part-labels-end c = omega (arith, out-low (c .before .before .before .pre .0) (c .before .before .before .pre .1), c .cell-buffer .ensures .long)
 
 code-levels-requires : tie.Need-code-levels-requires
 code-levels-requires c κs =
@@ -31,5 +31,5 @@ returns c =
 
 pub code-both-spec : {M : Type 1} → statement M
 code-both-spec =
-    tie.close (tie.spec (λ c κs. search needs) (λ c. search needs) (λ c. search needs) part-numbers-end code-levels-requires (λ c. search needs)
+    tie.close (tie.spec (λ c κs. search needs) (λ c. search needs) (λ c. search needs) part-labels-end code-levels-requires (λ c. search needs)
     (λ c. search needs) part-map-parts-end map-parts-requires (λ c. search needs) returns)

@@ -9,18 +9,18 @@ use Rattle.mapping.proofs.points.map_cells.Statement.{statement}
 use Rattle.mapping.proofs.points.map_cells.Tie as tie
 
 abbrev Inv-loop : tie.InvT-loop
-Inv-loop c numbers out₀ real imaginary cells k₀ out k = Placing c numbers out₀ out k
+Inv-loop c labels out₀ real imaginary cells k₀ out k = Placing c labels out₀ out k
 
 abbrev μ-loop : tie.MeasureT-loop
-μ-loop c numbers out₀ real imaginary cells k₀ out k = cells - k
+μ-loop c labels out₀ real imaginary cells k₀ out k = cells - k
 
 -- the number of the real axis is below 8, and so is that of the imaginary one
 re-low : (c : tie.After-shared-slice-known2 Inv-loop μ-loop)
-    → getD (c .before .before .before .before .before .before .args .numbers .now) (2 * c .before .before .loop .k) 0 < 8
+    → getD (c .before .before .before .before .before .before .args .labels .now) (2 * c .before .before .loop .k) 0 < 8
 re-low c = c .before .before .before .before .before .before .pre .low .low (2 * c .before .before .loop .k)
 
 im-low : (c : tie.After-shared-slice-known3 Inv-loop μ-loop)
-    → getD (c .before .before .before .before .before .before .before .before .args .numbers .now) (2 * c .before .before .before .before .loop .k + 1) 0 < 8
+    → getD (c .before .before .before .before .before .before .before .before .args .labels .now) (2 * c .before .before .before .before .loop .k + 1) 0 < 8
 im-low c = c .before .before .before .before .before .before .before .before .pre .low .low (2 * c .before .before .before .before .loop .k + 1)
 
 loop-again : tie.Need-loop-again Inv-loop μ-loop

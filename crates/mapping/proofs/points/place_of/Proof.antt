@@ -6,7 +6,7 @@ use lib.Bits.{bitAnd}
 use mir.Syntax.{w16}
 use mir.Val.{ofZ}
 use mir.Facts.{toZ-ofZ}
-use Rattle.mapping.proofs.Numbers.{standard-low}
+use Rattle.mapping.proofs.Labels.{standard-low}
 use Rattle.mapping.proofs.Signed.{place-here, place-none}
 use Rattle.mapping.proofs.points.place_of.Statement.{statement}
 use Rattle.mapping.proofs.points.place_of.Tie as tie

@@ -3,7 +3,7 @@ use Prim.Native.Nat.{_-_}
 use native.Mathlib.Omega.{arith}
 use borrow.Author.Needs.{needs}
 use lib.ListN.{length-set}
-use Rattle.mapping.proofs.Numbers.{number-read, Unplacing, start, turn, done}
+use Rattle.mapping.proofs.Labels.{number-read, Unplacing, start, turn, done}
 use Rattle.mapping.proofs.points.unmap_cells.Statement.{statement}
 use Rattle.mapping.proofs.points.unmap_cells.Tie as tie
 
@@ -22,8 +22,8 @@ loop-again c =
     (search needs)
     _
     _
-    (number-read (s .args .c) 0 (omega arith) _ _ _ (c .before .before .before .before .number-of-arg .given) (l .before .before .axis-numbers .ensures) (c .before .before .before .number-of .ensures))
-    (number-read (s .args .c) 1 (omega arith) _ _ _ (c .before .number-of-arg2 .given) (l .before .axis-numbers2 .ensures) (c .number-of2 .ensures))
+    (number-read (s .args .c) 0 (omega arith) _ _ _ (c .before .before .before .before .label-of-arg .given) (l .before .before .axis-labels .ensures) (c .before .before .before .label-of .ensures))
+    (number-read (s .args .c) 1 (omega arith) _ _ _ (c .before .label-of-arg2 .given) (l .before .axis-labels2 .ensures) (c .label-of2 .ensures))
 
 pub unmap-cells-spec : {M : Type 1} → statement M
 unmap-cells-spec =

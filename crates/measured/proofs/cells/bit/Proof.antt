@@ -11,7 +11,7 @@ returns : tie.Need-returns
 returns c =
     let s = c .before .before .before .before .before in
     rw (c .digit .ensures)
-    (bit-digit _ _ _ (s .args .m) (s .args .l) _ _ (c .before .before .before .cell .given .1) (s .pre .is) (rw (toZ-ofZ {w = w16} (s .fits .v)) at (c .before .axis-number .ensures)))
+    (bit-digit _ _ _ (s .args .m) (s .args .l) _ _ (c .before .before .before .cell .given .1) (s .pre .is) (rw (toZ-ofZ {w = w16} (s .fits .v)) at (c .before .axis-label .ensures)))
 
 returns-2 : tie.Need-returns-2
 unfolding bitOn

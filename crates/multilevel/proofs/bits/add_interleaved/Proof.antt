@@ -1,4 +1,4 @@
--- `interleaver::add_interleaved` meets its contract. The loop's invariant: the place is P(i), and the first i numbers have their bits added.
+-- `interleaver::add_interleaved` meets its contract. The loop's invariant: the place is P(i), and the first i labels have their bits added.
 -- Assumes nothing.
 use Prim.Native.Nat.{ℕ, _+_, _-_, _*_, _≤_}
 use native.Mathlib.Omega.{arith}
@@ -13,13 +13,13 @@ use Rattle.multilevel.proofs.bits.add_interleaved.Statement.{statement}
 use Rattle.multilevel.proofs.bits.add_interleaved.Tie as tie
 
 abbrev Inv-loop : tie.InvT-loop
-Inv-loop t weight bits numbers₀ n s q p₀ i₀ numbers p i =
+Inv-loop t weight bits labels₀ n s q p₀ i₀ labels p i =
     (i ≤ n)
     × Along t n s q p i
-    × Filled 0 (λ (k : ℕ). getD numbers₀ k 0 + weight * getD (interleaved 0 t bits) k 0) numbers₀ numbers i
+    × Filled 0 (λ (k : ℕ). getD labels₀ k 0 + weight * getD (interleaved 0 t bits) k 0) labels₀ labels i
 
 abbrev μ-loop : tie.MeasureT-loop
-μ-loop t weight bits numbers₀ n s q p₀ i₀ numbers p i = n - i
+μ-loop t weight bits labels₀ n s q p₀ i₀ labels p i = n - i
 
 loop-holds : tie.Need-loop-holds Inv-loop μ-loop
 loop-holds c =

@@ -1,4 +1,4 @@
--- `code::add_plain` meets its contract. The loop's invariant: the first i numbers have their bits added. Assumes nothing.
+-- `code::add_plain` meets its contract. The loop's invariant: the first i labels have their bits added. Assumes nothing.
 use Prim.Native.Nat.{ℕ, _+_, _-_, _*_, _≤_}
 use native.Mathlib.Omega.{arith}
 use borrow.Author.Needs.{needs}
@@ -10,11 +10,11 @@ use Rattle.multilevel.proofs.bits.add_plain.Statement.{statement}
 use Rattle.multilevel.proofs.bits.add_plain.Tie as tie
 
 abbrev Inv-loop : tie.InvT-loop
-Inv-loop weight bits numbers₀ i₀ numbers i =
-    (i ≤ length bits) × Filled 0 (λ (k : ℕ). getD numbers₀ k 0 + weight * getD bits k 0) numbers₀ numbers i
+Inv-loop weight bits labels₀ i₀ labels i =
+    (i ≤ length bits) × Filled 0 (λ (k : ℕ). getD labels₀ k 0 + weight * getD bits k 0) labels₀ labels i
 
 abbrev μ-loop : tie.MeasureT-loop
-μ-loop weight bits numbers₀ i₀ numbers i = length bits - i
+μ-loop weight bits labels₀ i₀ labels i = length bits - i
 
 loop-again : tie.Need-loop-again Inv-loop μ-loop
 loop-again c =

@@ -1,4 +1,4 @@
--- `interleaver::take_interleaved` meets its contract. The loop's invariant: the place is P(i), and the bits of the first i numbers stand at their places.
+-- `interleaver::take_interleaved` meets its contract. The loop's invariant: the place is P(i), and the bits of the first i labels stand at their places.
 -- Assumes nothing.
 use mathlib.Core.Path.{sym, _∙_}
 use Prim.Native.Nat.{_-_, _≤_}
@@ -13,11 +13,11 @@ use Rattle.multilevel.proofs.bits.take_interleaved.Statement.{statement
 use Rattle.multilevel.proofs.bits.take_interleaved.Tie as tie
 
 abbrev Inv-loop : tie.InvT-loop
-Inv-loop t weight numbers out₀ n s q p₀ i₀ out p i =
-    (i ≤ n) × Along t n s q p i × Returned 0 t (length numbers) (taken weight numbers) out i
+Inv-loop t weight labels out₀ n s q p₀ i₀ out p i =
+    (i ≤ n) × Along t n s q p i × Returned 0 t (length labels) (taken weight labels) out i
 
 abbrev μ-loop : tie.MeasureT-loop
-μ-loop t weight numbers out₀ n s q p₀ i₀ out p i = n - i
+μ-loop t weight labels out₀ n s q p₀ i₀ out p i = n - i
 
 loop-holds : tie.Need-loop-holds Inv-loop μ-loop
 loop-holds c =

@@ -1,4 +1,4 @@
--- `read::take_plain` meets its contract. The loop's invariant: the bits of the first i numbers are taken. Assumes nothing.
+-- `read::take_plain` meets its contract. The loop's invariant: the bits of the first i labels are taken. Assumes nothing.
 use Prim.Native.Nat.{ℕ, _-_, _/_, _%_, _≤_}
 use native.Mathlib.Omega.{arith}
 use borrow.Author.Needs.{needs}
@@ -9,11 +9,11 @@ use Rattle.multilevel.proofs.bits.take_plain.Statement.{statement}
 use Rattle.multilevel.proofs.bits.take_plain.Tie as tie
 
 abbrev Inv-loop : tie.InvT-loop
-Inv-loop weight numbers out₀ i₀ out i =
-    (i ≤ length numbers) × Filled 0 (λ (k : ℕ). getD numbers k 0 / weight % 2) out₀ out i
+Inv-loop weight labels out₀ i₀ out i =
+    (i ≤ length labels) × Filled 0 (λ (k : ℕ). getD labels k 0 / weight % 2) out₀ out i
 
 abbrev μ-loop : tie.MeasureT-loop
-μ-loop weight numbers out₀ i₀ out i = length numbers - i
+μ-loop weight labels out₀ i₀ out i = length labels - i
 
 loop-again : tie.Need-loop-again Inv-loop μ-loop
 loop-again c =

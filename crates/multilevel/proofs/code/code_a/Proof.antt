@@ -1,6 +1,6 @@
 -- `code::code_a` meets its contract. Assumes nothing.
 use borrow.Author.Needs.{needs}
-use Rattle.multilevel.proofs.OneLevel.{a-encodes, within-coded, within-numbers, adds-a, coded-a}
+use Rattle.multilevel.proofs.OneLevel.{a-encodes, within-coded, within-labels, adds-a, coded-a}
 use Rattle.multilevel.proofs.code.code_a.Statement.{statement}
 use Rattle.multilevel.proofs.code.code_a.Tie as tie
 
@@ -8,7 +8,7 @@ part-add-part-end : tie.Need-part-add-part-end
 part-add-part-end c = within-coded (c .before .before .before .before .before .before .before .before .before .pre) (c .before .before .before .encode .ensures)
 
 part-add-part-end-2 : tie.Need-part-add-part-end-2
-part-add-part-end-2 c = within-numbers (c .before .before .before .before .before .before .before .before .before .before .pre) (c .before .before .before .before .encode .ensures)
+part-add-part-end-2 c = within-labels (c .before .before .before .before .before .before .before .before .before .before .pre) (c .before .before .before .before .encode .ensures)
 
 add-part-requires : tie.Need-add-part-requires
 add-part-requires c κs = adds-a (c .before .before .before .before .before .before .before .before .before .before .before .pre) (c .before .before .before .before .before .encode .ensures)

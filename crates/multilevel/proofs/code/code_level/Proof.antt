@@ -1,4 +1,4 @@
--- `code::code_level` meets its contract: part A is added to the first numbers, part B to those behind them. Assumes nothing.
+-- `code::code_level` meets its contract: part A is added to the first labels, part B to those behind them. Assumes nothing.
 use native.Mathlib.Omega.{arith}
 use borrow.Author.Needs.{needs}
 use Rattle.multilevel.proofs.OneLevel.{codes-a, behind-a, codes-b, coded-level}

@@ -8,11 +8,11 @@ use Rattle.multilevel.proofs.code.code_levels.Statement.{statement}
 use Rattle.multilevel.proofs.code.code_levels.Tie as tie
 
 abbrev Inv-loop : tie.InvT-loop
-Inv-loop k first step many a b numbers₀ coded₀ l₀ weight₀ left₀ numbers coded l weight left =
-    Summing (k .levels) a b (length numbers₀) first step many numbers l weight left × (length coded ≡ 12236)
+Inv-loop k first step many a b labels₀ coded₀ l₀ weight₀ left₀ labels coded l weight left =
+    Summing (k .levels) a b (length labels₀) first step many labels l weight left × (length coded ≡ 12236)
 
 abbrev μ-loop : tie.MeasureT-loop
-μ-loop k first step many a b numbers₀ coded₀ l₀ weight₀ left₀ numbers coded l weight left = left
+μ-loop k first step many a b labels₀ coded₀ l₀ weight₀ left₀ labels coded l weight left = left
 
 loop-holds : tie.Need-loop-holds Inv-loop μ-loop
 loop-holds c = (start (c .before .before .before .before .before .before .before .before .pre) (c .before .before .before .clear .ensures) (c .before .before .before .clear .kept .0), c .cell-buffer .ensures .long)

@@ -1,6 +1,6 @@
--- `read::read_level` meets its contract: part A from the first numbers, part B from those behind them. Assumes nothing.
+-- `read::read_level` meets its contract: part A from the first labels, part B from those behind them. Assumes nothing.
 use borrow.Author.Needs.{needs}
-use Rattle.multilevel.proofs.OneRead.{counts, first-numbers, first-coded, reads-a, reads-b, level-read}
+use Rattle.multilevel.proofs.OneRead.{counts, first-labels, first-coded, reads-a, reads-b, level-read}
 use Rattle.multilevel.proofs.read.read_level.Statement.{statement}
 use Rattle.multilevel.proofs.read.read_level.Tie as tie
 
@@ -15,11 +15,11 @@ returns c = level-read (c .before .before .before .before .before .before .befor
 pub read-level-spec : {M : Type 1} → statement M
 read-level-spec =
     tie.close (tie.spec (λ c κs. counts (c .before .before .before .before .before .before .pre)) (λ c. search needs) (λ c. search needs)
-    (λ c. first-numbers (c .before .before .before .before .before .before .before .pre) (c .coded-length .ensures)) (λ c. search needs)
+    (λ c. first-labels (c .before .before .before .before .before .before .before .pre) (c .coded-length .ensures)) (λ c. search needs)
     (λ c. search needs) (λ c. first-coded (c .before .before .before .before .before .before .before .before .pre) (c .before .coded-length .ensures))
     (λ c κs. reads-a (c .before .before .before .before .before .before .before .before .before .before .pre) (c .before .before .before .coded-length .ensures))
-    (λ c. first-numbers (c .before .before .before .before .before .before .before .before .before .before .before .before .before .before .before .pre) (c .before .before .before .before .before .before .before .before .coded-length .ensures))
-    (λ c. first-numbers (c .before .before .before .before .before .before .before .before .before .before .before .before .before .before .before .pre) (c .before .before .before .before .before .before .before .before .coded-length .ensures))
-    (λ c. first-numbers (c .before .before .before .before .before .before .before .before .before .before .before .before .before .before .before .pre) (c .before .before .before .before .before .before .before .before .coded-length .ensures))
+    (λ c. first-labels (c .before .before .before .before .before .before .before .before .before .before .before .before .before .before .before .pre) (c .before .before .before .before .before .before .before .before .coded-length .ensures))
+    (λ c. first-labels (c .before .before .before .before .before .before .before .before .before .before .before .before .before .before .before .pre) (c .before .before .before .before .before .before .before .before .coded-length .ensures))
+    (λ c. first-labels (c .before .before .before .before .before .before .before .before .before .before .before .before .before .before .before .pre) (c .before .before .before .before .before .before .before .before .coded-length .ensures))
     (λ c. search needs) (λ c. search needs) (λ c. search needs) (λ c. search needs) read-part-requires-2 (λ c. search needs) (λ c. search needs)
     (λ c. search needs) returns)

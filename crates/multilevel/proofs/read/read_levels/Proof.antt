@@ -10,11 +10,11 @@ use Rattle.multilevel.proofs.read.read_levels.Statement.{statement}
 use Rattle.multilevel.proofs.read.read_levels.Tie as tie
 
 abbrev Inv-loop : tie.InvT-loop
-Inv-loop k numbers a₀ b₀ coded₀ count l₀ a b coded l =
-    Reading k (streamIn (oneAxis k) numbers) a₀ b₀ a b l × (length coded ≡ 12236)
+Inv-loop k labels a₀ b₀ coded₀ count l₀ a b coded l =
+    Reading k (streamIn (oneAxis k) labels) a₀ b₀ a b l × (length coded ≡ 12236)
 
 abbrev μ-loop : tie.MeasureT-loop
-μ-loop k numbers a₀ b₀ coded₀ count l₀ a b coded l = k .count - l
+μ-loop k labels a₀ b₀ coded₀ count l₀ a b coded l = k .count - l
 
 read-stream-requires : tie.Need-read-stream-requires Inv-loop μ-loop
 read-stream-requires c κs = reads-stream (c .before .before .before .before .before .before .before .before .before .pre) (c .before .before .before .before .loop .inv .0) (c .before .before .before .loop-test .taken) (c .before .before .before .before .loop .inv .1)

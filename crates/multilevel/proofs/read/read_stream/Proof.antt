@@ -16,19 +16,19 @@ unfolding oneAxis
 power-requires c κs = digit-axis (c .before .before .before .before .before .before .before .before .before .before .pre) (eq-eqb _ _ (c .before .before .before .before .if1 .taken))
 
 part-read-at-end : tie.Need-part-read-at-end
-part-read-at-end c = part-room (c .before .before .before .before .before .axis-buffer .result) (c .before .before .before .take-axis .last .1 .1 .0) (length (c .before .before .before .before .before .before .before .before .before .before .before .before .args .numbers .now) / 2) (omega (arith, c .before .before .before .before .before .before .before .before .before .before .before .before .pre .all .high, c .before .before .before .before .before .axis-buffer .ensures .long)) (c .before .before .before .take-axis .kept .1 .1 .0)
+part-read-at-end c = part-room (c .before .before .before .before .before .axis-buffer .result) (c .before .before .before .take-axis .last .1 .1 .0) (length (c .before .before .before .before .before .before .before .before .before .before .before .before .args .labels .now) / 2) (omega (arith, c .before .before .before .before .before .before .before .before .before .before .before .before .pre .all .high, c .before .before .before .before .before .axis-buffer .ensures .long)) (c .before .before .before .take-axis .kept .1 .1 .0)
 
 read-at-requires : tie.Need-read-at-requires
 unfolding oneAxis
 read-at-requires c κs =
     reads-axis (c .before .before .before .before .before .before .before .before .before .before .before .before .before .before .before .before .pre) (eq-eqb _ _ (c .before .before .before .before .before .before .before .before .before .before .if1 .taken)) (c .before .before .before .before .before .power .ensures)
-    (length-start _ _ (part-room (c .before .before .before .before .before .before .before .before .before .axis-buffer .result) (c .before .before .before .before .before .before .before .take-axis .last .1 .1 .0) (length (c .before .before .before .before .before .before .before .before .before .before .before .before .before .before .before .before .args .numbers .now) / 2) (omega (arith, c .before .before .before .before .before .before .before .before .before .before .before .before .before .before .before .before .pre .all .high, c .before .before .before .before .before .before .before .before .before .axis-buffer .ensures .long)) (c .before .before .before .before .before .before .before .take-axis .kept .1 .1 .0)))
+    (length-start _ _ (part-room (c .before .before .before .before .before .before .before .before .before .axis-buffer .result) (c .before .before .before .before .before .before .before .take-axis .last .1 .1 .0) (length (c .before .before .before .before .before .before .before .before .before .before .before .before .before .before .before .before .args .labels .now) / 2) (omega (arith, c .before .before .before .before .before .before .before .before .before .before .before .before .before .before .before .before .pre .all .high, c .before .before .before .before .before .before .before .before .before .axis-buffer .ensures .long)) (c .before .before .before .before .before .before .before .take-axis .kept .1 .1 .0)))
 
 returns : tie.Need-returns
 unfolding oneAxis
 returns c =
     read-axis _ _ (eq-eqb _ _ (c .before .before .before .before .before .before .before .before .before .before .before .before .before .before .before .before .before .if1 .taken)) (c .before .before .before .before .before .before .before .before .before .before .before .before .power .ensures) _
-    (part-again (c .before .before .before .before .before .before .before .before .before .before .before .before .before .before .before .before .axis-buffer .result) (c .before .before .before .before .before .before .before .before .before .before .before .before .before .before .take-axis .last .1 .1 .0) (length (c .before .before .before .before .before .before .before .before .before .before .before .before .before .before .before .before .before .before .before .before .before .before .before .args .numbers .now) / 2) (omega (arith, c .before .before .before .before .before .before .before .before .before .before .before .before .before .before .before .before .before .before .before .before .before .before .before .pre .all .high, c .before .before .before .before .before .before .before .before .before .before .before .before .before .before .before .before .axis-buffer .ensures .long)) (c .before .before .before .before .before .before .before .before .before .before .before .before .before .before .take-axis .kept .1 .1 .0) ∙ c .before .before .before .before .before .before .before .before .before .before .before .before .before .before .take-axis .ensures) (c .before .before .before .before .before .before .read-at .ensures)
+    (part-again (c .before .before .before .before .before .before .before .before .before .before .before .before .before .before .before .before .axis-buffer .result) (c .before .before .before .before .before .before .before .before .before .before .before .before .before .before .take-axis .last .1 .1 .0) (length (c .before .before .before .before .before .before .before .before .before .before .before .before .before .before .before .before .before .before .before .before .before .before .before .args .labels .now) / 2) (omega (arith, c .before .before .before .before .before .before .before .before .before .before .before .before .before .before .before .before .before .before .before .before .before .before .before .pre .all .high, c .before .before .before .before .before .before .before .before .before .before .before .before .before .before .before .before .axis-buffer .ensures .long)) (c .before .before .before .before .before .before .before .before .before .before .before .before .before .before .take-axis .kept .1 .1 .0) ∙ c .before .before .before .before .before .before .before .before .before .before .before .before .before .before .take-axis .ensures) (c .before .before .before .before .before .before .read-at .ensures)
 
 power-requires-2 : tie.Need-power-requires-2
 unfolding oneAxis

@@ -1,4 +1,4 @@
--- Coordinates back to the numbers of their level bits, by their place among 7, 5, .. -7. Assumes nothing.
+-- Coordinates back to the labels of their level bits, by their place among 7, 5, .. -7. Assumes nothing.
 use Prim.Native.Nat.{ℕ, zero, suc, _+_, _*_, _%_, _^_, _≤_, _<_}
 use mathlib.Core.Bool.{Bool, true, false, cond}
 use mathlib.Core.Path.{_≡_, refl, sym, _∙_}
@@ -16,8 +16,8 @@ use Rattle.lists.specs.Lists.{table}
 use Rattle.lists.proofs.Tables.{Filled, filled-start, filled-turn, filled-end, getD-table}
 use Rattle.block.specs.Mapping.{Constellation, coordinate, qam4, qam16, standard64, symmetric64, constellation, axis}
 use Rattle.lists.specs.Same.{sameNumber}
-use Rattle.block.specs.Reading.{placeOf, numbersOf}
-use Rattle.mapping.specs.Numbers.{numbersBy}
+use Rattle.block.specs.Reading.{placeOf, labelsOf}
+use Rattle.mapping.specs.Labels.{labelsBy}
 use Rattle.lists.proofs.Same.{sameNumber-true}
 use Rattle.mapping.proofs.Coordinates.{axis-even, axis-odd}
 
@@ -57,7 +57,7 @@ pub record None (v : ℤ) : Type 0 where
   pub n5 : sameNumber (negsuc 4) v ≡ false
   pub n7 : sameNumber (negsuc 6) v ≡ false
 
--- a rule of numbers, at the eight coordinates and at what is none of them
+-- a rule of labels, at the eight coordinates and at what is none of them
 pub coordinates-all : (P : ℤ → Type 0) → P (pos 7) → P (pos 5) → P (pos 3) → P (pos 1) → P (negsuc 0) → P (negsuc 2) → P (negsuc 4) → P (negsuc 6)
     → ((v : ℤ) → None v → P v) → (v : ℤ) → P v
 coordinates-all P a b c d e f g h n v =
@@ -123,14 +123,14 @@ pub standard-low : (v : ℤ) → placeOf standard64 v < 9
 unfolding table standard64
 standard-low v = omega (arith, place-low standard64 v)
 
-pub number-by : (c a : ℕ) → a < 2 → (v : ℤ) (t : List ℕ) → t ≡ numbersBy (axis (constellation c) a) → getD t (placeOf standard64 v) 0 ≡ placeOf (axis (constellation c) a) v
-unfolding numbersBy
+pub number-by : (c a : ℕ) → a < 2 → (v : ℤ) (t : List ℕ) → t ≡ labelsBy (axis (constellation c) a) → getD t (placeOf standard64 v) 0 ≡ placeOf (axis (constellation c) a) v
+unfolding labelsBy
 number-by c a h v t e =
     let l = axis (constellation c) a in
     rw (e, getD-table 0 (λ i. placeOf l (getD standard64 i (pos 0))) 9 (placeOf standard64 v) (standard-low v)) (by-place (known-axis c a h) v)
 
--- a number that was read from a slice of signed 16-bit numbers
-pub number-read : (c a : ℕ) → a < 2 → (v : ℤ) (t : List ℕ) (r : ℕ) → mag v < 2 ^ 15 → t ≡ numbersBy (axis (constellation c) a)
+-- a number that was read from a slice of signed 16-bit labels
+pub number-read : (c a : ℕ) → a < 2 → (v : ℤ) (t : List ℕ) (r : ℕ) → mag v < 2 ^ 15 → t ≡ labelsBy (axis (constellation c) a)
     → r ≡ getD t (placeOf standard64 (toZ w16 (ofZ w16 v))) 0 → r ≡ placeOf (axis (constellation c) a) v
 number-read c a h v t r m e f = f ∙ rw (toZ-ofZ {w = w16} (sfits-of {w = w16} {z = v} m)) (number-by c a h v t e)
 
@@ -140,7 +140,7 @@ axis-of K k = both-axes (λ a. axis K (2 * k + a) ≡ axis K a)
     (axis-even K (2 * k + 0) (omega arith) ∙ sym (axis-even K 0 refl))
     (axis-odd K (2 * k + 1) (omega arith) ∙ sym (axis-odd K 1 refl))
 
--- before the turn at cell k of the numbers of all coordinates
+-- before the turn at cell k of the labels of all coordinates
 pub record Unplacing (c : ℕ) (cells : List ℤ) (d out : List ℕ) (k : ℕ) : Type 0 where
   pub whole : 2 * k ≤ length d
   pub filled : Filled 0 (λ j. placeOf (axis (constellation c) j) (getD cells j (pos 0))) d out (2 * k)
@@ -159,8 +159,8 @@ turn {c} {cells} {d} {out} {k} P h re im e f =
     record { whole = omega arith; filled = rw n at two }
 
 pub done : {c : ℕ} {cells : List ℤ} {d out : List ℕ} {k : ℕ} → Unplacing c cells d out k → length d ≡ length cells → length d ≤ 2 * k
-    → out ≡ numbersOf (constellation c) cells
-unfolding numbersOf
+    → out ≡ labelsOf (constellation c) cells
+unfolding labelsOf
 done {c} {cells} {d} {out} {k} P e h =
     let n : 2 * k ≡ length cells = omega (arith, P .whole) in
     filled-end 0 _ d out (length cells) e (rw n at (P .filled))

@@ -1,0 +1,16 @@
+-- The labels i0 + 2 × i1 + 4 × i2 of level bits, and coordinates. 01 "Mapping"; 001 clause 7.4.
+use Prim.Native.Nat.{ℕ}
+use mathlib.Core.List.{List}
+use lib.ListN.{length, getD}
+use lib.IntN.{ℤ, pos}
+use Rattle.lists.specs.Lists.{table}
+use Rattle.block.specs.Mapping.{Constellation, standard64, axis}
+use Rattle.block.specs.Reading.{placeOf}
+
+-- The coordinates of such labels, flat, real before imaginary.
+unfoldable pub coordinates : Constellation → List ℕ → List ℤ
+coordinates k labels = table (λ j. getD (axis k j) (getD labels j 0) (pos 0)) 0 (length labels)
+
+-- The labels of a labelling by a coordinate's place among 7, 5, .. -7; 0 stands for what is none of these.
+unfoldable pub labelsBy : List ℤ → List ℕ
+labelsBy l = table (λ i. placeOf l (getD standard64 i (pos 0))) 0 9
