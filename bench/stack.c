@@ -10,10 +10,10 @@
 
 #include "drmcoder.h"
 
-enum { STACK = 8 * 1024 * 1024, PAINT = 0xA5, CALLS = 12 };
+enum { STACK = 8 * 1024 * 1024, PAINT = 0xA5, CALLS = 13 };
 
 static const char *const names[CALLS] = {"lengths", "sizes", "reset", "code", "read", "nearest", "fac_build",
-                                         "fac_read", "grid_sizes", "grid_place", "grid_take", "decide"};
+                                         "fac_read", "grid_sizes", "grid_place", "grid_take", "decide", "disperse"};
 static unsigned char *stack;
 
 /* What the calls are lent; all bits are zero. */
@@ -25,6 +25,7 @@ static uint16_t lengths[DRM_LENGTHS];
 static uint32_t sizes[DRM_SIZES];
 static uint8_t received[DRM_FAC_VALUES], block[DRM_FAC_BLOCK_BYTES];
 static uint16_t disagreement[1];
+static uint8_t packed[8192], treated[8192];
 static uint32_t fields[DRM_FAC_FIELDS], of_grid[DRM_GRID_SIZES];
 static int16_t grid[DRM_MOST_GRID_NUMBERS];
 static uint8_t measured_kinds[DRM_FAC_CELLS], measured_bits[6 * DRM_FAC_CELLS];
@@ -67,6 +68,11 @@ static void *call_read(void *unused) {
 
 static void *call_nearest(void *unused) {
     answer = drm_fac_nearest(received, sizeof received, block, sizeof block, disagreement, 1);
+    return unused;
+}
+
+static void *call_disperse(void *unused) {
+    answer = drm_disperse(65535, 65535, packed, sizeof packed, treated, sizeof treated);
     return unused;
 }
 
@@ -137,8 +143,8 @@ static void measure(size_t deepest[CALLS]) {
     static void *(*const bodies[])(void *) = {call_lengths, call_sizes, call_reset, call_code,  call_code,
                                               call_code,    call_reset, call_read,  call_read, call_read,
                                               call_nearest, call_fac_build, call_fac_read, call_grid_sizes,
-                                              call_grid_place, call_grid_take, call_decide};
-    static const int kinds[] = {0, 1, 2, 3, 3, 3, 2, 4, 4, 4, 5, 6, 7, 8, 9, 10, 11};
+                                              call_grid_place, call_grid_take, call_decide, call_disperse};
+    static const int kinds[] = {0, 1, 2, 3, 3, 3, 2, 4, 4, 4, 5, 6, 7, 8, 9, 10, 11, 12};
     size_t empty = depth(nothing), k;
     for (k = 0; k < sizeof kinds / sizeof kinds[0]; k++) {
         size_t used = depth(bodies[k]) - empty;

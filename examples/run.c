@@ -173,6 +173,19 @@ static void grid_and_back(const uint8_t *settings) {
     must(memcmp(taken.msc, cells.msc, 2 * sizes[MSC_NUMBERS]) == 0, "MSC cells are taken as placed");
 }
 
+/* Treats 24 bits in two pieces, cut inside a byte, and compares them with one piece; then back. */
+static void treat_in_pieces(void) {
+    static const uint8_t whole[3] = {0xAB, 0xCD, 0xEF}, first[2] = {0xAB, 0xC0}, second[2] = {0xDE, 0xF0};
+    uint8_t at_once[3], one[2], two[2], back[3];
+    must(drm_disperse(0, 24, whole, 3, at_once, 3) == DRM_ACCEPTED, "24 bits are treated");
+    must(drm_disperse(0, 12, first, 2, one, 2) == DRM_ACCEPTED, "the first 12 are treated");
+    must(drm_disperse(12, 12, second, 2, two, 2) == DRM_ACCEPTED, "the other 12 go on from there");
+    must(at_once[0] == one[0] && at_once[1] == (one[1] | two[0] >> 4) && at_once[2] == (uint8_t)(two[0] << 4 | two[1] >> 4),
+         "two pieces are the whole");
+    must(drm_disperse(0, 24, at_once, 3, back, 3) == DRM_ACCEPTED && memcmp(back, whole, 3) == 0, "twice gives the bits back");
+    must(drm_disperse(0, 12, whole, 2, two, 2) == DRM_REFUSED_SPARE_BIT, "a spare bit is refused by 11");
+}
+
 /* Whether what was read is what was brought, out frames being handed out before. */
 static void compare(size_t out, size_t finished) {
     size_t bytes = sizes[MSC_BYTES] / 3, i;
@@ -270,6 +283,7 @@ int main(void) {
     size_t k;
     for (k = 0; k < sizeof runs / sizeof runs[0]; k++)
         run(runs[k]);
+    treat_in_pieces();
     nearest();
     measured(runs[sizeof runs / sizeof runs[0] - 1]);
     printf("all as it must be\n");

@@ -55,7 +55,7 @@
  *     8  memory of the wrong length
  *     9  an input of the wrong length
  *    10  an output of the wrong length
- *    11  a spare bit set in an input of drm_code
+ *    11  a spare bit set in an input of drm_code or drm_disperse
  *    12  position or count above 4 (above 0 in short interleaving), or a memory cell that is neither (0, 0) nor a
  *        point of the MSC's constellation
  *    13  a cell lent to drm_read is no point of its constellation, or a filler is wrong; cells of frames before the
@@ -236,12 +236,25 @@ uint8_t drm_fac_nearest(const uint8_t *received, size_t received_len, uint8_t *b
                         uint16_t *disagreement, size_t disagreement_len);
 
 /*
+ * Energy dispersal from any bit (clause 7.2.2): bit i is added modulo 2 to p(treated + i), where treated counts the bits
+ * since the nine ones that stand before the sequence. A second call undoes the first; a half that begins at bit c of an
+ * FAC block, an SDC block, a VSPP or the remainder of a multiplex frame goes on with treated = c of that part.
+ *   treated    the bits that have been treated before these, 0 at the start of each of those parts
+ *   bits       how many bits
+ *   bytes      the packed bits, first bit highest: bits / 8 bytes, rounded up
+ *   out        as many bytes: all are written if the answer is 0, spare bits as zero
+ * Answers 0, 9 (bytes), 10 (out) or 11 (a spare bit of bytes is set).
+ */
+uint8_t drm_disperse(uint16_t treated, uint16_t bits, const uint8_t *bytes, size_t bytes_len, uint8_t *out,
+                     size_t out_len);
+
+/*
  * Measured cells, n of any channel, to points and bits. A cell is either a measured pair or a fade that carries only its
  * gain. On each axis a pair is decided to the nearest coordinate of the constellation, the larger where two are equally
- * near; minus zero counts as zero. The constellation is 4-QAM for the FAC, by the SDC mode for the SDC, by the MSC mode for
- * the MSC. The bits are the level bits of the point, real axis i0, i1, i2, then imaginary axis i0, i1, i2, 1 to 3 an axis:
- * 2 a cell in 4-QAM, 4 in 16-QAM, 6 in 64-QAM. A fade gives the point (0, 0) and bits that are all 2, for unknown.
- * drm_fac_nearest takes the bits of 65 FAC cells as they are.
+ * near; minus zero counts as zero, and (0, 0), which is no point, goes to (1, 1). The constellation is 4-QAM for the FAC,
+ * by the SDC mode for the SDC, by the MSC mode for the MSC. The bits are the level bits of the point, real axis i0, i1,
+ * i2, then imaginary axis i0, i1, i2, 1 to 3 an axis: 2 a cell in 4-QAM, 4 in 16-QAM, 6 in 64-QAM. A fade gives the
+ * point (0, 0) and bits that are all 2, for unknown. drm_fac_nearest takes the bits of 65 FAC cells as they are.
  *   settings   10 bytes
  *   kinds      n numbers: 0 a measured pair (DRM_PAIR), any other a fade; n may be 0
  *   values     2 n floats: of a pair the real and the imaginary one, of a fade the gain and one that is not looked at

@@ -10,5 +10,5 @@ fn main() {
         std::process::exit(1);
     };
     println!("cargo:rerun-if-changed={}", archive.display());
-    println!("cargo:rustc-link-arg-bins={}", archive.display());
+    println!("cargo:rustc-link-arg={}", archive.display());
 }

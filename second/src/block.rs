@@ -7,6 +7,7 @@ use crate::packing::{pack, unpack};
 use crate::rates::{Rate, R3_5, SDC, TAIL};
 use crate::settings::{with_tail, without_tail, Settings, FAC_BITS, FAC_CELLS};
 use crate::settings::{HMMIX, HMSYM, SM64};
+use crate::table::{Pattern, Table, STANDARD};
 
 /// Ways of the levels in the order of the partition, the VSPP left out.
 static WAYS_4QAM: [Way; 1] = [both(1, Some(21))];
@@ -36,6 +37,8 @@ impl Scratch {
 
 /// The layout of a block.
 pub struct Block {
+    /// The puncturing table.
+    pub table: Table,
     pub levels: Vec<(Level, Way)>,
     /// Greatest coordinate of the constellation.
     pub top: i16,
@@ -48,27 +51,41 @@ pub struct Block {
 
 impl Block {
     pub fn fac() -> Block {
-        let a = Part { rate: &R3_5, start: 0, bits: 0, coded: 0 };
-        let b = Part { rate: &R3_5, start: 0, bits: FAC_BITS, coded: 2 * FAC_CELLS };
+        Block::fac_by(&STANDARD)
+    }
+
+    /// An FAC block with a table that passes.
+    pub fn fac_by(table: &Table) -> Block {
+        let pattern = Pattern::new(table, &R3_5);
+        let a = Part { rate: &R3_5, pattern, start: 0, bits: 0, coded: 0 };
+        let b = Part { rate: &R3_5, pattern, start: 0, bits: FAC_BITS, coded: 2 * FAC_CELLS };
         // 72 bits are whole rounds of the pattern, so the tail goes on at its first column.
-        let c = R3_5.columns;
+        let c = pattern.columns();
         let tail = [c[0], c[1], c[2], c[0], c[1], c[2]];
         let levels = vec![(Level { a, b, tail }, WAYS_4QAM[0])];
-        Block { levels, top: 1, cells: FAC_CELLS, vspp: 0, bits: FAC_BITS }
+        Block { table: *table, levels, top: 1, cells: FAC_CELLS, vspp: 0, bits: FAC_BITS }
     }
 
     pub fn sdc(settings: &Settings) -> Block {
+        Block::sdc_by(&STANDARD, settings)
+    }
+
+    pub fn sdc_by(table: &Table, settings: &Settings) -> Block {
         let rates = SDC[settings.sdc as usize];
         let ways: &[Way] = if settings.sdc == 0 { &WAYS_16QAM } else { &WAYS_4QAM };
-        let mut block = Block::empty(settings.sdc_top(), settings.n_sdc());
+        let mut block = Block::empty(table, settings.sdc_top(), settings.n_sdc());
         block.add_levels(rates, 0, rates, 2 * settings.n_sdc(), ways);
         block
     }
 
     /// A multiplex frame of permitted settings.
     pub fn frame(settings: &Settings) -> Block {
+        Block::frame_by(&STANDARD, settings)
+    }
+
+    pub fn frame_by(table: &Table, settings: &Settings) -> Block {
         let cells = settings.n_mux();
-        let mut block = Block::empty(settings.msc_top(), cells);
+        let mut block = Block::empty(table, settings.msc_top(), cells);
         let per_cell = settings.bits_per_cell();
         let n1 = settings.lengths().n1;
         match settings.msc {
@@ -87,8 +104,8 @@ impl Block {
         block
     }
 
-    fn empty(top: i16, cells: usize) -> Block {
-        Block { levels: Vec::new(), top, cells, vspp: 0, bits: 0 }
+    fn empty(table: &Table, top: i16, cells: usize) -> Block {
+        Block { table: *table, levels: Vec::new(), top, cells, vspp: 0, bits: 0 }
     }
 
     /// The VSPP's level has no part A: one pattern over all its bits.
@@ -110,8 +127,10 @@ impl Block {
         let mut start_a = self.bits;
         let mut start_b = self.bits + bits_a;
         for ((rate_a, rate_b), way) in rates_a.iter().zip(rates_b).zip(ways) {
-            let a = Part { rate: rate_a, start: start_a, bits: without_tail(rate_a, coded_a), coded: coded_a };
-            let b = Part { rate: rate_b, start: start_b, bits: with_tail(rate_b, coded_b), coded: coded_b };
+            let pattern = Pattern::new(&self.table, rate_a);
+            let a = Part { rate: rate_a, pattern, start: start_a, bits: without_tail(rate_a, coded_a), coded: coded_a };
+            let pattern = Pattern::new(&self.table, rate_b);
+            let b = Part { rate: rate_b, pattern, start: start_b, bits: with_tail(rate_b, coded_b), coded: coded_b };
             start_a += a.bits;
             start_b += b.bits;
             let tail = TAIL[(coded_b - 12) % rate_b.denominator];

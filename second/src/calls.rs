@@ -3,6 +3,7 @@
 //! The drivers go over the trait alone, so that another program can be run through the same calls.
 
 use crate::buffers::{code_buffers, old_memory, read_buffers, BitBuffers, CellBuffers};
+use crate::forms::STATE_BYTES;
 use crate::settings::Settings;
 use crate::superframe::{reset, Answer, State};
 use std::io;
@@ -14,7 +15,8 @@ pub const COUNT: usize = 11;
 /// A coder or a reader: its state and its memory.
 #[derive(Clone, PartialEq)]
 pub struct Side {
-    pub state: [u8; 12],
+    pub state: [u8; STATE_BYTES],
+    /// As numbers, whatever the calls are lent.
     pub memory: Vec<i16>,
 }
 
@@ -22,7 +24,7 @@ pub struct Side {
 pub trait Calls {
     /// Writes N1, N2, L1, L2, L_VSPP.
     fn lengths(&self, settings: &[u8; 10], lengths: &mut [u16; 5]) -> u8;
-    /// Writes SDC bytes, MSC bytes, FAC numbers, SDC numbers, MSC numbers, memory numbers.
+    /// Writes SDC bytes, MSC bytes, FAC numbers, SDC numbers, MSC numbers, elements of memory.
     fn sizes(&self, settings: &[u8; 10], sizes: &mut [u32; 6]) -> u8;
     fn reset(&self, side: &mut Side, settings: &[u8; 10]) -> u8;
     fn code(&self, side: &mut Side, bits: &BitBuffers, cells: &mut CellBuffers) -> u8;
@@ -32,7 +34,7 @@ pub trait Calls {
 impl Side {
     /// A coder or reader just after an accepted Reset, which had something to clear.
     pub fn fresh(calls: &impl Calls, s: &Settings) -> io::Result<Side> {
-        let mut side = Side { state: [0; 12], memory: old_memory(s) };
+        let mut side = Side { state: [0; STATE_BYTES], memory: old_memory(s) };
         let answer = calls.reset(&mut side, &s.bytes());
         must(answer == 0, || format!("Reset answers {answer} instead of 0"))?;
         Ok(side)
@@ -84,7 +86,7 @@ impl Calls for Own {
         let s = Settings::from_bytes(*settings);
         if s.refusal() == 0 {
             let z = s.sizes();
-            let all = [z.sdc_bytes, z.msc_bytes, z.fac_numbers, z.sdc_numbers, z.msc_numbers, z.memory_numbers];
+            let all = [z.sdc_bytes, z.msc_bytes, z.fac_numbers, z.sdc_numbers, z.msc_numbers, z.memory_lent()];
             *sizes = all.map(|v| v as u32);
         }
         s.refusal()

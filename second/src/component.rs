@@ -1,6 +1,7 @@
 //! The component code of one level (clause 7.3.2): a register of seven bits, four parities, puncturing, tail.
 
 use crate::rates::Rate;
+use crate::table::Pattern;
 
 /// Generators; the highest of the seven bits is the newest input.
 const GENERATORS: [u8; 4] = [0o133, 0o171, 0o145, 0o133];
@@ -32,6 +33,8 @@ const fn table() -> [u8; 128] {
 #[derive(Clone, Copy, Debug)]
 pub struct Part {
     pub rate: &'static Rate,
+    /// The rate's columns in the table that is used.
+    pub pattern: Pattern,
     /// Place of its first bit in the block's bits.
     pub start: usize,
     /// Input bits, without the tail's zeros.
@@ -58,8 +61,8 @@ impl Level {
     /// Codes the level's bits out of the block's bits.
     pub fn encode(&self, bits: &[u8], coded: &mut [u8]) {
         let mut run = Encoder { register: 0, coded: coded.iter_mut() };
-        run.take(self.a.of(bits), self.a.rate.columns);
-        run.take(self.b.of(bits), self.b.rate.columns);
+        run.take(self.a.of(bits), self.a.pattern.columns());
+        run.take(self.b.of(bits), self.b.pattern.columns());
         run.take(&[0; 6], &self.tail);
         debug_assert!(run.coded.next().is_none());
     }
@@ -68,8 +71,8 @@ impl Level {
     pub fn decode(&self, coded: &[u8], bits: &mut [u8]) -> bool {
         let mut run = Decoder { register: 0, coded: coded.iter() };
         let mut zeros = [0; 6];
-        run.take(self.a.of_mut(bits), self.a.rate.columns)
-            && run.take(self.b.of_mut(bits), self.b.rate.columns)
+        run.take(self.a.of_mut(bits), self.a.pattern.columns())
+            && run.take(self.b.of_mut(bits), self.b.pattern.columns())
             && run.take(&mut zeros, &self.tail)
             && zeros == [0; 6]
     }
@@ -145,12 +148,14 @@ mod tests {
     use super::*;
     use crate::digest::Random;
     use crate::rates::{R1_2, RATES, TAIL};
+    use crate::table::STANDARD;
 
     fn level(rate: &'static Rate, bits: usize, tail: [u8; 6]) -> Level {
         let kept: u32 = tail.iter().map(|c| c.count_ones()).sum();
         let coded = bits / rate.numerator * rate.denominator + kept as usize;
-        let a = Part { rate, start: 0, bits: 0, coded: 0 };
-        Level { a, b: Part { rate, start: 0, bits, coded }, tail }
+        let pattern = Pattern::new(&STANDARD, rate);
+        let a = Part { rate, pattern, start: 0, bits: 0, coded: 0 };
+        Level { a, b: Part { rate, pattern, start: 0, bits, coded }, tail }
     }
 
     #[test]

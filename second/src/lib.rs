@@ -10,19 +10,28 @@ pub mod counts;
 pub mod digest;
 pub mod dispersal;
 pub mod fac;
+pub mod forms;
 pub mod grid;
+pub mod hold;
+pub mod how_long;
 pub mod interleaver;
 pub mod lengths;
 pub mod mapping;
 pub mod measured;
+pub mod memory;
 pub mod nearest;
 pub mod packing;
+pub mod plan;
+pub mod preview;
 pub mod rates;
+pub mod read_on;
 #[cfg(test)]
 mod reference;
 pub mod refusals;
 pub mod runs;
 pub mod settings;
+pub mod streams;
 pub mod superframe;
+pub mod table;
 #[cfg(test)]
 mod tests;

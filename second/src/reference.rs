@@ -1,7 +1,9 @@
 //! The rules once more for the tests, slowly and literally, with the wrong turnings to be taken on request.
 
-use crate::rates::{Rate, R3_5, SDC, TAIL};
+use crate::rates::{Rate, R3_5, RATES, SDC, TAIL};
 use crate::settings::{Settings, HMMIX, HMSYM, SM16, SM64};
+use crate::superframe::Start;
+use crate::table::Table;
 
 #[derive(Clone, Copy, PartialEq, Eq, Debug)]
 pub enum Turning {
@@ -65,12 +67,27 @@ fn kept(codeword: &[[u8; 4]], columns: &[u8]) -> Vec<u8> {
     pairs.flat_map(|(b, keep)| (0..4).filter(move |j| keep >> j & 1 == 1).map(|j| b[j])).collect()
 }
 
+/// The columns of a rate in a table: rate after rate, and of each the rows B0 to B3.
+fn columns(table: &Table, rate: &Rate) -> Vec<u8> {
+    let mut rows = &table[..];
+    for r in RATES {
+        let (own, rest) = rows.split_at(4 * r.numerator);
+        if r == rate {
+            let column = |c: usize| (0..4).map(|j| own[j * r.numerator + c] << j).sum();
+            return (0..r.numerator).map(column).collect();
+        }
+        rows = rest;
+    }
+    unreachable!()
+}
+
 /// Coded bits of a level with parts A and B.
-fn level(a: &[u8], rate_a: &Rate, b: &[u8], rate_b: &Rate, remainder: usize) -> Vec<u8> {
+fn level(table: &Table, a: &[u8], rate_a: &Rate, b: &[u8], rate_b: &Rate, remainder: usize) -> Vec<u8> {
     let word = mother(&[a, b].concat());
     let (word_a, rest) = word.split_at(a.len());
     let (word_b, tail) = rest.split_at(b.len());
-    [kept(word_a, rate_a.columns), kept(word_b, rate_b.columns), kept(tail, &TAIL[remainder])].concat()
+    let (columns_a, columns_b) = (columns(table, rate_a), columns(table, rate_b));
+    [kept(word_a, &columns_a), kept(word_b, &columns_b), kept(tail, &TAIL[remainder])].concat()
 }
 
 /// Interleaves part A (its first bits) and part B of a level; t = 0 is no interleaver.
@@ -105,23 +122,24 @@ fn qam4(i: u8) -> i16 {
     1 - 2 * i as i16
 }
 
-pub fn fac(bytes: &[u8], turning: Turning) -> Vec<Cell> {
+pub fn fac(table: &Table, bytes: &[u8], turning: Turning) -> Vec<Cell> {
     let word = mother(&dispersed(&unpacked(bytes, 72)));
+    let columns = columns(table, &R3_5);
     let mut v = match turning {
-        Turning::FacTailTable => [kept(&word[..72], R3_5.columns), kept(&word[72..], &TAIL[(130 - 12) % 5])].concat(),
-        _ => kept(&word, R3_5.columns),
+        Turning::FacTailTable => [kept(&word[..72], &columns), kept(&word[72..], &TAIL[(130 - 12) % 5])].concat(),
+        _ => kept(&word, &columns),
     };
     v.truncate(130);
     let y = interleaved(&v, 0, 21, turning);
     (0..65).map(|k| (qam4(y[2 * k]), qam4(y[2 * k + 1]))).collect()
 }
 
-pub fn sdc(s: &Settings, bytes: &[u8], turning: Turning) -> Vec<Cell> {
+pub fn sdc(table: &Table, s: &Settings, bytes: &[u8], turning: Turning) -> Vec<Cell> {
     let cells = s.n_sdc();
     let u = dispersed(&unpacked(bytes, s.sdc_bits()));
     let rates = SDC[s.sdc as usize];
     let t: &[usize] = if s.sdc == 0 { &[13, 21] } else { &[21] };
-    let y = standard(&u, rates, 0, rates, 2 * cells, t, turning);
+    let y = standard(table, &u, rates, 0, rates, 2 * cells, t, turning);
     match s.sdc {
         0 => (0..cells).map(|k| (qam16([y[0][2 * k], y[1][2 * k]]), qam16([y[0][2 * k + 1], y[1][2 * k + 1]]))).collect(),
         _ => (0..cells).map(|k| (qam4(y[0][2 * k]), qam4(y[0][2 * k + 1]))).collect(),
@@ -129,7 +147,9 @@ pub fn sdc(s: &Settings, bytes: &[u8], turning: Turning) -> Vec<Cell> {
 }
 
 /// Interleaved levels of the part without VSPP: parts A and B, coded bits per level, each level's t.
-fn standard(u: &[u8], rates_a: &[&Rate], a: usize, rates_b: &[&Rate], b: usize, t: &[usize], turning: Turning) -> Vec<Vec<u8>> {
+fn standard(
+    table: &Table, u: &[u8], rates_a: &[&Rate], a: usize, rates_b: &[&Rate], b: usize, t: &[usize], turning: Turning,
+) -> Vec<Vec<u8>> {
     let m1: Vec<usize> = rates_a.iter().map(|r| a * r.numerator / r.denominator).collect();
     let m2: Vec<usize> = rates_b.iter().map(|r| r.numerator * ((b - 12) / r.denominator)).collect();
     let lengths = [m1, m2].concat();
@@ -142,7 +162,7 @@ fn standard(u: &[u8], rates_a: &[&Rate], a: usize, rates_b: &[&Rate], b: usize, 
     assert!(u.is_empty());
     let code = |p: usize| {
         let remainder = (b - 12) % rates_b[p].denominator;
-        let v = level(streams[p], rates_a[p], streams[p + t.len()], rates_b[p], remainder);
+        let v = level(table, streams[p], rates_a[p], streams[p + t.len()], rates_b[p], remainder);
         assert_eq!(v.len(), a + b);
         interleaved(&v, a, t[p], turning)
     };
@@ -150,7 +170,7 @@ fn standard(u: &[u8], rates_a: &[&Rate], a: usize, rates_b: &[&Rate], b: usize, 
 }
 
 /// Cells of a multiplex frame in mapping order.
-pub fn frame(s: &Settings, bytes: &[u8], turning: Turning) -> Vec<Cell> {
+pub fn frame(table: &Table, s: &Settings, bytes: &[u8], turning: Turning) -> Vec<Cell> {
     let l = s.lengths();
     let bits = unpacked(bytes, l.frame_bits());
     let dispersed = match turning {
@@ -164,32 +184,40 @@ pub fn frame(s: &Settings, bytes: &[u8], turning: Turning) -> Vec<Cell> {
     let n = s.n_mux();
     match s.msc {
         SM64 => {
-            let y = standard(u, a, 2 * l.n1, b, 2 * l.n2, &[0, 13, 21], turning);
+            let y = standard(table, u, a, 2 * l.n1, b, 2 * l.n2, &[0, 13, 21], turning);
             (0..n).map(|k| (sm64(three(&y, 2 * k)), sm64(three(&y, 2 * k + 1)))).collect()
         }
         HMSYM => {
             let r = s.vspp_rate();
-            let y0 = level(&[], r, vspp, r, (2 * n - 12) % r.denominator);
-            let y = standard(u, a, 2 * l.n1, b, 2 * l.n2, &[13, 21], turning);
+            let y0 = level(table, &[], r, vspp, r, (2 * n - 12) % r.denominator);
+            let y = standard(table, u, a, 2 * l.n1, b, 2 * l.n2, &[13, 21], turning);
             let number = |k: usize| hmsym([y0[k], y[0][k], y[1][k]]);
             (0..n).map(|k| (number(2 * k), number(2 * k + 1))).collect()
         }
         HMMIX => {
             let r = s.vspp_rate();
-            let re0 = level(&[], r, vspp, r, (n - 12) % r.denominator);
-            let y = standard(u, a, l.n1, b, l.n2, &[0, 13, 13, 21, 21], turning);
+            let re0 = level(table, &[], r, vspp, r, (n - 12) % r.denominator);
+            let y = standard(table, u, a, l.n1, b, l.n2, &[0, 13, 13, 21, 21], turning);
             (0..n).map(|k| (hmsym([re0[k], y[1][k], y[3][k]]), sm64([y[0][k], y[2][k], y[4][k]]))).collect()
         }
         SM16 => {
-            let y = standard(u, a, 2 * l.n1, b, 2 * l.n2, &[13, 21], turning);
+            let y = standard(table, u, a, 2 * l.n1, b, 2 * l.n2, &[13, 21], turning);
             (0..n).map(|k| (qam16(two(&y, 2 * k)), qam16(two(&y, 2 * k + 1)))).collect()
         }
         _ => unreachable!(),
     }
 }
 
+/// The cells of frames before the first: empty, or those of a frame whose bits are all zero before dispersal.
+pub fn before_the_first(start: Start, table: &Table, s: &Settings) -> Vec<Cell> {
+    match start {
+        Start::Empty => vec![(0, 0); s.n_mux()],
+        Start::ZeroFrame => frame(table, s, &vec![0; s.lengths().frame_bits().div_ceil(8)], Turning::Right),
+    }
+}
+
 /// Sent cells of frame n, from all frames' cells and without any memory.
-pub fn sent_row(s: &Settings, frames: &[Vec<Cell>], n: usize, turning: Turning) -> Vec<Cell> {
+pub fn sent_row(s: &Settings, before: &[Cell], frames: &[Vec<Cell>], n: usize, turning: Turning) -> Vec<Cell> {
     let places = places(s.n_mux(), 5, turning);
     let cell = |(i, &place): (usize, &usize)| {
         let delay = match (s.long(), turning) {
@@ -197,14 +225,14 @@ pub fn sent_row(s: &Settings, frames: &[Vec<Cell>], n: usize, turning: Turning) 
             (true, Turning::DelayFromPlace) => place % 5,
             (true, _) => i % 5,
         };
-        if delay > n { (0, 0) } else { frames[n - delay][place] }
+        if delay > n { before[place] } else { frames[n - delay][place] }
     };
     places.iter().enumerate().map(cell).collect()
 }
 
 /// MSC cells of super frame m, with fillers.
-pub fn super_frame(s: &Settings, frames: &[Vec<Cell>], m: usize, turning: Turning) -> Vec<Cell> {
-    let mut cells: Vec<Cell> = (3 * m..3 * m + 3).flat_map(|n| sent_row(s, frames, n, turning)).collect();
+pub fn super_frame(s: &Settings, before: &[Cell], frames: &[Vec<Cell>], m: usize, turning: Turning) -> Vec<Cell> {
+    let mut cells: Vec<Cell> = (3 * m..3 * m + 3).flat_map(|n| sent_row(s, before, frames, n, turning)).collect();
     cells.extend(&[(1, 1), (1, -1)][..s.n_sfa() - 3 * s.n_mux()]);
     cells
 }

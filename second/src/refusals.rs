@@ -3,6 +3,8 @@
 use crate::buffers::{BitBuffers, CellBuffers};
 use crate::calls::{at, must, words, Calls, Side, COUNT, POSITION};
 use crate::digest::{Digest, Random};
+use crate::forms::MemoryElement;
+use crate::memory::Element;
 use crate::settings::Settings;
 use crate::superframe::Answer;
 use std::io::{self, Write};
@@ -154,12 +156,12 @@ fn reset_case(calls: &impl Calls, run: &Run, case: usize) -> io::Result<(u8, u64
     let mut side = run.coder.clone();
     match case {
         0..=30 => settings = Settings::from_bytes(BAD[case]),
-        31 => drop(side.memory.pop()),
-        32 => side.memory.push(0),
+        31 => shorter(&mut side.memory),
+        32 => longer(&mut side.memory),
         33 => settings = short(),
         34 => {
             settings.x = 65535;
-            side.memory.pop();
+            shorter(&mut side.memory);
         }
         _ => {}
     }
@@ -195,8 +197,8 @@ fn spoil_code(c: &mut CodeCall, case: usize) {
     let frame_bytes = c.bits.msc.len() / 3;
     match case {
         0..=30 => put_settings(&mut c.side, &BAD[case]),
-        31 => drop(c.side.memory.pop()),
-        32 => c.side.memory.push(0),
+        31 => shorter(&mut c.side.memory),
+        32 => longer(&mut c.side.memory),
         33 => drop(c.bits.fac.pop()),
         34 => drop(c.bits.sdc.pop()),
         35 => c.bits.msc.push(0),
@@ -221,14 +223,26 @@ fn spoil_code(c: &mut CodeCall, case: usize) {
     }
 }
 
-/// A memory cell that is neither (0, 0) nor a point.
-fn spoil_memory(memory: &mut [i16], kind: usize) {
+/// A memory cell that is neither (0, 0) nor a point, in any form that memory is lent in.
+fn spoil_memory(memory: &mut Vec<i16>, kind: usize) {
     match kind {
         0 => memory[0] = 2,
-        1 => *memory.last_mut().unwrap() = 9,
+        1 => *memory.last_mut().unwrap() = 8,
         2 => (memory[200], memory[201]) = (0, 1),
         _ => memory[0] = -32768,
     }
+    *memory = MemoryElement::numbers(&MemoryElement::memory(memory));
+}
+
+/// Numbers of an element of the memory that is lent.
+const ELEMENT_NUMBERS: usize = 2 / MemoryElement::A_CELL;
+
+fn shorter(memory: &mut Vec<i16>) {
+    memory.truncate(memory.len() - ELEMENT_NUMBERS);
+}
+
+fn longer(memory: &mut Vec<i16>) {
+    memory.extend([0; ELEMENT_NUMBERS]);
 }
 
 /// Short interleaving with its length of memory, but position or count 1.
@@ -267,8 +281,8 @@ fn read_case(calls: &impl Calls, run: &Run, case: usize) -> io::Result<(Answer, 
 fn spoil_read(c: &mut ReadCall, case: usize) {
     match case {
         0..=30 => put_settings(&mut c.side, &BAD[case]),
-        31 => drop(c.side.memory.pop()),
-        32 => c.side.memory.push(0),
+        31 => shorter(&mut c.side.memory),
+        32 => longer(&mut c.side.memory),
         33 => drop(c.cells.fac.pop()),
         34 => c.cells.sdc.push(1),
         35 => drop(c.cells.msc.pop()),

@@ -1,5 +1,7 @@
 //! Settings, their refusals, lengths (clause 7.2.1.1) and sizes of the buffers.
 
+use crate::forms::MemoryElement;
+use crate::memory::Element;
 use crate::rates::{self, Combination, Rate};
 
 /// MSC modes.
@@ -74,6 +76,13 @@ pub struct Sizes {
     pub sdc_numbers: usize,
     pub msc_numbers: usize,
     pub memory_numbers: usize,
+}
+
+impl Sizes {
+    /// Elements of memory as calls are lent it.
+    pub fn memory_lent(&self) -> usize {
+        self.memory_numbers / 2 * MemoryElement::A_CELL
+    }
 }
 
 impl Lengths {
@@ -250,7 +259,7 @@ impl Settings {
         [
             l.n1, l.n2, l.l1, l.l2, l.vspp,
             z.sdc_bytes, z.msc_bytes,
-            z.fac_numbers, z.sdc_numbers, z.msc_numbers, z.memory_numbers,
+            z.fac_numbers, z.sdc_numbers, z.msc_numbers, z.memory_lent(),
         ]
     }
 }

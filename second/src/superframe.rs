@@ -3,26 +3,69 @@
 //! MSC cells are interleaved over five frames (clause 7.6) and followed by fillers (clause 7.7).
 
 use crate::block::{Block, Scratch};
+use crate::forms::{START, STATE_BYTES};
 use crate::interleaver::Places;
 use crate::mapping::{are_points, are_points_or_zero, is_coordinate};
 use crate::packing::spare_bit_set;
 use crate::settings::{Settings, FAC_BYTES, FAC_CELLS};
+use crate::table::{passes, Table, ENTRIES, STANDARD};
 
 /// Slots of the memory in long interleaving, and so the number of frames a row's cells come from.
 const DEPTH: usize = 5;
 
-const FAC_NUMBERS: usize = 2 * FAC_CELLS;
+/// Settings, position, count and the table's numbers.
+pub const ALL_BYTES: usize = 12 + ENTRIES;
+
+pub(crate) const FAC_NUMBERS: usize = 2 * FAC_CELLS;
 
 /// (1, 1), then (1, −1).
 const FILLERS: [i16; 4] = [1, 1, 1, -1];
 
-#[derive(Clone, Copy, PartialEq, Eq, Debug, Default)]
+#[derive(Clone, Copy, PartialEq, Eq, Debug)]
 pub struct State {
     pub settings: Settings,
     /// The slot written next.
     pub position: u8,
     /// Frames seen, up to 4.
     pub count: u8,
+    /// The puncturing table.
+    pub table: Table,
+}
+
+impl Default for State {
+    /// All zero, with the standard's table.
+    fn default() -> State {
+        State { settings: Settings::default(), position: 0, count: 0, table: STANDARD }
+    }
+}
+
+/// What the cells of frames before the first are.
+#[derive(Clone, Copy, PartialEq, Eq, Debug)]
+pub enum Start {
+    /// All (0, 0).
+    Empty,
+    /// Those of a multiplex frame whose bits are all zero (02, S-5); then (0, 0) in memory falls under 12.
+    ZeroFrame,
+}
+
+impl Start {
+    /// Numbers of the cells of a frame before the first, in mapping order.
+    pub fn cells(self, settings: &Settings, table: &Table) -> Vec<i16> {
+        let frame = Block::frame_by(table, settings);
+        let mut numbers = vec![0; frame.numbers()];
+        if self == Start::ZeroFrame {
+            frame.code(&vec![0; frame.bytes()], &mut numbers, &mut Scratch::for_cells(frame.cells));
+        }
+        numbers
+    }
+
+    /// Whether 12 lets memory pass.
+    fn memory_passes(self, memory: &[i16], top: i16) -> bool {
+        match self {
+            Start::Empty => are_points_or_zero(memory, top),
+            Start::ZeroFrame => are_points(memory, top),
+        }
+    }
 }
 
 /// An answer of the reader.
@@ -59,33 +102,51 @@ pub struct CellsMut<'a> {
     pub msc: &'a mut [i16],
 }
 
-/// Takes new settings and clears the memory; the number of the refusal, or 0, comes with the state.
+/// Takes new settings and fills the memory; the number of the refusal, or 0, comes with the state.
 pub fn reset(old: State, settings: Settings, memory: &mut [i16]) -> (State, u8) {
+    reset_table(old, settings, &STANDARD, memory)
+}
+
+/// Reset with a table of one's own.
+pub fn reset_table(old: State, settings: Settings, table: &[u8], memory: &mut [i16]) -> (State, u8) {
+    reset_to(START, old, settings, table, memory)
+}
+
+/// Reset with the cells of frames before the first.
+pub fn reset_to(start: Start, old: State, settings: Settings, table: &[u8], memory: &mut [i16]) -> (State, u8) {
     let refusal = match settings.refusal() {
+        0 if !passes(table) => 23,
         0 if memory.len() != settings.sizes().memory_numbers => 8,
         number => number,
     };
     if refusal != 0 {
         return (old, refusal);
     }
-    memory.fill(0);
-    (State { settings, position: 0, count: 0 }, 0)
+    let table = table.try_into().expect("a table that passes");
+    let cells = start.cells(&settings, &table);
+    memory.chunks_mut(cells.len()).for_each(|slot| slot.copy_from_slice(&cells));
+    (State { settings, position: 0, count: 0, table }, 0)
 }
 
 /// Codes one super frame; the number of the refusal, or 0, comes with the state.
 pub fn code(state: State, memory: &mut [i16], bits: Bits, cells: CellsMut) -> (State, u8) {
-    let refusal = code_refusal(&state, memory, &bits, &cells);
+    code_from(START, state, memory, bits, cells)
+}
+
+/// Code of a run that started with these cells.
+pub fn code_from(start: Start, state: State, memory: &mut [i16], bits: Bits, cells: CellsMut) -> (State, u8) {
+    let refusal = code_refusal(start, &state, memory, &bits, &cells);
     if refusal != 0 {
         return (state, refusal);
     }
     let s = &state.settings;
     let mut scratch = Scratch::for_cells(s.n_mux());
-    let fac = Block::fac();
+    let fac = Block::fac_by(&state.table);
     for (bytes, numbers) in bits.fac.chunks(FAC_BYTES).zip(cells.fac.chunks_mut(FAC_NUMBERS)) {
         fac.code(bytes, numbers, &mut scratch);
     }
-    Block::sdc(s).code(bits.sdc, cells.sdc, &mut scratch);
-    let frame = Block::frame(s);
+    Block::sdc_by(&state.table, s).code(bits.sdc, cells.sdc, &mut scratch);
+    let frame = Block::frame_by(&state.table, s);
     let (rows, fillers) = cells.msc.split_at_mut(3 * frame.numbers());
     let mut row_state = state;
     for (bytes, row) in bits.msc.chunks(frame.bytes()).zip(rows.chunks_mut(frame.numbers())) {
@@ -98,10 +159,13 @@ pub fn code(state: State, memory: &mut [i16], bits: Bits, cells: CellsMut) -> (S
     (row_state, 0)
 }
 
-fn code_refusal(state: &State, memory: &[i16], bits: &Bits, cells: &CellsMut) -> u8 {
+fn code_refusal(start: Start, state: &State, memory: &[i16], bits: &Bits, cells: &CellsMut) -> u8 {
     let s = &state.settings;
     if s.refusal() != 0 {
         return s.refusal();
+    }
+    if !passes(&state.table) {
+        return 23;
     }
     let z = s.sizes();
     if memory.len() != z.memory_numbers {
@@ -118,7 +182,7 @@ fn code_refusal(state: &State, memory: &[i16], bits: &Bits, cells: &CellsMut) ->
     if spare_bit_set(bits.sdc, s.sdc_bits()) || frames.any(|f| spare_bit_set(f, frame_bits)) {
         return 11;
     }
-    if !state.in_range() || !are_points_or_zero(memory, s.msc_top()) {
+    if !state.in_range() || !start.memory_passes(memory, s.msc_top()) {
         return 12;
     }
     0
@@ -126,12 +190,17 @@ fn code_refusal(state: &State, memory: &[i16], bits: &Bits, cells: &CellsMut) ->
 
 /// Reads one super frame.
 pub fn read(state: State, memory: &mut [i16], cells: Cells, bits: BitsMut) -> (State, Answer) {
-    let number = read_refusal(&state, memory, &cells, &bits);
+    read_from(START, state, memory, cells, bits)
+}
+
+/// Read of a run that started with these cells.
+pub fn read_from(start: Start, state: State, memory: &mut [i16], cells: Cells, bits: BitsMut) -> (State, Answer) {
+    let number = read_refusal(start, &state, memory, &cells, &bits);
     if number != 0 {
         return (state, Answer::Refused { number, block: 0 });
     }
     let s = &state.settings;
-    let frame = Block::frame(s);
+    let frame = Block::frame_by(&state.table, s);
     let (rows, fillers) = cells.msc.split_at(3 * frame.numbers());
     if let Some(block) = bad_point(&state, &cells, rows, fillers) {
         return (state, Answer::Refused { number: 13, block });
@@ -153,10 +222,13 @@ pub fn read(state: State, memory: &mut [i16], cells: Cells, bits: BitsMut) -> (S
     (row_state, Answer::Finished(finished))
 }
 
-fn read_refusal(state: &State, memory: &[i16], cells: &Cells, bits: &BitsMut) -> u8 {
+pub(crate) fn read_refusal(start: Start, state: &State, memory: &[i16], cells: &Cells, bits: &BitsMut) -> u8 {
     let s = &state.settings;
     if s.refusal() != 0 {
         return s.refusal();
+    }
+    if !passes(&state.table) {
+        return 23;
     }
     let z = s.sizes();
     if memory.len() != z.memory_numbers {
@@ -168,7 +240,7 @@ fn read_refusal(state: &State, memory: &[i16], cells: &Cells, bits: &BitsMut) ->
     if (bits.fac.len(), bits.sdc.len(), bits.msc.len()) != (3 * FAC_BYTES, z.sdc_bytes, z.msc_bytes) {
         return 10;
     }
-    if !state.in_range() || !are_points_or_zero(memory, s.msc_top()) {
+    if !state.in_range() || !start.memory_passes(memory, s.msc_top()) {
         return 12;
     }
     0
@@ -196,26 +268,41 @@ fn bad_point(state: &State, cells: &Cells, rows: &[i16], fillers: &[i16]) -> Opt
 }
 
 impl State {
-    /// The twelve bytes: settings, position, count.
-    pub fn bytes(&self) -> [u8; 12] {
-        let mut bytes = [0; 12];
+    /// Settings, position, count and the table.
+    pub fn all_bytes(&self) -> [u8; ALL_BYTES] {
+        let mut bytes = [0; ALL_BYTES];
         bytes[..10].copy_from_slice(&self.settings.bytes());
-        bytes[10..].copy_from_slice(&[self.position, self.count]);
+        bytes[10..12].copy_from_slice(&[self.position, self.count]);
+        bytes[12..].copy_from_slice(&self.table);
         bytes
     }
 
-    pub fn from_bytes(b: [u8; 12]) -> State {
-        let settings = std::array::from_fn(|i| b[i]);
-        State { settings: Settings::from_bytes(settings), position: b[10], count: b[11] }
+    pub fn from_all_bytes(b: [u8; ALL_BYTES]) -> State {
+        let (settings, table) = (std::array::from_fn(|i| b[i]), std::array::from_fn(|i| b[12 + i]));
+        State { settings: Settings::from_bytes(settings), position: b[10], count: b[11], table }
     }
 
-    fn in_range(&self) -> bool {
+    /// As many bytes as calls lend today.
+    pub fn bytes(&self) -> [u8; STATE_BYTES] {
+        let all = self.all_bytes();
+        std::array::from_fn(|i| all[i])
+    }
+
+    /// Without a table it is the standard's.
+    pub fn from_bytes(b: [u8; STATE_BYTES]) -> State {
+        let mut all = State::default().all_bytes();
+        all[..STATE_BYTES].copy_from_slice(&b);
+        State::from_all_bytes(all)
+    }
+
+    /// Whether 12 lets position and count pass.
+    pub fn in_range(&self) -> bool {
         let most = if self.settings.long() { 4 } else { 0 };
         self.position <= most && self.count <= most
     }
 
     /// One frame later.
-    fn after_row(self) -> State {
+    pub(crate) fn after_row(self) -> State {
         if !self.settings.long() {
             return self;
         }
@@ -233,7 +320,7 @@ impl State {
 }
 
 /// Where the cells of one row lie in memory.
-struct Slots {
+pub(crate) struct Slots {
     cells: usize,
     /// Slots in memory: 5, or 1 in short interleaving, where every delay is 0.
     depth: usize,
@@ -242,7 +329,7 @@ struct Slots {
 }
 
 impl Slots {
-    fn new(state: &State) -> Slots {
+    pub(crate) fn new(state: &State) -> Slots {
         let s = &state.settings;
         let (position, count) = (state.position as usize, state.count as usize);
         Slots { cells: s.n_mux(), depth: s.slots(), position, count }
@@ -271,8 +358,13 @@ impl Slots {
     }
 
     /// Whether a cell with this delay is of a frame before the first.
-    fn ignored(&self, delay: usize) -> bool {
+    pub(crate) fn ignored(&self, delay: usize) -> bool {
         delay > self.count
+    }
+
+    /// Whether the row has the last cell of a frame.
+    pub(crate) fn finishes(&self) -> bool {
+        !self.ignored(self.depth - 1)
     }
 
     /// Sends a row from memory.
@@ -283,7 +375,7 @@ impl Slots {
     }
 
     /// Puts the cells of a received row where the coder took them.
-    fn keep(&self, row: &[i16], memory: &mut [i16]) {
+    pub(crate) fn keep(&self, row: &[i16], memory: &mut [i16]) {
         for (cell, (delay, at)) in row.chunks_exact(2).zip(self.sent()) {
             if !self.ignored(delay) {
                 memory[at..at + 2].copy_from_slice(cell);
@@ -293,7 +385,7 @@ impl Slots {
 
     /// Gathers the frame that is finished with row k of the received rows: what earlier calls received of it
     /// lies in memory, the rest in the rows up to k.
-    fn gather(&self, memory: &[i16], rows: &[i16], k: usize, frame: &mut [i16]) {
+    pub(crate) fn gather(&self, memory: &[i16], rows: &[i16], k: usize, frame: &mut [i16]) {
         let row_numbers = 2 * self.cells;
         let last = self.depth - 1;
         let old = self.base(last);
@@ -325,14 +417,14 @@ impl ReadBits {
 
     /// Reads all blocks and finished frames; the number of these, or the lowest block that no bits give.
     fn read(&mut self, state: &State, memory: &[i16], cells: &Cells, rows: &[i16], frame: &Block) -> Result<u8, u8> {
-        let fac = Block::fac();
+        let fac = Block::fac_by(&state.table);
         let blocks = cells.fac.chunks(FAC_NUMBERS).zip(self.fac.chunks_mut(FAC_BYTES));
         for (block, (numbers, bytes)) in (0..).zip(blocks) {
             if !fac.read(numbers, bytes, &mut self.scratch) {
                 return Err(block);
             }
         }
-        if !Block::sdc(&state.settings).read(cells.sdc, &mut self.sdc, &mut self.scratch) {
+        if !Block::sdc_by(&state.table, &state.settings).read(cells.sdc, &mut self.sdc, &mut self.scratch) {
             return Err(3);
         }
         let mut finished = 0;
@@ -341,7 +433,7 @@ impl ReadBits {
         for k in 0..3 {
             let slots = Slots::new(&row_state);
             row_state = row_state.after_row();
-            if slots.ignored(slots.depth - 1) {
+            if !slots.finishes() {
                 continue;
             }
             slots.gather(memory, rows, k, &mut numbers);

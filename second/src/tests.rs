@@ -4,10 +4,13 @@ use crate::block::{Block, Scratch};
 use crate::blocks;
 use crate::buffers::{code_buffers, old_memory, read_buffers, BitBuffers, CellBuffers};
 use crate::digest::Random;
+use crate::forms::START;
 use crate::rates;
 use crate::reference::{self, Cell, Turning};
 use crate::settings::{Settings, HMMIX, HMSYM, PAIRINGS, SM16, SM64};
-use crate::superframe::{reset, Answer, State};
+use crate::superframe::{code_from, read_from, reset, reset_table, reset_to, Answer, Bits, BitsMut, Cells, CellsMut};
+use crate::superframe::{Start, State};
+use crate::table::{self, Table, STANDARD};
 
 fn flat(cells: &[Cell]) -> Vec<i16> {
     cells.iter().flat_map(|c| [c.0, c.1]).collect()
@@ -101,12 +104,85 @@ fn blocks_agree_with_the_slow_rules() {
     for s in blocks::settings().into_iter().step_by(37) {
         let s = Settings { sdc: random.byte() % 2, ..s };
         let bytes = random_bytes(&Block::fac(), &mut random);
-        assert_eq!(coded(&Block::fac(), &bytes), flat(&reference::fac(&bytes, Turning::Right)));
+        assert_eq!(coded(&Block::fac(), &bytes), flat(&reference::fac(&STANDARD, &bytes, Turning::Right)));
         let bytes = random_bytes(&Block::sdc(&s), &mut random);
-        assert_eq!(coded(&Block::sdc(&s), &bytes), flat(&reference::sdc(&s, &bytes, Turning::Right)));
+        assert_eq!(coded(&Block::sdc(&s), &bytes), flat(&reference::sdc(&STANDARD, &s, &bytes, Turning::Right)));
         let bytes = random_bytes(&Block::frame(&s), &mut random);
-        assert_eq!(coded(&Block::frame(&s), &bytes), flat(&reference::frame(&s, &bytes, Turning::Right)), "{s:?}");
+        assert_eq!(coded(&Block::frame(&s), &bytes), flat(&reference::frame(&STANDARD, &s, &bytes, Turning::Right)), "{s:?}");
     }
+}
+
+/// A table that passes.
+fn random_table(random: &mut Random) -> Table {
+    table::drawn(|n| (random.byte() as usize * 256 + random.byte() as usize) % n)
+}
+
+#[test]
+fn blocks_with_other_tables_agree_with_the_slow_rules() {
+    let mut random = Random(23);
+    for s in blocks::settings().into_iter().step_by(61) {
+        let (s, table) = (Settings { sdc: random.byte() % 2, ..s }, random_table(&mut random));
+        let fac = Block::fac_by(&table);
+        let bytes = random_bytes(&fac, &mut random);
+        assert_eq!(coded(&fac, &bytes), flat(&reference::fac(&table, &bytes, Turning::Right)));
+        let sdc = Block::sdc_by(&table, &s);
+        let bytes = random_bytes(&sdc, &mut random);
+        assert_eq!(coded(&sdc, &bytes), flat(&reference::sdc(&table, &s, &bytes, Turning::Right)));
+        let frame = Block::frame_by(&table, &s);
+        let bytes = random_bytes(&frame, &mut random);
+        let cells = coded(&frame, &bytes);
+        assert_eq!(cells, flat(&reference::frame(&table, &s, &bytes, Turning::Right)), "{s:?}");
+        let mut read = vec![0xFF; frame.bytes()];
+        assert!(frame.read(&cells, &mut read, &mut Scratch::for_cells(frame.cells)) && read == bytes);
+    }
+}
+
+/// A run with a table: Code's cells are that table's, and a reader with the table gives the bits.
+#[test]
+fn a_run_with_another_table() {
+    let mut random = Random(24);
+    let (s, table) = (rich(), random_table(&mut random));
+    let (mut memory, mut reader_memory) = (old_memory(&s), old_memory(&s));
+    let (mut coder, answer) = reset_table(State::default(), s, &table, &mut memory);
+    assert_eq!((answer, coder.table), (0, table));
+    let (mut reader, _) = reset_table(State::default(), s, &table, &mut reader_memory);
+    let (mut all, mut out) = (Vec::new(), Vec::<u8>::new());
+    for n in [0, 2, 3] {
+        let bits = BitBuffers::random(&s, &mut random, true);
+        let (mut cells, mut read) = (CellBuffers::filled(&s, 0), BitBuffers::filled(&s, 0));
+        assert_eq!(code_buffers(&mut coder, &mut memory, &bits, &mut cells), 0);
+        let fac: Vec<Cell> =
+            bits.fac.chunks(9).flat_map(|b| reference::fac(&table, b, Turning::Right)).collect();
+        assert_eq!(cells.fac, flat(&fac));
+        assert_eq!(cells.sdc, flat(&reference::sdc(&table, &s, &bits.sdc, Turning::Right)));
+        assert_eq!(read_buffers(&mut reader, &mut reader_memory, &cells, &mut read), Answer::Finished(n));
+        assert!(read.fac == bits.fac && read.sdc == bits.sdc);
+        out.extend(&read.msc[..n as usize * bits.msc.len() / 3]);
+        all.extend(bits.msc);
+    }
+    assert_eq!(out, all[..out.len()]);
+    assert_eq!((coder.table, reader.table), (table, table));
+}
+
+/// 23 goes after 7 and before 8, in Reset, Code and Read.
+#[test]
+fn a_table_that_fails_is_23() {
+    let s = rich();
+    let (state, mut memory) = fresh(&s);
+    let bad_settings = Settings { x: 65_535, ..s };
+    for bad in [&STANDARD[1..], &[1; 196], &[]] {
+        assert_eq!(reset_table(state, bad_settings, bad, &mut memory), (state, 7));
+        assert_eq!(reset_table(state, s, bad, &mut memory[1..]), (state, 23));
+    }
+    let bad = State { table: [1; 196], ..state };
+    let (bits, mut cells) = (BitBuffers::filled(&s, 0), CellBuffers::filled(&s, 0));
+    assert_eq!(code_buffers(&mut bad.clone(), &mut memory[1..], &bits, &mut cells), 23);
+    let answer = read_buffers(&mut bad.clone(), &mut memory[1..], &cells, &mut bits.clone());
+    assert_eq!(answer, Answer::Refused { number: 23, block: 0 });
+    let mut worse = State { settings: bad_settings, ..bad };
+    assert_eq!(code_buffers(&mut worse, &mut memory[1..], &bits, &mut cells), 7);
+    // The old state's table is not looked at.
+    assert_eq!(reset(bad, s, &mut memory), (state, 0));
 }
 
 #[test]
@@ -158,9 +234,9 @@ fn wrong_turnings_within_a_frame_differ() {
         let block = Block::frame(&s);
         let bytes = random_bytes(&block, &mut random);
         let right = coded(&block, &bytes);
-        assert_eq!(right, flat(&reference::frame(&s, &bytes, Turning::Right)));
+        assert_eq!(right, flat(&reference::frame(&STANDARD, &s, &bytes, Turning::Right)));
         for turning in [Turning::PlaceModuloN, Turning::OneInterleaver, Turning::OneDispersal] {
-            assert_ne!(right, flat(&reference::frame(&s, &bytes, turning)), "{turning:?}");
+            assert_ne!(right, flat(&reference::frame(&STANDARD, &s, &bytes, turning)), "{turning:?}");
         }
     }
 }
@@ -170,7 +246,7 @@ fn wrong_turning_in_the_fac_differs() {
     let bytes = random_bytes(&Block::fac(), &mut Random(15));
     let right = coded(&Block::fac(), &bytes);
     for turning in [Turning::FacTailTable, Turning::PlaceModuloN] {
-        assert_ne!(right, flat(&reference::fac(&bytes, turning)), "{turning:?}");
+        assert_ne!(right, flat(&reference::fac(&STANDARD, &bytes, turning)), "{turning:?}");
     }
 }
 
@@ -193,7 +269,8 @@ fn fresh(s: &Settings) -> (State, Vec<i16>) {
     let mut memory = old_memory(s);
     let (state, answer) = reset(State::default(), *s, &mut memory);
     assert_eq!((answer, state.position, state.count), (0, 0, 0));
-    assert!(memory.iter().all(|&v| v == 0));
+    let start = flat(&reference::before_the_first(START, &STANDARD, s));
+    assert!(memory.chunks(start.len()).all(|slot| slot == start));
     (state, memory)
 }
 
@@ -201,7 +278,7 @@ fn fresh(s: &Settings) -> (State, Vec<i16>) {
 fn frames(s: &Settings, brought: &[BitBuffers]) -> Vec<Vec<Cell>> {
     let bytes = s.lengths().frame_bits().div_ceil(8);
     let all = brought.iter().flat_map(|b| b.msc.chunks(bytes));
-    all.map(|b| reference::frame(s, b, Turning::Right)).collect()
+    all.map(|b| reference::frame(&STANDARD, s, b, Turning::Right)).collect()
 }
 
 #[test]
@@ -210,13 +287,88 @@ fn runs_give_the_standards_cells() {
         let s = Settings { msc, interleaving, occupancy, vspp: 0, ..rich() };
         let s = Settings { level_b: 1, ..s };
         let (brought, sent) = run(&s, 4, 16);
-        let frames = frames(&s, &brought);
+        let (before, frames) = (reference::before_the_first(START, &STANDARD, &s), frames(&s, &brought));
         for m in 0..4 {
-            let fac = brought[m].fac.chunks(9).flat_map(|b| reference::fac(b, Turning::Right));
+            let fac = brought[m].fac.chunks(9).flat_map(|b| reference::fac(&STANDARD, b, Turning::Right));
             assert_eq!(sent[m].fac, flat(&fac.collect::<Vec<_>>()));
-            assert_eq!(sent[m].sdc, flat(&reference::sdc(&s, &brought[m].sdc, Turning::Right)));
-            assert_eq!(sent[m].msc, flat(&reference::super_frame(&s, &frames, m, Turning::Right)));
+            assert_eq!(sent[m].sdc, flat(&reference::sdc(&STANDARD, &s, &brought[m].sdc, Turning::Right)));
+            assert_eq!(sent[m].msc, flat(&reference::super_frame(&s, &before, &frames, m, Turning::Right)));
         }
+    }
+}
+
+/// Code with any start.
+fn code_with(start: Start, state: &mut State, memory: &mut [i16], bits: &BitBuffers, cells: &mut CellBuffers) -> u8 {
+    let bits = Bits { fac: &bits.fac, sdc: &bits.sdc, msc: &bits.msc };
+    let cells = CellsMut { fac: &mut cells.fac, sdc: &mut cells.sdc, msc: &mut cells.msc };
+    let (next, answer) = code_from(start, *state, memory, bits, cells);
+    *state = next;
+    answer
+}
+
+fn read_with(start: Start, state: &mut State, memory: &mut [i16], cells: &CellBuffers, bits: &mut BitBuffers) -> Answer {
+    let cells = Cells { fac: &cells.fac, sdc: &cells.sdc, msc: &cells.msc };
+    let bits = BitsMut { fac: &mut bits.fac, sdc: &mut bits.sdc, msc: &mut bits.msc };
+    let (next, answer) = read_from(start, *state, memory, cells, bits);
+    *state = next;
+    answer
+}
+
+/// A run of either start sends the standard's cells over it; with a zero frame's, no cell is (0, 0).
+#[test]
+fn runs_start_with_empty_cells_or_a_zero_frame() {
+    let mut random = Random(5);
+    for (k, start) in [Start::Empty, Start::ZeroFrame, Start::ZeroFrame].into_iter().enumerate() {
+        let s = Settings { msc: k as u8, vspp: 0, ..rich() };
+        let table = if k == 2 { random_table(&mut random) } else { STANDARD };
+        let mut memory = old_memory(&s);
+        let (mut state, answer) = reset_to(start, State::default(), s, &table, &mut memory);
+        assert_eq!(answer, 0);
+        let (mut reader, mut reader_memory) = (state, memory.clone());
+        let before = reference::before_the_first(start, &table, &s);
+        let mut frames = Vec::new();
+        for m in 0..3 {
+            let bits = BitBuffers::random(&s, &mut random, true);
+            let mut cells = CellBuffers::filled(&s, 0);
+            assert_eq!(code_with(start, &mut state, &mut memory, &bits, &mut cells), 0);
+            let bytes = s.lengths().frame_bits().div_ceil(8);
+            frames.extend(bits.msc.chunks(bytes).map(|b| reference::frame(&table, &s, b, Turning::Right)));
+            assert_eq!(cells.msc, flat(&reference::super_frame(&s, &before, &frames, m, Turning::Right)));
+            assert_eq!(cells.msc.chunks(2).any(|c| c == [0, 0]), start == Start::Empty && m < 2);
+            // The reader ignores the cells of frames before the first, and keeps what its memory has there.
+            if m == 0 {
+                cells.fill_ignored(2 * s.n_mux(), 0);
+            }
+            let answer = read_with(start, &mut reader, &mut reader_memory, &cells, &mut BitBuffers::filled(&s, 0));
+            assert_eq!(answer, Answer::Finished([0, 2, 3][m]));
+        }
+    }
+}
+
+/// In short interleaving too the one slot has the zero frame's cells.
+#[test]
+fn the_zero_frame_fills_every_slot() {
+    for interleaving in [0, 1] {
+        let s = Settings { interleaving, ..rich() };
+        let mut memory = old_memory(&s);
+        reset_to(Start::ZeroFrame, State::default(), s, &STANDARD, &mut memory);
+        let zero = flat(&reference::frame(&STANDARD, &s, &vec![0; s.sizes().msc_bytes / 3], Turning::Right));
+        assert_eq!(memory, zero.repeat(s.slots()));
+    }
+}
+
+/// (0, 0) in memory is 12 where runs start with a zero frame, in Code and in Read, at every count.
+#[test]
+fn empty_cells_in_memory() {
+    let s = rich();
+    for (start, code, read) in [(Start::Empty, 0, Answer::Finished(0)), (Start::ZeroFrame, 12, Answer::Refused { number: 12, block: 0 })] {
+        let mut memory = old_memory(&s);
+        let (state, _) = reset_to(start, State::default(), s, &STANDARD, &mut memory);
+        let (bits, mut cells) = (BitBuffers::filled(&s, 0), CellBuffers::filled(&s, 0));
+        assert_eq!(code_with(start, &mut state.clone(), &mut memory.clone(), &bits, &mut cells), 0);
+        memory[2 * s.n_mux() + 10..][..2].fill(0);
+        assert_eq!(code_with(start, &mut state.clone(), &mut memory.clone(), &bits, &mut cells), code);
+        assert_eq!(read_with(start, &mut state.clone(), &mut memory, &cells, &mut bits.clone()), read);
     }
 }
 
@@ -224,9 +376,9 @@ fn runs_give_the_standards_cells() {
 fn wrong_turnings_in_the_cell_interleaver_differ() {
     let s = rich();
     let (brought, sent) = run(&s, 2, 17);
-    let frames = frames(&s, &brought);
+    let (before, frames) = (reference::before_the_first(START, &STANDARD, &s), frames(&s, &brought));
     for turning in [Turning::DelayFromPlace, Turning::PlaceModuloN] {
-        assert_ne!(sent[1].msc, flat(&reference::super_frame(&s, &frames, 1, turning)), "{turning:?}");
+        assert_ne!(sent[1].msc, flat(&reference::super_frame(&s, &before, &frames, 1, turning)), "{turning:?}");
     }
 }
 

@@ -1,18 +1,17 @@
--- Dispersal undoes itself, and its sequence from a register of nine bits. Assumes nothing.
-use Prim.Native.Nat.{ℕ, zero, suc, _+_, _*_, _/_, _%_, _^_, _≤_, _<_}
+-- Dispersal undoes itself, and goes on from any bit. Assumes nothing.
+use Prim.Native.Nat.{ℕ, zero, suc, _+_, _-_, _%_, _≤_, _<_}
 use mathlib.Core.Path.{_≡_, refl, sym, ap, ap₂, _∙_}
-use mathlib.Core.List.{List, [], _∷_, _++_}
+use mathlib.Core.List.{List, [], _∷_, _++_, append-nil, append-assoc}
 use mathlib.Core.Logic.{_⊎_, inl, inr}
-use native.Mathlib.Nat.{add-zero, add-suc, suc-add, zero-div}
+use native.Mathlib.Nat.{add-zero, add-suc, suc-add}
 use native.Mathlib.Omega.{arith}
-use lib.ListN.{length, getD, take, drop, length-take, length-append, take-append-drop, replicate, getD-replicate, List·getD-eq-default}
-use lib.Seq.{take-at, drop-at}
+use lib.ListN.{length, getD, take, drop, length-take, length-drop, length-append, take-append-drop, drop-of-length-le}
+use lib.Seq.{take-at, drop-at, take-all, take-append-le, drop-append-le, take-append-add, drop-append-add}
 use Rattle.component.specs.Bits.{Bits}
 use Rattle.lists.proofs.Counting.{below-or}
 use Rattle.component.proofs.Bits.{bits-nil, bits-cons, bits-head, bits-rest, bits-append, bits-drop}
 use Rattle.block.proofs.Lists.{bits-take}
-use Rattle.block.proofs.Packing.{shr-suc}
-use Rattle.block.specs.Dispersal.{sequence, p, dispersed, dispersedParts}
+use Rattle.block.specs.Dispersal.{sequence, p, dispersed, dispersedParts, dispersedFrom}
 
 -- a bit of the sequence
 pub p-bit : (n : ℕ) → p n < 2
@@ -66,68 +65,36 @@ dispersedParts-twice v {xs} h B =
     rw (take-at _ (dispersed 0 (drop v xs)) v l, drop-at _ (dispersed 0 (drop v xs)) v l, dispersed-twice 0 (bits-take v B), dispersed-twice 0 (bits-drop v B))
     (take-append-drop v xs)
 
--- The register of nine bits: nine ones, then the newest bit comes in lowest and the oldest goes out.
-unfoldable pub bitOf : ℕ → ℕ
-bitOf register = (register / 256 + register / 16) % 2
+-- from the first bit on
+pub from-first : (v : ℕ) (xs : List ℕ) → dispersedFrom v 0 xs ≡ dispersedParts v xs
+unfolding dispersedFrom dispersedParts
+from-first v xs = let a : 0 - v ≡ 0 = omega arith in let b : v - 0 ≡ v = omega arith in rw (a, b)
 
-unfoldable pub shifted : ℕ → ℕ
-shifted register = (2 * register + bitOf register) % 512
+pub length-dispersedFrom : (v c : ℕ) (xs : List ℕ) → length (dispersedFrom v c xs) ≡ length xs
+unfolding dispersedFrom
+length-dispersedFrom v c xs = rw (length-append, length-dispersed, length-dispersed, ← length-append, take-append-drop)
 
-unfoldable pub registerAt : ℕ → ℕ
-registerAt zero = 511
-registerAt (suc n) = shifted (registerAt n)
+pub dispersed-nil : (t : ℕ) → dispersed t [] ≡ []
+unfolding dispersed
+dispersed-nil t = refl
 
--- a list of bits, lowest first, as a number
-value : List ℕ → ℕ
-value [] = 0
-value (a ∷ l) = a + 2 * value l
-
-value-digit : {l : List ℕ} → Bits l → (i : ℕ) → value l / 2 ^ i % 2 ≡ getD l i 0
-unfolding value
-value-digit {l = []} B i = rw zero-div
-value-digit {l = a ∷ l} B zero = omega (arith, bits-head B)
-value-digit {l = a ∷ l} B (suc i) =
-    let e : (a + 2 * value l) / 2 ≡ value l = omega (arith, bits-head B) in
-    rw (shr-suc, e) (value-digit (bits-rest B) i)
-
-bits-sequence : (n : ℕ) → Bits (sequence n)
-unfolding sequence
-bits-sequence zero = record { bit = λ k. go k (below-or k 9) }
+-- Two halves treated one after the other are the whole, wherever the cut is.
+pub from-append : (v c : ℕ) (xs ys : List ℕ) → dispersedFrom v c (xs ++ ys) ≡ dispersedFrom v c xs ++ dispersedFrom v (c + length xs) ys
+unfolding dispersedFrom
+from-append v c xs ys = go (below-or (length xs) (v - c))
   where
-    go : (k : ℕ) → (k < 9) ⊎ (9 ≤ k) → getD (replicate 9 1) k 0 < 2
-    go k (inl h) = rw (getD-replicate {A = ℕ} 9 k 1 0 h) (omega arith)
-    go k (inr h) = rw (List·getD-eq-default {A = ℕ} (replicate 9 1) 0 {n = k} h) (omega arith)
-bits-sequence (suc n) = bits-cons (omega arith) (bits-sequence n)
-
-next-bit : (n : ℕ) → p n ≡ (value (sequence n) / 2 ^ 8 + value (sequence n) / 2 ^ 4) % 2
-unfolding p sequence
-next-bit n = rw (← value-digit (bits-sequence n) 8, ← value-digit (bits-sequence n) 4) (omega arith)
-
-same-bit : (r v : ℕ) → r ≡ v % 512 → (r / 256 + r / 16) % 2 ≡ (v / 256 + v / 16) % 2
-same-bit r v e =
-    let a : r / 256 % 2 ≡ v / 256 % 2 = omega arith in
-    let b : r / 16 % 2 ≡ v / 16 % 2 = omega arith in
-    sums (r / 256) (r / 16) (v / 256) (v / 16) a b
-  where
-    sums : (a b c d : ℕ) → a % 2 ≡ c % 2 → b % 2 ≡ d % 2 → (a + b) % 2 ≡ (c + d) % 2
-    sums a b c d e f = omega arith
-
-same-shift : (r v b c : ℕ) → r ≡ v % 512 → b ≡ c → (2 * r + b) % 512 ≡ (c + 2 * v) % 512
-same-shift r v b c e f = omega arith
-
--- the register holds the last nine bits
-register-is : (n : ℕ) → registerAt n ≡ value (sequence n) % 512
-unfolding registerAt shifted bitOf sequence value p
-register-is zero = refl
-register-is (suc n) =
-    same-shift (registerAt n) (value (sequence n)) _ (p n) (register-is n) (same-bit (registerAt n) (value (sequence n)) (register-is n) ∙ sym (next-bit n))
-
--- the register gives the sequence
-pub register-bit : (n : ℕ) → bitOf (registerAt n) ≡ p n
-unfolding bitOf
-register-bit n = same-bit (registerAt n) (value (sequence n)) (register-is n) ∙ sym (next-bit n)
-
-pub register-low : (n : ℕ) → registerAt n < 512
-unfolding registerAt shifted
-register-low zero = omega arith
-register-low (suc n) = omega arith
+    go : (length xs < v - c) ⊎ (v - c ≤ length xs) → dispersed c (take (v - c) (xs ++ ys)) ++ dispersed (c - v) (drop (v - c) (xs ++ ys))
+        ≡ dispersed c (take (v - c) xs) ++ dispersed (c - v) (drop (v - c) xs)
+        ++ (dispersed (c + length xs) (take (v - (c + length xs)) ys) ++ dispersed (c + length xs - v) (drop (v - (c + length xs)) ys))
+    go (inl h) =
+        let m : v - c ≡ length xs + (v - (c + length xs)) = omega arith in
+        let t : take (v - c) (xs ++ ys) ≡ xs ++ take (v - (c + length xs)) ys = rw m (take-append-add xs ys (v - (c + length xs))) in
+        let d : drop (v - c) (xs ++ ys) ≡ drop (v - (c + length xs)) ys = rw m (drop-append-add xs ys (v - (c + length xs))) in
+        let z : c + length xs - v ≡ c - v = omega arith in
+        rw (t, d, z, take-all (v - c) xs (omega arith), drop-of-length-le xs {i = v - c} (omega arith), dispersed-nil (c - v), append-nil (dispersed c xs), dispersed-append c xs (take (v - (c + length xs)) ys))
+        (append-assoc (dispersed c xs) _ _)
+    go (inr h) =
+        let a : v - (c + length xs) ≡ 0 = omega arith in
+        let b : c + length xs - v ≡ c - v + length (drop (v - c) xs) = omega (arith, length-drop (v - c) xs) in
+        rw (take-append-le (v - c) xs ys h, drop-append-le (v - c) xs ys h, a, b, dispersed-append (c - v) (drop (v - c) xs) ys, dispersed-nil (c + length xs))
+        (sym (append-assoc (dispersed c (take (v - c) xs)) _ _))

@@ -17,7 +17,7 @@ use Rattle.lists.proofs.Parts.{from-start, to-end, length-start, length-end, le
 use Rattle.block.specs.declared.Level.{Level}
 use Rattle.block.specs.declared.Block.{Block}
 use Rattle.block.specs.Packing.{unpacked}
-use Rattle.block.specs.Dispersal.{dispersedParts}
+use Rattle.block.specs.Dispersal.{dispersedParts, dispersedFrom}
 use Rattle.block.specs.Levels.{streams}
 use Rattle.block.specs.Mapping.{constellation, labelAt, mapped, weave, woven}
 use Rattle.mapping.specs.Labels.{coordinates}
@@ -27,8 +27,9 @@ use Rattle.multilevel.specs.Contracts.{bitsBefore, streamAt, stepped, CodesLeve
 use Rattle.multilevel.proofs.Totals.{total-A, all-bits, streams-are, count-is, three, codes-levels, length-streamAt, number-low}
 use Rattle.block.proofs.Lists.{bits-take}
 use Rattle.block.proofs.Packing.{length-unpacked}
-use Rattle.block.proofs.Dispersal.{length-dispersedParts, bits-dispersedParts}
-use Rattle.blockcoder.specs.Contracts.{cellsBy, UnpacksParts, MapsParts, MapsAxesParts, CodesParts, CodesBits}
+use Rattle.block.proofs.Dispersal.{length-dispersedParts, bits-dispersedParts, from-first}
+use Rattle.dispersal.specs.Contracts.{Unpacks}
+use Rattle.blockcoder.specs.Contracts.{cellsBy, MapsParts, MapsAxesParts, CodesParts, CodesBits}
 use Rattle.block.specs.Fits.{BlockLent}
 use Rattle.blockcoder.proofs.Woven.{mapped-labels, labels-woven}
 
@@ -178,12 +179,11 @@ module _ {k : Block} {bytes : List ℕ} {out : List ℤ} (C : BlockLent k bytes 
   total-low e = omega (arith, C .fits .short)
 
   -- they are there
-  pub unpacks : {bits : List ℕ} → length bits ≡ bitCount k → UnpacksParts bytes (k .vspp) bits
+  pub unpacks : {bits : List ℕ} → length bits ≡ bitCount k → Unpacks bytes 0 bits
   unfolding bytesFor
   unpacks e =
       record {
         few = omega (arith, C .long, C .fits .short);
-        front = rw e (C .fits .front);
         there = omega (arith, C .long, e);
       }
 
@@ -223,9 +223,10 @@ module _ {k : Block} {bytes : List ℕ} {out : List ℤ} (C : BlockLent k bytes 
   pub bits-room : length (take (n - 0) buffer) ≡ bitCount k
   bits-room = length-start n buffer room ∙ h
 
-  pub bits-again : {part : List ℕ} → part ≡ dispersedParts (k .vspp) (unpacked (length (take (n - 0) buffer)) bytes)
+  pub bits-again : {part : List ℕ} → part ≡ dispersedFrom (k .vspp) 0 (unpacked (length (take (n - 0) buffer)) bytes)
       → (n ≤ length (part ++ drop (n - 0) buffer)) × (take (n - 0) (part ++ drop (n - 0) buffer) ≡ dispersedParts (k .vspp) (unpacked n bytes))
   bits-again {part} e =
-      let f : part ≡ dispersedParts (k .vspp) (unpacked n bytes) = e ∙ ap (λ m. dispersedParts (k .vspp) (unpacked m bytes)) (length-start n buffer room) in
+      let f : part ≡ dispersedParts (k .vspp) (unpacked n bytes) =
+      e ∙ from-first (k .vspp) (unpacked (length (take (n - 0) buffer)) bytes) ∙ ap (λ m. dispersedParts (k .vspp) (unpacked m bytes)) (length-start n buffer room) in
       let g : length part ≡ n = bits-long C h f in
       (rw (length-written buffer part n room g) room, written-front part buffer n g ∙ f)

@@ -1,43 +1,19 @@
--- Bits unpacked and labels mapped in two parts. Assumes nothing.
+-- Labels mapped in two parts. Assumes nothing.
 use Prim.Native.Nat.{ℕ, _-_, _*_, _≤_}
-use mathlib.Core.Path.{_≡_, sym, ap, ap₂, _∙_}
+use mathlib.Core.Path.{_≡_, sym, ap₂, _∙_}
 use mathlib.Core.List.{List, _++_}
 use native.Mathlib.Omega.{arith}
 use lib.ListN.{length, take, drop}
 use lib.Seq.{length-take-le}
 use lib.IntN.{ℤ}
-use Rattle.lists.specs.Lists.{table}
 use Rattle.lists.proofs.Tables.{length-table}
-use Rattle.block.specs.Packing.{bitAt, unpacked}
-use Rattle.block.specs.Dispersal.{dispersed, dispersedParts}
 use Rattle.block.specs.Mapping.{Constellation, constellation, weave}
 use Rattle.mapping.specs.Labels.{coordinates}
 use Rattle.mapping.specs.Contracts.{Maps, MapsAxes}
-use Rattle.block.proofs.Dispersal.{length-dispersed}
 use Rattle.block.proofs.Mapping.{length-weave}
-use Rattle.blockcoder.specs.Contracts.{UnpacksParts, MapsParts, MapsAxesParts}
+use Rattle.blockcoder.specs.Contracts.{MapsParts, MapsAxesParts}
 use Rattle.lists.proofs.Parts.{from-start, to-end, length-start, length-end, length-second, both-written}
-use Rattle.blockcoder.proofs.Lists.{take-table, drop-table, labels-take, labels-drop, coordinates-parts, weave-take, weave-drop}
-
-module _ {bytes : List ℕ} {v : ℕ} {bits : List ℕ} (U : UnpacksParts bytes v bits)
-    {p : List ℕ} (e : p ≡ dispersed 0 (table (bitAt bytes) 0 (length (take (v - 0) bits)))) where
-  -- the first part is written whole
-  length-bits : length p ≡ v
-  length-bits =
-      rw e (length-dispersed 0 (table (bitAt bytes) 0 (length (take (v - 0) bits))))
-      ∙ length-table (bitAt bytes) 0 (length (take (v - 0) bits)) ∙ length-start v bits (U .front)
-
-  -- both parts, each dispersed by itself
-  pub unpacked-parts : {q : List ℕ}
-      → q ≡ dispersed 0 (table (bitAt bytes) v (length (take (length (p ++ drop (v - 0) bits) - v) (drop v (p ++ drop (v - 0) bits)))))
-      → take v (p ++ drop (v - 0) bits) ++ (q ++ drop (length (p ++ drop (v - 0) bits) - v) (drop v (p ++ drop (v - 0) bits)))
-      ≡ dispersedParts v (unpacked (length bits) bytes)
-  unfolding dispersedParts unpacked
-  unpacked-parts {q} f =
-      both-written bits p v (U .front) length-bits q
-      ∙ ap₂ _++_
-      (e ∙ ap (λ n. dispersed 0 (table (bitAt bytes) 0 n)) (length-start v bits (U .front)) ∙ ap (dispersed 0) (sym (take-table (bitAt bytes) v (length bits) (U .front))))
-      (f ∙ ap (λ n. dispersed 0 (table (bitAt bytes) v n)) (length-second bits p v (U .front) length-bits) ∙ ap (dispersed 0) (sym (drop-table (bitAt bytes) v (length bits) (U .front))))
+use Rattle.blockcoder.proofs.Lists.{labels-take, labels-drop, coordinates-parts, weave-take, weave-drop}
 
 -- as many coordinates as labels
 pub length-coordinates : (k : Constellation) (labels : List ℕ) → length (coordinates k labels) ≡ length labels

@@ -1,32 +1,20 @@
 -- A buffer written in two parts, and lists in two parts. Assumes nothing.
 use Prim.Native.Nat.{ℕ, _+_, _-_, _*_, _/_, _%_, _≤_, _<_}
-use mathlib.Core.Path.{_≡_, sym, ap, ap₂, _∙_}
+use mathlib.Core.Path.{_≡_, sym, ap₂, _∙_}
 use mathlib.Core.Logic.{_⊎_, inl, inr}
 use mathlib.Core.Bool.{Bool, true, false, cond}
 use mathlib.Core.List.{List, _++_}
-use native.Mathlib.Nat.{zero-add}
 use native.Mathlib.Omega.{arith}
 use lib.ListN.{length, getD, take, drop, length-take, length-drop, List·getD-eq-default}
-use lib.Seq.{getD-take, getD-drop, length-take-le, take-at, drop-at}
+use lib.Seq.{getD-take, getD-drop, length-take-le}
 use lib.IntN.{ℤ, pos}
 use lib.Dec.{eqb}
 use Rattle.lists.specs.Lists.{table}
 use Rattle.lists.proofs.Counting.{below-or}
-use Rattle.lists.proofs.Tables.{length-table, table-ext, table-add, table-from}
+use Rattle.lists.proofs.Tables.{table-ext, table-from, table-parts, table-take, table-drop}
 use Rattle.block.specs.Mapping.{Constellation, axis, weave}
 use Rattle.mapping.specs.Labels.{coordinates}
 use Rattle.mapping.specs.Contracts.{ThreeBits}
-
--- a table's first values, and those after them
-module _ {A : Type 0} (f : ℕ → A) (m n : ℕ) (h : m ≤ n) where
-  pub table-parts : table f 0 n ≡ table f 0 m ++ table f m (n - m)
-  table-parts = let e : n ≡ m + (n - m) = omega arith in ap (table f 0) e ∙ table-add f 0 m (n - m) ∙ rw (zero-add m)
-
-  pub take-table : take m (table f 0 n) ≡ table f 0 m
-  take-table = rw table-parts (take-at (table f 0 m) (table f m (n - m)) m (length-table f 0 m))
-
-  pub drop-table : drop m (table f 0 n) ≡ table f m (n - m)
-  drop-table = rw table-parts (drop-at (table f 0 m) (table f m (n - m)) m (length-table f 0 m))
 
 -- the first labels of level bits, and those after them
 pub labels-take : {l : List ℕ} (n : ℕ) → ThreeBits l → ThreeBits (take n l)
@@ -66,7 +54,7 @@ module _ (re im : List ℕ) (n : ℕ) (h : n ≤ length re) where
   weave-take =
       rw (length-take-le n re h)
       (table-ext (λ j. getD (cond (eqb (j % 2) 0) (take n re) (take n im)) (j / 2) 0) w 0 (2 * n) (λ i x y. go i (eqb (i % 2) 0) (omega arith))
-      ∙ sym (take-table w (2 * n) (2 * length re) (omega arith)))
+      ∙ sym (table-take w (2 * n) (2 * length re) (omega arith)))
     where
       go : (i : ℕ) (b : Bool) → i / 2 < n → getD (cond b (take n re) (take n im)) (i / 2) 0 ≡ getD (cond b re im) (i / 2) 0
       go i true l = getD-take n re (i / 2) 0 l
@@ -83,7 +71,7 @@ module _ (re im : List ℕ) (n : ℕ) (h : n ≤ length re) where
       let r : (2 * n + i) % 2 ≡ i % 2 = omega arith in
       let q : (2 * n + i) / 2 ≡ n + i / 2 = omega arith in
       rw (r, q) (go i (eqb (i % 2) 0)))
-      ∙ sym (table-from w (2 * n) (2 * length re - 2 * n)) ∙ sym (drop-table w (2 * n) (2 * length re) (omega arith)))
+      ∙ sym (table-from w (2 * n) (2 * length re - 2 * n)) ∙ sym (table-drop w (2 * n) (2 * length re) (omega arith)))
     where
       go : (i : ℕ) (b : Bool) → getD (cond b (drop n re) (drop n im)) (i / 2) 0 ≡ getD (cond b re im) (n + i / 2) 0
       go i true = getD-drop n re (i / 2) 0

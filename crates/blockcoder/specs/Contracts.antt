@@ -16,12 +16,6 @@ use Rattle.blockcoder.specs.declared.Found.{Found}
 use Rattle.blockcoder.specs.declared.Found.the-variants.{Given, NoBits}
 use Rattle.block.specs.Reading.{unmapped, inputsA, inputsB, given, bytesRead}
 
--- Bytes that hold the bits wanted, the first v of which are dispersed by themselves.
-pub record UnpacksParts (bytes : List ℕ) (v : ℕ) (bits : List ℕ) : Type 0 where
-  pub few : length bytes ≤ 65536
-  pub front : v ≤ length bits
-  pub there : length bits ≤ 8 * length bytes
-
 -- ThreeBits of whole cells, the first n1 cells of which are part A's.
 pub record MapsParts (c n1 : ℕ) (labels : List ℕ) (out : List ℤ) : Type 0 where
   pub known : c < 5

@@ -30,8 +30,8 @@ fn disperse_parts(vspp: usize, bits: &mut [u8])
     requires { ⌜ vspp ≤ length (now bits) ⌝ }
     ensures { λ r. ⌜ now (bits .exit) ≡ dispersedParts vspp (now (bits .entry)) ⌝ }
 {
-    disperse(&mut bits[0..vspp]);
-    disperse(&mut bits[vspp..]);
+    disperse(0, &mut bits[0..vspp]);
+    disperse(0, &mut bits[vspp..]);
 }
 
 // The candidate: part A's bits are read to the front, part B's come through a buffer of their own.

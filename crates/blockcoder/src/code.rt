@@ -1,12 +1,12 @@
 // A block: packed bytes to cells. 01 "From bits to cells".
 use crate::parts::map_axes_parts;
 use crate::parts::map_parts;
-use crate::parts::unpack_parts;
 use block::Block;
 use block::HMMIX;
 use block::buffers::axis_buffer;
 use block::buffers::bit_buffer;
 use block::buffers::cell_buffer;
+use dispersal::parts::unpack_parts;
 use multilevel::code::code_levels;
 use multilevel::places::bit_count;
 use multilevel::places::bits_before;
@@ -45,7 +45,7 @@ fn code_axes(k: Block, a: &[u8], b: &[u8], out: &mut [i16])
 }
 
 // The dispersed bits of a block to its cells: part A's bits stand first.
-fn code_bits(k: Block, bits: &[u8], out: &mut [i16])
+pub fn code_bits(k: Block, bits: &[u8], out: &mut [i16])
     requires { ⌜ CodesBits k (now bits) (now out) ⌝ }
     ensures { λ r. ⌜ now (out .exit) ≡ cellsBy k (now (bits .entry)) ⌝ }
 {
@@ -64,6 +64,6 @@ pub fn code_block(k: Block, bytes: &[u8], out: &mut [i16])
 {
     let mut bits = bit_buffer();
     let total = bit_count(k);
-    unpack_parts(bytes, k.vspp, &mut bits[0..total]);
+    unpack_parts(bytes, k.vspp, 0, &mut bits[0..total]);
     code_bits(k, &bits[0..total], out);
 }

@@ -1,23 +1,10 @@
-// The steps from packed bytes to cells that treat a block in two parts. 01 "Dispersal" and "Mapping".
-use dispersal::bits::unpack_dispersed;
+// ThreeBits of level bits to cells in two parts. 01 "Mapping".
 use mapping::points::map_axes;
 use mapping::points::map_cells;
 ghost use mathlib.Core.Path.{_≡_};
-ghost use lib.ListN.{length};
-ghost use Rattle.block.specs.Packing.{unpacked};
-ghost use Rattle.block.specs.Dispersal.{dispersedParts};
 ghost use Rattle.block.specs.Mapping.{constellation, weave};
 ghost use Rattle.mapping.specs.Labels.{coordinates};
-ghost use Rattle.blockcoder.specs.Contracts.{UnpacksParts, MapsParts, MapsAxesParts};
-
-// The bits of the very strongly protected part and the remainder: the sequence starts anew for each.
-pub fn unpack_parts(bytes: &[u8], vspp: usize, bits: &mut [u8])
-    requires { ⌜ UnpacksParts (now bytes) vspp (now bits) ⌝ }
-    ensures { λ r. ⌜ now (bits .exit) ≡ dispersedParts vspp (unpacked (length (now (bits .entry))) (now (bytes .entry))) ⌝ }
-{
-    unpack_dispersed(bytes, 0, &mut bits[0..vspp]);
-    unpack_dispersed(bytes, vspp, &mut bits[vspp..]);
-}
+ghost use Rattle.blockcoder.specs.Contracts.{MapsParts, MapsAxesParts};
 
 // Part A's labels to the first n1 cells, part B's to the cells from there on by the same step.
 pub fn map_parts(c: u8, n1: usize, labels: &[u8], out: &mut [i16])

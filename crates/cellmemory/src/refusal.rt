@@ -15,7 +15,6 @@ ghost use lib.ListN.{length};
 ghost use Prim.Native.Nat.{_*_, _≤_};
 ghost use Rattle.settings.specs.Refusal.{refusal};
 ghost use Rattle.settings.specs.Lengths.{lSdc};
-ghost use Rattle.settings.specs.Sizes.{frameBits};
 ghost use Rattle.block.specs.Packing.{spareZero};
 ghost use Rattle.lists.specs.Bools.{every};
 ghost use Rattle.superframe.specs.Call.{parts, inOrder};
@@ -71,15 +70,6 @@ fn frames_spare(bits: usize, bytes: usize, msc: &[u8]) -> bool
     passed
 }
 
-// The bits of a multiplex frame.
-fn frame_bits(s: Settings) -> usize
-    requires { ⌜ refusal s ≡ 0 ⌝ }
-    ensures { λ r. ⌜ r ≡ frameBits s ⌝ }
-{
-    let l = answers::lengths(s);
-    l.vspp as usize + (l.l1 as usize + l.l2 as usize)
-}
-
 // The bits of an SDC block.
 fn sdc_bits(s: Settings) -> usize
     requires { ⌜ refusal s ≡ 0 ⌝ }
@@ -96,7 +86,7 @@ pub fn spares_zero(s: Settings, sdc: &[u8], msc: &[u8]) -> bool
     if !spare_zero(sdc, sdc_bits(s)) {
         return false;
     }
-    frames_spare(frame_bits(s), answers::frame_bytes(s), msc)
+    frames_spare(answers::frame_bits(s), answers::frame_bytes(s), msc)
 }
 
 // 12: position and count are below the depth, and every memory cell is (0, 0) or an MSC point.

@@ -1,10 +1,21 @@
--- What the functions of this crate require of the buffers that they are lent: nothing of 01 is stated here.
-use Prim.Native.Nat.{ℕ, _+_, _*_, _≤_}
+-- What the functions of this crate require of the buffers that they are lent, and the register that gives the sequence: nothing of 01 is stated here.
+use Prim.Native.Nat.{ℕ, zero, suc, _+_, _*_, _/_, _%_, _≤_}
 use mathlib.Core.Path.{_≡_}
 use mathlib.Core.List.{List}
 use lib.ListN.{length}
 use Rattle.component.specs.Bits.{Bits}
 use Rattle.lists.specs.Bytes.{bytesFor}
+
+-- The register of nine bits: nine ones, then the newest bit comes in lowest and the oldest goes out.
+unfoldable pub bitOf : ℕ → ℕ
+bitOf register = (register / 256 + register / 16) % 2
+
+unfoldable pub shifted : ℕ → ℕ
+shifted register = (2 * register + bitOf register) % 512
+
+unfoldable pub registerAt : ℕ → ℕ
+registerAt zero = 511
+registerAt (suc n) = shifted (registerAt n)
 
 -- The bits from place `from` on that fill out stand in the bytes, of which there are few enough to count their bits.
 pub record Unpacks (bytes : List ℕ) (from : ℕ) (out : List ℕ) : Type 0 where
@@ -16,3 +27,9 @@ pub record Packs (bits out : List ℕ) : Type 0 where
   pub input : Bits bits
   pub few : length bits ≤ 524288
   pub same : length out ≡ bytesFor (length bits)
+
+-- n bits, at most so many: as many bytes as they take, and as many of the output.
+pub record Disperses (most n : ℕ) (bytes out : List ℕ) : Type 0 where
+  pub small : n ≤ most
+  pub long : length bytes ≡ bytesFor n
+  pub same : length out ≡ bytesFor n

@@ -6,14 +6,32 @@ ghost use Rattle.component.specs.Bits.{Bits};
 ghost use Rattle.lists.specs.Lists.{table};
 ghost use Rattle.block.specs.Packing.{bitAt, digits, packed, spareZero};
 ghost use Rattle.block.specs.Dispersal.{dispersed};
-ghost use Rattle.dispersal.specs.Contracts.{Unpacks, Packs};
+ghost use Rattle.dispersal.specs.Contracts.{registerAt, Unpacks, Packs};
 
-// The bits from place `from` on, added modulo 2 to the sequence from its start. The state holds the sequence's last nine bits, the newest lowest.
-pub fn unpack_dispersed(bytes: &[u8], from: usize, out: &mut [u8])
-    requires { ⌜ Unpacks (now bytes) from (now out) ⌝ }
-    ensures { λ r. ⌜ now (out .exit) ≡ dispersed 0 (table (bitAt (now (bytes .entry))) from (length (now (out .entry)))) ⌝ }
+// The sequence repeats after so many bits.
+pub const PERIOD: usize = 511;
+
+// The sequence's last nine bits, the newest lowest, where `treated` bits have been treated since the nine ones.
+fn register(treated: u16) -> u32
+    ensures { λ r. ⌜ r ≡ registerAt treated ⌝ }
 {
+    let steps = treated as usize % PERIOD;
     let mut state: u32 = 511;
+    let mut i = 0;
+    while i < steps {
+        let next = (state / 256 + state / 16) % 2;
+        state = (2 * state + next) % 512;
+        i += 1;
+    }
+    state
+}
+
+// The bits from place `from` on, added modulo 2 to the sequence: bit i of them to p(treated + i).
+pub fn unpack_dispersed(bytes: &[u8], from: usize, treated: u16, out: &mut [u8])
+    requires { ⌜ Unpacks (now bytes) from (now out) ⌝ }
+    ensures { λ r. ⌜ now (out .exit) ≡ dispersed treated (table (bitAt (now (bytes .entry))) from (length (now (out .entry)))) ⌝ }
+{
+    let mut state = register(treated);
     let mut i = 0;
     while i < out.len() {
         let at = from + i;
@@ -24,11 +42,11 @@ pub fn unpack_dispersed(bytes: &[u8], from: usize, out: &mut [u8])
     }
 }
 
-// Bits added modulo 2 to the sequence from its start, in place.
-pub fn disperse(bits: &mut [u8])
-    ensures { λ r. ⌜ now (bits .exit) ≡ dispersed 0 (now (bits .entry)) ⌝ }
+// Bits added modulo 2 to the sequence in place: bit i to p(treated + i).
+pub fn disperse(treated: u16, bits: &mut [u8])
+    ensures { λ r. ⌜ now (bits .exit) ≡ dispersed treated (now (bits .entry)) ⌝ }
 {
-    let mut state: u32 = 511;
+    let mut state = register(treated);
     let mut i = 0;
     while i < bits.len() {
         let next = (state / 256 + state / 16) % 2;

@@ -2,6 +2,7 @@
 pub mod bytes;
 pub mod calls;
 pub mod decide;
+pub mod disperse;
 pub mod fac;
 pub mod grids;
 pub mod numbers;

@@ -10,7 +10,7 @@ use lib.Dec.{ltb, eqb, lit≤}
 use Rattle.lists.proofs.Bools.{and-left, and-right}
 use Rattle.settings.specs.declared.Settings.{Settings}
 use Rattle.settings.specs.Refusal.{first, refusal}
-use Rattle.settings.proofs.Chain.{passes, first-passes, first-next}
+use Rattle.settings.proofs.Chain.{passes, own-next, first-passes, first-next}
 use Rattle.facfields.specs.Fields.{fieldCount, fieldsOf, numbersOf, within, agrees}
 use Rattle.facfields.specs.Block.{blockBytes, blockOf, fieldsIn, crcRight}
 use Rattle.facfields.specs.Build.{buildYield, buildRefusal, buildOf}
@@ -20,19 +20,6 @@ use Rattle.facfields.specs.Read.{readYield, readRefusal, readOf}
 own : (r m : ℕ) → (r ≡ 0 → ⊥) → r ≡ first (ltb 0 r) r m
 unfolding first
 own r m h = rw (lt-ltb 0 r (omega arith))
-
-own-next : (r m : ℕ) → first (ltb 0 r) r m ≡ 0 → m ≡ 0
-unfolding first
-own-next r m h = rw (passes r m h) at h
-
--- a test that holds, and one that does not
-pub hold : (t : Bool) (n m : ℕ) → t ≡ true → n ≡ first t n m
-unfolding first
-hold t n m e = rw e
-
-pub pass : (t : Bool) (n m : ℕ) → t ≡ false → m ≡ first t n m
-unfolding first
-pass t n m e = rw e
 
 module _ (s : Settings) (numbers block : List ℕ) where
   -- what acceptance of a call that builds says

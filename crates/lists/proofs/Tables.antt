@@ -2,12 +2,12 @@
 use mathlib.Core.Path.{_≡_, refl, sym, ap, ap₂, _∙_}
 use mathlib.Core.Logic.{_⊎_, inl, inr}
 use mathlib.Core.List.{List, [], _∷_, _++_, map}
-use Prim.Native.Nat.{ℕ, zero, suc, _+_, _≤_, _<_}
+use Prim.Native.Nat.{ℕ, zero, suc, _+_, _-_, _≤_, _<_}
 use native.Mathlib.Nat.{add-zero, zero-add, add-suc, suc-add, eq-or-lt-of-le, le-of-suc-le-suc}
 use native.Mathlib.Numerals.{add-one}
 use native.Mathlib.Omega.{arith}
-use lib.ListN.{length, getD, set, take, length-set, length-take, replicate}
-use lib.Seq.{ext-getD, getD-set-same, getD-set-other, getD-take}
+use lib.ListN.{length, getD, set, take, drop, length-set, length-take, replicate}
+use lib.Seq.{ext-getD, getD-set-same, getD-set-other, getD-take, take-at, drop-at}
 use Rattle.lists.specs.Lists.{table, total}
 
 -- a table has as many elements as it says
@@ -49,6 +49,17 @@ table-add f k (suc m) n = rw (suc-add, add-suc, ← suc-add) (ap (λ l. f k ∷ 
 -- a table from a place on is a table from 0
 pub table-from : {A : Type 0} (f : ℕ → A) (k n : ℕ) → table f k n ≡ table (λ i. f (k + i)) 0 n
 table-from f k n = sym (table-is (λ i. f (k + i)) (f 0) n (table f k n) (length-table f k n) (λ i h. sym (table-at f k n i (f 0) h)))
+
+-- a table's first values, and those after them
+module _ {A : Type 0} (f : ℕ → A) (m n : ℕ) (h : m ≤ n) where
+  pub table-parts : table f 0 n ≡ table f 0 m ++ table f m (n - m)
+  table-parts = let e : n ≡ m + (n - m) = omega arith in ap (table f 0) e ∙ table-add f 0 m (n - m) ∙ rw (zero-add m)
+
+  pub table-take : take m (table f 0 n) ≡ table f 0 m
+  table-take = rw table-parts (take-at (table f 0 m) (table f m (n - m)) m (length-table f 0 m))
+
+  pub table-drop : drop m (table f 0 n) ≡ table f m (n - m)
+  table-drop = rw table-parts (drop-at (table f 0 m) (table f m (n - m)) m (length-table f 0 m))
 
 -- a function of every value of a table
 pub map-table : {A B : Type 0} (g : A → B) (f : ℕ → A) (k n : ℕ) → map g (table f k n) ≡ table (λ i. g (f i)) k n

@@ -56,7 +56,7 @@ fn flips() -> [u8; FAC_BITS]
     ensures { λ r. ⌜ r ≡ facFlips ⌝ }
 {
     let mut flips = [0u8; FAC_BITS];
-    disperse(&mut flips);
+    disperse(0, &mut flips);
     flips
 }
 

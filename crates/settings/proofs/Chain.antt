@@ -40,6 +40,15 @@ unfolding first
 first-next true n m h e = absurd (omega arith)
 first-next false n m h e = e
 
+-- A test that holds gives its number, and one that does not the next.
+pub hold : (t : Bool) (n m : ℕ) → t ≡ true → n ≡ first t n m
+unfolding first
+hold t n m e = rw e
+
+pub pass : (t : Bool) (n m : ℕ) → t ≡ false → m ≡ first t n m
+unfolding first
+pass t n m e = rw e
+
 or-left : (a b : Bool) → a || b ≡ false → a ≡ false
 or-left true b e = e
 or-left false b e = refl
@@ -127,6 +136,11 @@ passes zero m e = refl
 passes (suc r) m e =
     let f : suc r ≡ 0 = rw (lt-ltb 0 (suc r) (omega arith)) at e in
     absurd (omega arith)
+
+-- what follows the number of the settings
+pub own-next : (r m : ℕ) → first (ltb 0 r) r m ≡ 0 → m ≡ 0
+unfolding first
+own-next r m h = rw (passes r m h) at h
 
 pub range-passes : (s : Settings) → refusal s ≡ 0 → rangeRefusal s ≡ 0
 unfolding refusal

@@ -9,7 +9,7 @@ ghost use mathlib.Core.Path.{_≡_};
 ghost use Prim.Native.Nat.{_*_, _≤_};
 ghost use Rattle.settings.specs.Accepted.{Accepted};
 ghost use Rattle.settings.specs.Lengths.{lengthsOf, accepted, refused, nMux};
-ghost use Rattle.settings.specs.Sizes.{sizesOf, allSizes, noSizes, depth, frameBytes};
+ghost use Rattle.settings.specs.Sizes.{sizesOf, allSizes, noSizes, depth, frameBits, frameBytes};
 ghost use Rattle.lists.specs.Bytes.{bytesFor};
 
 // The five lengths, 0 where the settings are refused.
@@ -75,11 +75,20 @@ pub fn sizes(s: Settings) -> Sizes
 }
 
 // The bytes of so many bits, each block and frame beginning a byte.
-fn bytes_for(bits: usize) -> usize
+pub fn bytes_for(bits: usize) -> usize
     requires { ⌜ bits ≤ 65535 ⌝ }
     ensures { λ r. ⌜ r ≡ bytesFor bits ⌝ }
 {
     formulas::round_up(bits, 8)
+}
+
+// The bits of a multiplex frame.
+pub fn frame_bits(s: Settings) -> usize
+    requires { ⌜ Accepted s ⌝ }
+    ensures { λ r. ⌜ r ≡ frameBits s ⌝ }
+{
+    let l = all_lengths(s);
+    l.vspp as usize + (l.l1 as usize + l.l2 as usize)
 }
 
 // The bytes of a multiplex frame.
@@ -87,8 +96,7 @@ pub fn frame_bytes(s: Settings) -> usize
     requires { ⌜ Accepted s ⌝ }
     ensures { λ r. ⌜ r ≡ frameBytes s ⌝ }
 {
-    let l = all_lengths(s);
-    bytes_for(l.vspp as usize + (l.l1 as usize + l.l2 as usize))
+    bytes_for(frame_bits(s))
 }
 
 // The numbers of memory: a slot of N_MUX cells for each frame of the depth.

@@ -1,23 +1,27 @@
 //! The archive's functions, as include/drmcoder.h declares them, and a call of them between guards.
 
 use crate::lent::{Kind, Lent};
+use second::forms::MemoryElement;
+use second::memory::Element;
 
 mod c {
+    use second::forms::MemoryElement;
+
     extern "C" {
         pub fn drm_lengths(settings: *const u8, settings_len: usize, lengths: *mut u16, lengths_len: usize) -> u8;
         pub fn drm_sizes(settings: *const u8, settings_len: usize, sizes: *mut u32, sizes_len: usize) -> u8;
         pub fn drm_reset(
             state: *mut u8, state_len: usize, settings: *const u8, settings_len: usize,
-            memory: *mut i16, memory_len: usize,
+            memory: *mut MemoryElement, memory_len: usize,
         ) -> u8;
         pub fn drm_code(
-            state: *mut u8, state_len: usize, memory: *mut i16, memory_len: usize,
+            state: *mut u8, state_len: usize, memory: *mut MemoryElement, memory_len: usize,
             fac: *const u8, fac_len: usize, sdc: *const u8, sdc_len: usize, msc: *const u8, msc_len: usize,
             fac_cells: *mut i16, fac_cells_len: usize, sdc_cells: *mut i16, sdc_cells_len: usize,
             msc_cells: *mut i16, msc_cells_len: usize,
         ) -> u8;
         pub fn drm_read(
-            state: *mut u8, state_len: usize, memory: *mut i16, memory_len: usize,
+            state: *mut u8, state_len: usize, memory: *mut MemoryElement, memory_len: usize,
             fac_cells: *const i16, fac_cells_len: usize, sdc_cells: *const i16, sdc_cells_len: usize,
             msc_cells: *const i16, msc_cells_len: usize,
             fac: *mut u8, fac_len: usize, sdc: *mut u8, sdc_len: usize, msc: *mut u8, msc_len: usize,
@@ -47,7 +51,7 @@ pub fn sizes(settings: &[u8], sizes: &mut [u32]) -> u8 {
     unsafe { c::drm_sizes(settings.as_ptr(), settings.len(), sizes.as_mut_ptr(), sizes.len()) }
 }
 
-pub fn reset(state: &mut [u8], settings: &[u8], memory: &mut [i16]) -> u8 {
+pub fn reset(state: &mut [u8], settings: &[u8], memory: &mut [MemoryElement]) -> u8 {
     unsafe {
         c::drm_reset(
             state.as_mut_ptr(), state.len(), settings.as_ptr(), settings.len(), memory.as_mut_ptr(), memory.len(),
@@ -56,7 +60,7 @@ pub fn reset(state: &mut [u8], settings: &[u8], memory: &mut [i16]) -> u8 {
 }
 
 /// Bytes and cells in the order FAC, SDC, MSC.
-pub fn code(state: &mut [u8], memory: &mut [i16], bytes: [&[u8]; 3], cells: [&mut [i16]; 3]) -> u8 {
+pub fn code(state: &mut [u8], memory: &mut [MemoryElement], bytes: [&[u8]; 3], cells: [&mut [i16]; 3]) -> u8 {
     unsafe {
         c::drm_code(
             state.as_mut_ptr(), state.len(), memory.as_mut_ptr(), memory.len(),
@@ -68,7 +72,7 @@ pub fn code(state: &mut [u8], memory: &mut [i16], bytes: [&[u8]; 3], cells: [&mu
 }
 
 /// Cells and bytes in the order FAC, SDC, MSC.
-pub fn read(state: &mut [u8], memory: &mut [i16], cells: [&[i16]; 3], bytes: [&mut [u8]; 3]) -> u16 {
+pub fn read(state: &mut [u8], memory: &mut [MemoryElement], cells: [&[i16]; 3], bytes: [&mut [u8]; 3]) -> u16 {
     unsafe {
         c::drm_read(
             state.as_mut_ptr(), state.len(), memory.as_mut_ptr(), memory.len(),
@@ -142,7 +146,8 @@ pub fn answer(kind: Kind, lent: &mut Lent) -> Result<u16, String> {
     let mut state = Guarded::new(&lent.state, 0xA5);
     let mut lengths_out = Guarded::new(&lent.lengths, 0xA5A5);
     let mut sizes_out = Guarded::new(&lent.sizes, 0xA5A5A5A5);
-    let mut memory = Guarded::new(&lent.memory, 0x5A5A);
+    let mut lent_memory = MemoryElement::memory(&lent.memory);
+    let mut memory = Guarded::new(&lent_memory, MemoryElement::GUARD);
     let [mut fac, mut sdc, mut msc] = [&lent.fac, &lent.sdc, &lent.msc].map(|b| Guarded::new(b, 0xA5));
     let cells = [&lent.fac_cells, &lent.sdc_cells, &lent.msc_cells];
     let [mut fac_cells, mut sdc_cells, mut msc_cells] = cells.map(|b| Guarded::new(b, 0x5A5A));
@@ -166,7 +171,8 @@ pub fn answer(kind: Kind, lent: &mut Lent) -> Result<u16, String> {
     state.back("state", &mut lent.state)?;
     lengths_out.back("lengths", &mut lent.lengths)?;
     sizes_out.back("sizes", &mut lent.sizes)?;
-    memory.back("memory", &mut lent.memory)?;
+    memory.back("memory", &mut lent_memory)?;
+    lent.memory = MemoryElement::numbers(&lent_memory);
     fac.back("FAC bytes", &mut lent.fac)?;
     sdc.back("SDC bytes", &mut lent.sdc)?;
     msc.back("MSC bytes", &mut lent.msc)?;

@@ -2,10 +2,14 @@
 
 use crate::lent::{Kind, Lent};
 use crate::{archive, own};
+use second::forms::MemoryElement;
+use second::memory::Element;
 
 /// Makes the call with both programs. The answer on which they agree, the buffers then being as the archive left them;
 /// an error says where they differ, or what a refused call wrote.
 pub fn call(kind: Kind, lent: &mut Lent) -> Result<u16, String> {
+    // Memory as the form that is lent can hold it.
+    lent.memory = MemoryElement::numbers(&MemoryElement::memory(&lent.memory));
     let before = lent.clone();
     let mut expected = lent.clone();
     let own = own::answer(kind, &mut expected);

@@ -6,6 +6,7 @@ use crate::draw::Draw;
 use crate::lent::{Kind, Lent};
 use second::fac;
 use second::settings::Settings;
+use second::table::ENTRIES;
 
 pub struct Change {
     pub name: &'static str,
@@ -29,14 +30,16 @@ static OF_LENGTHS: [Change; 1] = [change("length of lengths", |l, _, d| length(&
 
 static OF_SIZES: [Change; 1] = [change("length of sizes", |l, _, d| length(&mut l.sizes, d))];
 
-static OF_RESET: [Change; 3] = [
+static OF_RESET: [Change; 5] = [
     change("length of state", |l, _, d| length(&mut l.state, d)),
     change("length of memory", memory_length),
     change("old state", |l, _, d| l.state.iter_mut().for_each(|b| *b = d.byte())),
+    change("table", |l, _, d| table(&mut l.table, d)),
+    change("length of table", |l, _, d| length(&mut l.table, d)),
 ];
 
 /// For calls on a super frame.
-static OF_SUPER_FRAME: [Change; 18] = [
+static OF_SUPER_FRAME: [Change; 19] = [
     change("length of state", |l, _, d| length(&mut l.state, d)),
     change("a setting", |l, _, d| setting(&mut l.state, d)),
     change("X", |l, _, d| put_x(&mut l.state, d)),
@@ -52,6 +55,7 @@ static OF_SUPER_FRAME: [Change; 18] = [
     change("count", |l, _, d| put(&mut l.state, 11, d)),
     change("position in range", |l, _, d| in_range(&mut l.state, 10, d)),
     change("count in range", |l, _, d| in_range(&mut l.state, 11, d)),
+    change("table in the state", |l, _, d| table(l.state.get_mut(12..).unwrap_or_default(), d)),
     change("slots of memory", slots),
     change("number in memory", |l, _, d| number(&mut l.memory, d)),
     change("cell in memory", |l, s, d| cell(&mut l.memory, s.msc_top(), d)),
@@ -181,7 +185,7 @@ fn in_range(state: &mut [u8], at: usize, draw: &mut Draw) {
 /// The same memory with its slots moved round, and the position with them: results are the same but for that.
 fn slots(lent: &mut Lent, s: &Settings, draw: &mut Draw) {
     let shift = draw.below(5);
-    let right = lent.memory.len() == s.sizes().memory_numbers && lent.state.len() == 12;
+    let right = lent.memory.len() == s.sizes().memory_numbers && lent.state.len() >= 12;
     if s.long() && right && lent.state[10] < 5 {
         lent.memory.rotate_right(shift * 2 * s.n_mux());
         lent.state[10] = (lent.state[10] + shift as u8) % 5;
@@ -263,6 +267,22 @@ pub fn ignored(lent: &mut Lent, s: &Settings, draw: &mut Draw) {
     }
 }
 
+/// A number of a table changed, or two so that the ones of a rate may stay as many; or another table that passes.
+pub(crate) fn table(table: &mut [u8], draw: &mut Draw) {
+    if draw.below(5) == 0 && table.len() == ENTRIES {
+        return table.copy_from_slice(&draw.table());
+    }
+    let Some(at) = draw.place(table) else { return };
+    match draw.below(4) {
+        0 => table[at] = draw.pick(&[2, 3, 128, 255]),
+        1 => table[at] ^= 1,
+        _ => {
+            let other = (at + draw.pick(&[1, 2, 3, 4, 7, 8])) % table.len();
+            table.swap(at, other)
+        }
+    }
+}
+
 /// Any number in a field.
 fn field(fields: &mut [u32], draw: &mut Draw) {
     if let Some(at) = draw.place(fields) {
@@ -288,7 +308,7 @@ fn named(fields: &mut [u32], draw: &mut Draw) {
     }
 }
 
-fn bit(bytes: &mut [u8], draw: &mut Draw) {
+pub(crate) fn bit(bytes: &mut [u8], draw: &mut Draw) {
     if let Some(at) = draw.place(bytes) {
         bytes[at] ^= 1 << draw.below(8);
     }
@@ -307,6 +327,17 @@ fn reserved(block: &mut [u8], draw: &mut Draw) {
 fn right_crc(block: &mut [u8]) {
     if let Some((last, parameters)) = block.split_last_mut() {
         *last = fac::crc_of(parameters);
+    }
+}
+
+/// Makes some changes of received cells, and of no lengths.
+pub fn spoil_cells(lent: &mut Lent, s: &Settings, draw: &mut Draw) {
+    for _ in 0..draw.pick(&[0, 0, 1, 2, 3]) {
+        match draw.below(3) {
+            0 => several_numbers(lent, s, draw),
+            1 => several_points(lent, s, draw),
+            _ => cell(&mut lent.msc_cells, s.msc_top(), draw),
+        }
     }
 }
 

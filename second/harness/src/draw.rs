@@ -3,6 +3,7 @@
 use second::fac;
 use second::rates;
 use second::settings::{Settings, FAC_BITS, FAC_BYTES};
+use second::table::{self, Table, STANDARD};
 
 /// SplitMix64.
 pub struct Draw(pub u64);
@@ -88,6 +89,11 @@ impl Draw {
     pub fn old_numbers(&mut self, len: usize) -> Vec<i16> {
         let start = self.word() as i16;
         (0..len).map(|i| start.wrapping_add(i as i16)).collect()
+    }
+
+    /// A puncturing table that passes: the standard's now and then.
+    pub fn table(&mut self) -> Table {
+        if self.below(5) == 0 { STANDARD } else { table::drawn(|n| self.below(n)) }
     }
 
     /// Fields of an FAC block that agree with the settings.

@@ -41,6 +41,7 @@ pub struct Lent {
     pub sdc_cells: Vec<i16>,
     pub msc_cells: Vec<i16>,
     pub fields: Vec<u32>,
+    pub table: Vec<u8>,
 }
 
 impl Lent {
@@ -58,6 +59,7 @@ impl Lent {
             .or_else(|| first("SDC cells", &self.sdc_cells, &other.sdc_cells))
             .or_else(|| first("MSC cells", &self.msc_cells, &other.msc_cells))
             .or_else(|| first("fields", &self.fields, &other.fields))
+            .or_else(|| first("table", &self.table, &other.table))
     }
 }
 

@@ -6,6 +6,8 @@
 use crate::{archive, own};
 use second::buffers::BitBuffers;
 use second::digest::Random;
+use second::forms::{MemoryElement, STATE_BYTES};
+use second::memory::Element;
 use second::settings::Settings;
 
 #[derive(Clone, Copy, PartialEq, Eq, Debug)]
@@ -17,8 +19,10 @@ pub enum Program {
 /// A state with its memory.
 #[derive(Clone)]
 struct Side {
-    state: [u8; 12],
+    state: [u8; STATE_BYTES],
     memory: Vec<i16>,
+    /// The same for the library.
+    lent: Vec<MemoryElement>,
 }
 
 #[derive(Clone)]
@@ -38,7 +42,7 @@ impl Rig {
         let s = &settings;
         let z = s.sizes();
         let bits = BitBuffers::random(s, &mut Random(1), true);
-        let side = Side { state: [0; 12], memory: vec![0; z.memory_numbers] };
+        let side = Side { state: [0; STATE_BYTES], memory: vec![0; z.memory_numbers], lent: Vec::new() };
         let mut rig = Rig {
             settings,
             coder: side.clone(),
@@ -54,6 +58,9 @@ impl Rig {
             rig.code(Program::Second);
             own_read(&mut rig);
         }
+        for side in [&mut rig.coder, &mut rig.reader] {
+            side.lent = MemoryElement::memory(&side.memory);
+        }
         rig
     }
 
@@ -65,11 +72,11 @@ impl Rig {
 
     /// One call of Code, which must be accepted.
     pub fn code(&mut self, program: Program) {
-        let Side { state, memory } = &mut self.coder;
+        let Side { state, memory, lent } = &mut self.coder;
         let bytes = self.bytes.each_ref().map(|b| b.as_slice());
         let cells = self.cells.each_mut().map(|c| c.as_mut_slice());
         let answer = match program {
-            Program::Library => archive::code(state, memory, bytes, cells),
+            Program::Library => archive::code(state, lent, bytes, cells),
             Program::Second => own::code(state, memory, bytes, cells),
         };
         assert_eq!(answer, 0);
@@ -77,11 +84,11 @@ impl Rig {
 
     /// One call of Read, which must finish three frames.
     pub fn read(&mut self, program: Program) {
-        let Side { state, memory } = &mut self.reader;
+        let Side { state, memory, lent } = &mut self.reader;
         let cells = self.cells.each_ref().map(|c| c.as_slice());
         let bytes = self.read_bytes.each_mut().map(|b| b.as_mut_slice());
         let answer = match program {
-            Program::Library => archive::read(state, memory, cells, bytes),
+            Program::Library => archive::read(state, lent, cells, bytes),
             Program::Second => own::read(state, memory, cells, bytes),
         };
         assert_eq!(answer, 3);

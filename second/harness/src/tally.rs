@@ -1,10 +1,15 @@
 //! How often each answer occurred.
 
 use crate::lent::{Kind, KINDS};
+use second::forms::STATE_BYTES;
+use second::superframe::ALL_BYTES;
 use std::collections::BTreeMap;
 
-/// The greatest refusal but 255.
-const LAST: u8 = 16;
+/// Refusals of the calls here; 23 looks at a table in the state.
+fn refusals() -> Vec<u8> {
+    let table = if STATE_BYTES == ALL_BYTES { Some(23) } else { None };
+    (1..=16).chain(table).chain([255]).collect()
+}
 
 /// The refusals that a kind of call can give.
 fn possible(kind: Kind) -> Vec<u8> {
@@ -16,7 +21,9 @@ fn possible(kind: Kind) -> Vec<u8> {
         Kind::FacBuild => &[9, 10, 15],
         Kind::FacRead => &[9, 10, 15, 16],
     };
-    (1..=7).chain(after.iter().copied()).chain([255]).collect()
+    let table = matches!(kind, Kind::Code | Kind::Read).then_some(23);
+    let all = (1..=7).chain(after.iter().copied()).chain(table).chain([255]);
+    all.filter(|n| refusals().contains(n)).collect()
 }
 
 #[derive(Default)]
@@ -55,7 +62,7 @@ impl Tally {
         row("", &|kind| kind.name().to_string());
         row("calls", &|kind| (0..=255).map(|n| self.of(kind, n)).sum::<u32>().to_string());
         row("accepted", &|kind| self.of(kind, 0).to_string());
-        for n in (1..=LAST).chain([255]) {
+        for n in refusals() {
             let shown = |kind| if possible(kind).contains(&n) { self.of(kind, n).to_string() } else { "-".to_string() };
             row(&format!("refusal {n}"), &shown);
         }

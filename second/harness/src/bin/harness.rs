@@ -4,14 +4,17 @@
 use harness::calls::Archive;
 use harness::compare;
 use harness::damage::{ignored, spoil};
+use harness::{disperse, halves, requests};
 use harness::draw::Draw;
 use harness::grids;
 use harness::lent::{Kind, Lent};
 use harness::measured;
 use harness::nearest;
 use harness::tally::Tally;
+use second::forms::{START, STATE_BYTES};
 use second::interleaver::Places;
 use second::settings::{Settings, PAIRINGS};
+use second::superframe::Start;
 use second::{counts, refusals, runs};
 use std::io::{self, BufWriter, Write};
 use std::process::ExitCode;
@@ -23,8 +26,11 @@ const CHANGED_LENGTHS: usize = 12;
 const CHANGED_RESETS: usize = 8;
 const CHANGED_CODES: usize = 4;
 const CHANGED_READS: usize = 8;
-/// Refusal 14 with block 4, the first finished frame.
-const EMPTY_CELL: u16 = 14 * 256 + 4;
+/// Refusal 14 with block 4, the first finished frame; or 12, where runs do not start with empty cells.
+const EMPTY_CELL: u16 = match START {
+    Start::Empty => 14 * 256 + 4,
+    Start::ZeroFrame => 12 * 256,
+};
 /// FAC blocks built and read, and changed calls beside each.
 const FAC_BLOCKS: usize = 5;
 const CHANGED_FACS: usize = 9;
@@ -35,13 +41,14 @@ fn main() -> ExitCode {
     let mut out = BufWriter::new(io::stdout().lock());
     let done = match args[..] {
         [] => return random_calls(),
-        ["grid"] => return other_calls(grids::random_calls()),
-        ["decide"] => return other_calls(measured::random_calls()),
+        ["grid"] => return report(counted(grids::random_calls())),
+        ["decide"] => return report(counted(measured::random_calls())),
+        ["disperse"] => return report(dispersal_calls()),
         ["runs"] => runs::print(&Archive, &mut out),
         ["counts"] => counts::print(&Archive, &mut out),
         ["refusals"] => refusals::print(&Archive, &mut out),
         _ => {
-            eprintln!("harness [grid | decide | runs | counts | refusals]");
+            eprintln!("harness [grid | decide | disperse | runs | counts | refusals]");
             return ExitCode::from(2);
         }
     };
@@ -54,11 +61,16 @@ fn main() -> ExitCode {
     }
 }
 
-/// Calls that a module of their own makes: how many there were, or the first difference.
-fn other_calls(done: Result<u32, String>) -> ExitCode {
-    match done {
-        Ok(calls) => {
-            println!("{calls} calls");
+/// How many calls there were, or the first difference.
+fn counted(done: Result<u32, String>) -> Result<String, String> {
+    done.map(|calls| format!("{calls} calls"))
+}
+
+/// Prints what random calls have seen, or where the programs differ.
+fn report(seen: Result<String, String>) -> ExitCode {
+    match seen {
+        Ok(lines) => {
+            println!("{lines}");
             ExitCode::SUCCESS
         }
         Err(difference) => {
@@ -66,6 +78,12 @@ fn other_calls(done: Result<u32, String>) -> ExitCode {
             ExitCode::FAILURE
         }
     }
+}
+
+/// The dispersal step on random bits, and on frames in two halves.
+fn dispersal_calls() -> Result<String, String> {
+    let calls = disperse::calls(SEED, second::dispersal::disperse_packed, requests::disperse)?;
+    Ok(format!("{calls}\n{}", halves::frames(SEED, requests::disperse)?))
 }
 
 fn random_calls() -> ExitCode {
@@ -179,7 +197,7 @@ impl Run {
     }
 
     fn reset(&mut self, s: &Settings) -> Result<Side, String> {
-        let state = self.draw.old_bytes(12);
+        let state = self.draw.old_bytes(STATE_BYTES);
         let memory = self.draw.old_numbers(s.sizes().memory_numbers);
         let mut lent = Lent { settings: s.bytes().to_vec(), state, memory, ..Lent::default() };
         self.calls(Kind::Reset, CHANGED_RESETS, &mut lent, s)?;
@@ -232,7 +250,7 @@ impl Run {
     }
 
     /// A copy of a good call of Read that finishes frames. In memory a cell (1, 1) of the frame that is finished first has
-    /// become (0, 0), at a place where no row of the call puts a cell: 12 lets it pass, and no bits give that frame.
+    /// become (0, 0), at a place where no row of the call puts a cell: 12 lets it pass, and no bits give that frame, unless (0, 0) falls under 12.
     fn empty_cell(&mut self, lent: &Lent, s: &Settings) -> Result<(), String> {
         let (position, count) = (lent.state[10] as usize, lent.state[11] as usize);
         let slot = (position + 5 - count) % 5;

@@ -34,4 +34,4 @@ returns-2 c =
 pub spares-zero-spec : {M : Type 1} → statement M
 spares-zero-spec =
     tie.close (tie.spec (λ c κs. c .before .before .pre .settings) spare-zero-requires returns
-    (λ c κs. c .before .before .before .before .before .pre .settings) frame-bytes-requires frames-spare-requires returns-2)
+    (λ c κs. accepted-of _ (c .before .before .before .before .before .pre .settings)) frame-bytes-requires frames-spare-requires returns-2)

@@ -9,10 +9,10 @@ use Rattle.dispersal.proofs.bits.disperse.Statement.{statement}
 use Rattle.dispersal.proofs.bits.disperse.Tie as tie
 
 abbrev Inv-loop : tie.InvT-loop
-Inv-loop bits₀ state₀ i₀ bits state i = Dispersing bits₀ bits₀ bits state i
+Inv-loop treated bits₀ state₀ i₀ bits state i = Dispersing treated bits₀ bits₀ bits state i
 
 abbrev μ-loop : tie.MeasureT-loop
-μ-loop bits₀ state₀ i₀ bits state i = length bits₀ - i
+μ-loop treated bits₀ state₀ i₀ bits state i = length bits₀ - i
 
 loop-again : tie.Need-loop-again Inv-loop μ-loop
 loop-again c =
@@ -21,6 +21,21 @@ loop-again c =
 
 pub disperse-spec : {M : Type 1} → statement M
 disperse-spec =
-    tie.close (tie.spec Inv-loop μ-loop (λ c. start _ _ refl) (λ c. search needs) (λ c. search needs) (λ c. search needs) (λ c. search needs)
-    (λ c. search needs) (λ c. search needs) (λ c. search needs) (λ c. search needs) (λ c. search needs) loop-again (λ c. search needs)
+    tie.close
+    (tie.spec
+    Inv-loop
+    μ-loop
+    (λ c κs. search needs)
+    (λ c. start _ _ _ _ refl (c .register .ensures))
+    (λ c. search needs)
+    (λ c. search needs)
+    (λ c. search needs)
+    (λ c. search needs)
+    (λ c. search needs)
+    (λ c. search needs)
+    (λ c. search needs)
+    (λ c. search needs)
+    (λ c. search needs)
+    loop-again
+    (λ c. search needs)
     (λ c. done (c .before .loop .inv) (search needs)))

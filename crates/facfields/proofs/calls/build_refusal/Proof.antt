@@ -5,7 +5,8 @@ use borrow.Author.Needs.{needs}
 use Rattle.settings.specs.Refusal.{first}
 use Rattle.facfields.specs.Fields.{within, agrees}
 use Rattle.facfields.specs.Build.{buildRefusal}
-use Rattle.facfields.proofs.Refusals.{build-settings, build-fields, build-bytes, build-test, hold, pass}
+use Rattle.settings.proofs.Chain.{hold, pass}
+use Rattle.facfields.proofs.Refusals.{build-settings, build-fields, build-bytes, build-test}
 use Rattle.facfields.proofs.calls.build_refusal.Statement.{statement}
 use Rattle.facfields.proofs.calls.build_refusal.Tie as tie
 

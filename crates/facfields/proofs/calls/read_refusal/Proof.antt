@@ -5,7 +5,8 @@ use borrow.Author.Needs.{needs}
 use Rattle.settings.specs.Refusal.{first}
 use Rattle.facfields.specs.Fields.{agrees}
 use Rattle.facfields.specs.Read.{readRefusal}
-use Rattle.facfields.proofs.Refusals.{read-settings, read-bytes, read-fields, read-test, hold, pass}
+use Rattle.settings.proofs.Chain.{hold, pass}
+use Rattle.facfields.proofs.Refusals.{read-settings, read-bytes, read-fields, read-test}
 use Rattle.facfields.proofs.calls.read_refusal.Statement.{statement}
 use Rattle.facfields.proofs.calls.read_refusal.Tie as tie
 

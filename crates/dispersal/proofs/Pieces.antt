@@ -1,0 +1,134 @@
+-- Packed bits in two pieces, the first of whole bytes. Assumes nothing.
+use Prim.Native.Nat.{ℕ, zero, suc, _+_, _-_, _*_, _/_, _%_, _≤_, _<_}
+use mathlib.Core.Path.{_≡_, refl, sym, ap, ap₂, _∙_}
+use mathlib.Core.List.{List, [], _∷_, _++_}
+use native.Mathlib.Nat.{zero-add}
+use native.Mathlib.Omega.{arith}
+use lib.ListN.{length, getD, take, drop, length-append, List·getD-append}
+use lib.Seq.{getD-take, getD-drop, getD-append-add}
+use Rattle.lists.specs.Lists.{table}
+use Rattle.lists.specs.Bytes.{bytesFor}
+use Rattle.lists.proofs.Tables.{table-add, table-ext, table-from}
+use Rattle.lists.proofs.Parts.{to-end, length-start, length-end, length-second, length-written, both-written}
+use Rattle.block.specs.Packing.{bitAt, unpacked, digits, packed}
+use Rattle.block.specs.Dispersal.{dispersed}
+use Rattle.block.proofs.Packing.{length-packed, length-unpacked}
+use Rattle.block.proofs.Dispersal.{length-dispersed, bits-dispersed, dispersed-append}
+use Rattle.dispersal.specs.Calls.{dispersedBytes}
+use Rattle.dispersal.specs.Contracts.{bitOf, shifted, registerAt, Disperses}
+use Rattle.dispersal.proofs.Register.{register-bit, register-period}
+
+-- where the registers are the same, so is all that follows
+same-from : (a b : ℕ) (xs : List ℕ) → registerAt a ≡ registerAt b → dispersed a xs ≡ dispersed b xs
+unfolding dispersed registerAt
+same-from a b [] e = refl
+same-from a b (x ∷ xs) e =
+    ap₂ _∷_ (ap (λ q. (x + q) % 2) (sym (register-bit a) ∙ ap bitOf e ∙ register-bit b)) (same-from (suc a) (suc b) xs (ap shifted e))
+
+period : (t : ℕ) (xs : List ℕ) → dispersed (t % 511) xs ≡ dispersed t xs
+period t xs = same-from (t % 511) t xs (register-period t)
+
+-- the bits of the first bytes, and those of the others
+front-bit : (k : ℕ) (bytes : List ℕ) (i : ℕ) → i < 8 * k → bitAt bytes i ≡ bitAt (take k bytes) i
+unfolding bitAt
+front-bit k bytes i h = rw (getD-take k bytes (i / 8) 0 (omega arith))
+
+later-bit : (k : ℕ) (bytes : List ℕ) (i : ℕ) → bitAt bytes (8 * k + i) ≡ bitAt (drop k bytes) i
+unfolding bitAt
+later-bit k bytes i =
+    let q : (8 * k + i) / 8 ≡ k + i / 8 = omega arith in
+    let r : (8 * k + i) % 8 ≡ i % 8 = omega arith in
+    rw (q, r, getD-drop k bytes (i / 8) 0)
+
+unpacked-pieces : (k m : ℕ) (bytes : List ℕ) → unpacked (8 * k + m) bytes ≡ unpacked (8 * k) (take k bytes) ++ unpacked m (drop k bytes)
+unfolding unpacked
+unpacked-pieces k m bytes =
+    table-add (bitAt bytes) 0 (8 * k) m
+    ∙ ap₂ _++_
+    (table-ext (bitAt bytes) (bitAt (take k bytes)) 0 (8 * k) (λ i a b. front-bit k bytes i (omega arith)))
+    (ap (λ i. table (bitAt bytes) i m) (zero-add (8 * k)) ∙ table-from (bitAt bytes) (8 * k) m
+    ∙ table-ext (λ i. bitAt bytes (8 * k + i)) (bitAt (drop k bytes)) 0 m (λ i a b. later-bit k bytes i))
+
+-- digits of equal bits are equal
+same-digits : (l l′ : List ℕ) (i j n : ℕ) → ((q : ℕ) → q < n → getD l (i + q) 0 ≡ getD l′ (j + q) 0) → digits l i n ≡ digits l′ j n
+unfolding digits
+same-digits l l′ i j zero h = refl
+same-digits l l′ i j (suc n) h = ap₂ (λ a b. a * 2 + b) (same-digits l l′ i j n (λ q b. h q (omega arith))) (h n (omega arith))
+
+packed-pieces : (k : ℕ) (xs ys : List ℕ) → length xs ≡ 8 * k → packed (xs ++ ys) ≡ packed xs ++ packed ys
+unfolding packed bytesFor
+packed-pieces k xs ys e =
+    let f : ℕ → ℕ = λ j. digits (xs ++ ys) (8 * j) 8 in
+    let m : ℕ = bytesFor (length ys) in
+    let n : bytesFor (length (xs ++ ys)) ≡ k + m = omega (arith, length-append xs ys) in
+    let a : bytesFor (length xs) ≡ k = omega arith in
+    let one : table f 0 k ≡ table (λ j. digits xs (8 * j) 8) 0 k =
+    table-ext f (λ j. digits xs (8 * j) 8) 0 k (λ j u v.
+    same-digits (xs ++ ys) xs (8 * j) (8 * j) 8 (λ q b. List·getD-append xs ys 0 (8 * j + q) (omega arith))) in
+    let two : table f (0 + k) m ≡ table (λ j. digits ys (8 * j) 8) 0 m =
+    ap (λ i. table f i m) (zero-add k) ∙ table-from f k m
+    ∙ table-ext (λ j. f (k + j)) (λ j. digits ys (8 * j) 8) 0 m (λ j u v.
+    same-digits (xs ++ ys) ys (8 * (k + j)) (8 * j) 8 (λ q b. later j q)) in
+    ap (table f 0) n ∙ table-add f 0 k m ∙ ap₂ _++_ (one ∙ ap (table (λ j. digits xs (8 * j) 8) 0) (sym a)) two
+  where
+    later : (j q : ℕ) → getD (xs ++ ys) (8 * (k + j) + q) 0 ≡ getD ys (8 * j + q) 0
+    later j q =
+        let i : 8 * (k + j) + q ≡ length xs + (8 * j + q) = omega arith in
+        ap (λ n. getD (xs ++ ys) n 0) i ∙ getD-append-add xs ys (8 * j + q) 0
+
+-- both pieces, of which the second goes on where the first ends
+pieces : (t k m : ℕ) (bytes : List ℕ)
+    → dispersedBytes t (8 * k + m) bytes ≡ dispersedBytes t (8 * k) (take k bytes) ++ dispersedBytes ((t + 8 * k) % 511) m (drop k bytes)
+unfolding dispersedBytes
+pieces t k m bytes =
+    let x = unpacked (8 * k) (take k bytes) in
+    let y = unpacked m (drop k bytes) in
+    let d : dispersed t (x ++ y) ≡ dispersed t x ++ dispersed ((t + 8 * k) % 511) y =
+    dispersed-append t x y ∙ ap (λ n. dispersed t x ++ dispersed (t + n) y) (length-unpacked (8 * k) (take k bytes))
+    ∙ ap (λ (z : List ℕ). dispersed t x ++ z) (sym (period (t + 8 * k) y)) in
+    ap (λ (z : List ℕ). packed (dispersed t z)) (unpacked-pieces k m bytes) ∙ ap packed d
+    ∙ packed-pieces k (dispersed t x) (dispersed ((t + 8 * k) % 511) y) (length-dispersed t x ∙ length-unpacked (8 * k) (take k bytes))
+
+-- more bits than one piece has: 4096 bytes
+module _ {n : ℕ} {bytes out : List ℕ} (D : Disperses 65535 n bytes out) (h : 32768 < n) where
+  pub bytes-room : 4096 ≤ length bytes
+  unfolding bytesFor
+  bytes-room = omega (arith, D .long)
+
+  pub out-room : 4096 ≤ length out
+  unfolding bytesFor
+  out-room = omega (arith, D .same)
+
+  pub first-piece : Disperses 36708 32768 (take (4096 - 0) bytes) (take (4096 - 0) out)
+  unfolding bytesFor
+  first-piece = record { small = omega arith; long = length-start 4096 bytes bytes-room; same = length-start 4096 out out-room }
+
+  module _ (t : ℕ) {w : List ℕ} (e : w ≡ dispersedBytes t 32768 (take (4096 - 0) bytes)) where
+    long : length w ≡ 4096
+    unfolding dispersedBytes bytesFor
+    long =
+        rw e
+        (length-packed (bits-dispersed t (unpacked 32768 (take (4096 - 0) bytes)))
+        ∙ ap bytesFor (length-dispersed t (unpacked 32768 (take (4096 - 0) bytes)) ∙ length-unpacked 32768 (take (4096 - 0) bytes)))
+
+    pub written-room : 4096 ≤ length (w ++ drop (4096 - 0) out)
+    written-room = rw (length-written out w 4096 out-room long) out-room
+
+    pub second-piece : Disperses 36708 (n - 32768) (take (length bytes - 4096) (drop 4096 bytes))
+        (take (length (w ++ drop (4096 - 0) out) - 4096) (drop 4096 (w ++ drop (4096 - 0) out)))
+    unfolding bytesFor
+    second-piece =
+        record {
+          small = omega (arith, D .small);
+          long = length-end 4096 bytes ∙ omega (arith, D .long);
+          same = length-second out w 4096 out-room long ∙ omega (arith, D .same);
+        }
+
+    pub both-pieces : {q : List ℕ} → q ≡ dispersedBytes ((t + 32768) % 511) (n - 32768) (take (length bytes - 4096) (drop 4096 bytes))
+        → take 4096 (w ++ drop (4096 - 0) out) ++ (q ++ drop (length (w ++ drop (4096 - 0) out) - 4096) (drop 4096 (w ++ drop (4096 - 0) out)))
+        ≡ dispersedBytes t n bytes
+    both-pieces {q} f =
+        let i : 8 * 4096 + (n - 32768) ≡ n = omega arith in
+        both-written out w 4096 out-room long q
+        ∙ ap₂ _++_ e (f ∙ ap (dispersedBytes ((t + 32768) % 511) (n - 32768)) (to-end 4096 bytes))
+        ∙ sym (pieces t 4096 (n - 32768) bytes) ∙ ap (λ m. dispersedBytes t m bytes) i

@@ -1,0 +1,105 @@
+-- The dispersal sequence from a register of nine bits, and its period. Assumes nothing.
+use Prim.Native.Nat.{ℕ, zero, suc, _+_, _*_, _/_, _%_, _^_, _≤_, _<_}
+use mathlib.Core.Path.{_≡_, refl, sym, ap, _∙_}
+use mathlib.Core.List.{List, [], _∷_}
+use mathlib.Core.Logic.{_⊎_, inl, inr}
+use native.Mathlib.Nat.{suc-add, zero-div}
+use native.Mathlib.Numerals.{add-one}
+use native.Mathlib.Omega.{arith}
+use lib.ListN.{getD, replicate, getD-replicate, List·getD-eq-default}
+use Rattle.lists.proofs.Counting.{below-or}
+use Rattle.component.specs.Bits.{Bits}
+use Rattle.component.proofs.Bits.{bits-cons, bits-head, bits-rest}
+use Rattle.block.specs.Dispersal.{sequence, p}
+use Rattle.block.proofs.Packing.{shr-suc}
+use Rattle.dispersal.specs.Contracts.{bitOf, shifted, registerAt}
+
+-- a list of bits, lowest first, as a number
+value : List ℕ → ℕ
+value [] = 0
+value (a ∷ l) = a + 2 * value l
+
+value-digit : {l : List ℕ} → Bits l → (i : ℕ) → value l / 2 ^ i % 2 ≡ getD l i 0
+unfolding value
+value-digit {l = []} B i = rw zero-div
+value-digit {l = a ∷ l} B zero = omega (arith, bits-head B)
+value-digit {l = a ∷ l} B (suc i) =
+    let e : (a + 2 * value l) / 2 ≡ value l = omega (arith, bits-head B) in
+    rw (shr-suc, e) (value-digit (bits-rest B) i)
+
+bits-sequence : (n : ℕ) → Bits (sequence n)
+unfolding sequence
+bits-sequence zero = record { bit = λ k. go k (below-or k 9) }
+  where
+    go : (k : ℕ) → (k < 9) ⊎ (9 ≤ k) → getD (replicate 9 1) k 0 < 2
+    go k (inl h) = rw (getD-replicate {A = ℕ} 9 k 1 0 h) (omega arith)
+    go k (inr h) = rw (List·getD-eq-default {A = ℕ} (replicate 9 1) 0 {n = k} h) (omega arith)
+bits-sequence (suc n) = bits-cons (omega arith) (bits-sequence n)
+
+next-bit : (n : ℕ) → p n ≡ (value (sequence n) / 2 ^ 8 + value (sequence n) / 2 ^ 4) % 2
+unfolding p sequence
+next-bit n = rw (← value-digit (bits-sequence n) 8, ← value-digit (bits-sequence n) 4) (omega arith)
+
+same-bit : (r v : ℕ) → r ≡ v % 512 → (r / 256 + r / 16) % 2 ≡ (v / 256 + v / 16) % 2
+same-bit r v e =
+    let a : r / 256 % 2 ≡ v / 256 % 2 = omega arith in
+    let b : r / 16 % 2 ≡ v / 16 % 2 = omega arith in
+    sums (r / 256) (r / 16) (v / 256) (v / 16) a b
+  where
+    sums : (a b c d : ℕ) → a % 2 ≡ c % 2 → b % 2 ≡ d % 2 → (a + b) % 2 ≡ (c + d) % 2
+    sums a b c d e f = omega arith
+
+same-shift : (r v b c : ℕ) → r ≡ v % 512 → b ≡ c → (2 * r + b) % 512 ≡ (c + 2 * v) % 512
+same-shift r v b c e f = omega arith
+
+-- the register holds the last nine bits
+register-is : (n : ℕ) → registerAt n ≡ value (sequence n) % 512
+unfolding registerAt shifted bitOf sequence value p
+register-is zero = refl
+register-is (suc n) =
+    same-shift (registerAt n) (value (sequence n)) _ (p n) (register-is n) (same-bit (registerAt n) (value (sequence n)) (register-is n) ∙ sym (next-bit n))
+
+-- the register gives the sequence
+pub register-bit : (n : ℕ) → bitOf (registerAt n) ≡ p n
+unfolding bitOf
+register-bit n = same-bit (registerAt n) (value (sequence n)) (register-is n) ∙ sym (next-bit n)
+
+pub register-low : (n : ℕ) → registerAt n < 512
+unfolding registerAt shifted
+register-low zero = omega arith
+register-low (suc n) = omega arith
+
+-- one computed test: after 511 bits the register holds nine ones again
+whole-period : registerAt 511 ≡ 511
+unfolding registerAt shifted bitOf
+whole-period = refl
+
+register-again : (n : ℕ) → registerAt (n + 511) ≡ registerAt n
+unfolding registerAt
+register-again zero = whole-period
+register-again (suc n) = rw suc-add (ap shifted (register-again n))
+
+periods : (n k : ℕ) → registerAt (n + 511 * k) ≡ registerAt n
+periods n zero = let e : n + 511 * 0 ≡ n = omega arith in rw e
+periods n (suc k) = let e : n + 511 * suc k ≡ n + 511 * k + 511 = omega arith in rw e (register-again (n + 511 * k) ∙ periods n k)
+
+-- so the register after n bits is the one after the remainder modulo 511
+pub register-period : (n : ℕ) → registerAt (n % 511) ≡ registerAt n
+register-period n = let e : n ≡ n % 511 + 511 * (n / 511) = omega arith in sym (ap registerAt e ∙ periods (n % 511) (n / 511))
+
+-- before the turn at step i of n
+pub record Stepping (n state i : ℕ) : Type 0 where
+  pub turns : i ≤ n
+  pub known : state ≡ registerAt i
+  pub low : state < 512
+
+pub step-start : (n : ℕ) → Stepping n 511 0
+unfolding registerAt
+step-start n = record { turns = omega arith; known = refl; low = omega arith }
+
+pub step-turn : {n state i : ℕ} → Stepping n state i → i < n → (next : ℕ) → next ≡ (state / 256 + state / 16) % 2 → Stepping n ((2 * state + next) % 512) (i + 1)
+unfolding registerAt shifted bitOf
+step-turn S h next e = record { turns = omega arith; known = rw (add-one, e, S .known); low = omega arith }
+
+pub step-done : (t : ℕ) {state i : ℕ} → Stepping (t % 511) state i → t % 511 ≤ i → state ≡ registerAt t
+step-done t {state} {i} S h = let e : i ≡ t % 511 = omega (arith, S .turns) in S .known ∙ ap registerAt e ∙ register-period t
