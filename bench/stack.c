@@ -10,10 +10,11 @@
 
 #include "drmcoder.h"
 
-enum { STACK = 8 * 1024 * 1024, PAINT = 0xA5, CALLS = 13 };
+enum { STACK = 8 * 1024 * 1024, PAINT = 0xA5, CALLS = 14 };
 
 static const char *const names[CALLS] = {"lengths", "sizes", "reset", "code", "read", "nearest", "fac_build",
-                                         "fac_read", "grid_sizes", "grid_place", "grid_take", "decide", "disperse"};
+                                         "fac_read", "grid_sizes", "grid_place", "grid_take", "decide", "disperse",
+                                         "reset_table"};
 static unsigned char *stack;
 
 /* What the calls are lent; all bits are zero. */
@@ -51,6 +52,14 @@ static void *call_sizes(void *unused) {
 
 static void *call_reset(void *unused) {
     answer = drm_reset(state, sizeof state, settings, sizeof settings, memory, sizes[5]);
+    return unused;
+}
+
+/* With the table of the last accepted reset. */
+static void *call_reset_table(void *unused) {
+    static uint8_t table[DRM_TABLE_NUMBERS];
+    memcpy(table, state + sizeof state - sizeof table, sizeof table);
+    answer = drm_reset_table(state, sizeof state, settings, sizeof settings, table, sizeof table, memory, sizes[5]);
     return unused;
 }
 
@@ -143,8 +152,9 @@ static void measure(size_t deepest[CALLS]) {
     static void *(*const bodies[])(void *) = {call_lengths, call_sizes, call_reset, call_code,  call_code,
                                               call_code,    call_reset, call_read,  call_read, call_read,
                                               call_nearest, call_fac_build, call_fac_read, call_grid_sizes,
-                                              call_grid_place, call_grid_take, call_decide, call_disperse};
-    static const int kinds[] = {0, 1, 2, 3, 3, 3, 2, 4, 4, 4, 5, 6, 7, 8, 9, 10, 11, 12};
+                                              call_grid_place, call_grid_take, call_decide, call_disperse,
+                                              call_reset_table};
+    static const int kinds[] = {0, 1, 2, 3, 3, 3, 2, 4, 4, 4, 5, 6, 7, 8, 9, 10, 11, 12, 13};
     size_t empty = depth(nothing), k;
     for (k = 0; k < sizeof kinds / sizeof kinds[0]; k++) {
         size_t used = depth(bodies[k]) - empty;

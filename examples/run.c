@@ -132,7 +132,7 @@ static void refused_calls(void) {
     cells_before = cells;
     given_before = given;
     must(code(DRM_FAC_BYTES - 1) == DRM_REFUSED_INPUT_LENGTH, "an FAC input without its last byte is refused by 9");
-    must(read_back(DRM_STATE_BYTES - 1) == 256 * DRM_REFUSED_SLICE, "a state of 11 bytes is refused by 255");
+    must(read_back(DRM_STATE_BYTES - 1) == 256 * DRM_REFUSED_SLICE, "a state of a byte too few is refused by 255");
     cells.fac[130] = 0;
     must(read_back(DRM_STATE_BYTES) == 256 * DRM_REFUSED_POINT + 1, "a 0 in FAC block 1 is refused by 13, block 1");
     cells.fac[130] = cells_before.fac[130];
@@ -229,6 +229,33 @@ static void run(const uint8_t *settings) {
     printf("; %d frames brought, %d read as brought\n", FRAMES, (int)out);
 }
 
+/* A super frame with a puncturing table of one's own: rate 3/5 keeps b1 of its second column, not of its third. */
+static void own_table(const uint8_t *settings) {
+    enum { TABLE = 12, RATE_3_5 = 56 };
+    static struct cells standard;
+    uint8_t table[DRM_TABLE_NUMBERS];
+    begin(settings);
+    bring(settings, 0);
+    must(code(DRM_FAC_BYTES) == DRM_ACCEPTED, "the super frame is coded by the standard's table");
+    standard = cells;
+    memcpy(table, coder.state + TABLE, sizeof table);
+    table[RATE_3_5 + 4] = 1;
+    table[RATE_3_5 + 5] = 0;
+    must(drm_reset_table(coder.state, DRM_STATE_BYTES, settings, DRM_SETTINGS_BYTES, table, sizeof table, coder.memory,
+                         sizes[MEMORY]) == DRM_ACCEPTED, "the coder takes the table");
+    must(drm_reset_table(reader.state, DRM_STATE_BYTES, settings, DRM_SETTINGS_BYTES, table, sizeof table,
+                         reader.memory, sizes[MEMORY]) == DRM_ACCEPTED, "the reader takes the table");
+    must(code(DRM_FAC_BYTES) == DRM_ACCEPTED, "the super frame is coded by the table");
+    must(memcmp(cells.fac, standard.fac, sizeof cells.fac) != 0, "the FAC has other cells");
+    must(memcmp(cells.sdc, standard.sdc, sizeof cells.sdc) == 0, "the SDC, of other rates, has the same");
+    must(read_back(DRM_STATE_BYTES) == 3, "the reader with the table reads them");
+    compare(0, 3);
+    table[RATE_3_5] = 0;
+    must(drm_reset_table(coder.state, DRM_STATE_BYTES, settings, DRM_SETTINGS_BYTES, table, sizeof table, coder.memory,
+                         sizes[MEMORY]) == DRM_REFUSED_TABLE, "a table that leaves out a b0 is refused by 23");
+    printf("own puncturing table: read as brought\n");
+}
+
 /* The first FAC block of the last super frame, from its cells with errors: wrong bits, and bits that are not known. */
 static void nearest(void) {
     uint8_t received[DRM_FAC_VALUES], block[DRM_FAC_BLOCK_BYTES];
@@ -286,6 +313,7 @@ int main(void) {
     treat_in_pieces();
     nearest();
     measured(runs[sizeof runs / sizeof runs[0] - 1]);
+    own_table(runs[1]);
     printf("all as it must be\n");
     return 0;
 }

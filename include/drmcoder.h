@@ -26,10 +26,18 @@
  *   8  SDC mode: 0 16-QAM, 1 4-QAM
  *   9  interleaving: 0 long, 1 short
  *
- * State: twelve bytes
- *   The ten bytes of the settings, the position (0 to 4: the slot of memory that is written next) and the count of
- *   frames seen (0 to 4, where it stops). In short interleaving position and count are 0. A coder and a reader
- *   each have a state and a memory of their own; before the first drm_reset both may hold anything.
+ * State: 208 bytes
+ *   The ten bytes of the settings, the position (0 to 4: the slot of memory that is written next), the count of
+ *   frames seen (0 to 4, where it stops), and the 196 numbers of the puncturing table. In short interleaving position
+ *   and count are 0. A coder and a reader each have a state and a memory of their own; before the first drm_reset or
+ *   drm_reset_table both may hold anything.
+ *
+ * Puncturing table: 196 numbers
+ *   For the code rates 1/4, 3/10, 1/3, 4/11, 1/2, 4/7, 3/5, 2/3, 8/11, 3/4, 4/5, 7/8, 8/9 in this order: the rows B0, B1,
+ *   B2 and B3 of the rate, each with as many columns as the rate's numerator; 1 keeps a bit, 0 leaves it out. It passes
+ *   if every number is 0 or 1, each B0 is all ones, and the ones of each rate number its denominator. It serves the
+ *   FAC, the SDC and the MSC of a run; the tails of SDC and MSC are punctured by the standard's table 66, and no length
+ *   changes. drm_reset takes the standard's table (table 65).
  *
  * Packed bits
  *   First bit highest; each block and frame begins a byte, and the spare bits of its last byte are zero. A call
@@ -44,7 +52,7 @@
  *   none, one or two fillers: (1, 1), (1, -1).
  *
  * Refusals
- *   A call answers by the lowest number that applies, and a call that is refused writes nothing at all.
+ *   A call answers by the first of these that applies, and a call that is refused writes nothing at all.
  *     1  robustness mode
  *     2  occupancy not allowed for the mode
  *     3  MSC mode
@@ -52,6 +60,8 @@
  *     5  VSPP level
  *     6  SDC mode or interleaving
  *     7  part A too long: N1 leaves part B fewer than 20 cells
+ *    23  a puncturing table, lent or in a state, that does not pass or has not 196 numbers (not the one of the old state
+ *        that is handed to a reset); this goes after 7 and before 8
  *     8  memory of the wrong length
  *     9  an input of the wrong length
  *    10  an output of the wrong length
@@ -90,7 +100,8 @@ extern "C" {
 /* Elements of the slices whose length is always the same. */
 enum {
     DRM_SETTINGS_BYTES = 10,
-    DRM_STATE_BYTES = 12,
+    DRM_STATE_BYTES = 208,
+    DRM_TABLE_NUMBERS = 196,
     DRM_LENGTHS = 5,
     DRM_SIZES = 6,
     DRM_FAC_BYTES = 27,
@@ -137,6 +148,7 @@ enum {
     DRM_REFUSED_GRID_LENGTH = 17,
     DRM_REFUSED_VALUE = 21,
     DRM_REFUSED_MEASURED = 22,
+    DRM_REFUSED_TABLE = 23,
     DRM_REFUSED_SLICE = 255
 };
 
@@ -162,8 +174,9 @@ uint8_t drm_lengths(const uint8_t *settings, size_t settings_len, uint16_t *leng
 uint8_t drm_sizes(const uint8_t *settings, size_t settings_len, uint32_t *sizes, size_t sizes_len);
 
 /*
- * Begins a run: the state takes the settings, position and count become 0, and memory is filled with zero.
- *   state      12 bytes, whatever they hold
+ * Begins a run: the state takes the settings and the standard's puncturing table, position and count become 0, and
+ * memory is filled with zero.
+ *   state      208 bytes, whatever they hold
  *   settings   10 bytes
  *   memory     as many numbers as drm_sizes says, whatever they hold
  * Answers 0, 1 to 8, or 255.
@@ -172,12 +185,24 @@ uint8_t drm_reset(uint8_t *state, size_t state_len, const uint8_t *settings, siz
                   size_t memory_len);
 
 /*
+ * Begins a run with a puncturing table of one's own: drm_reset with that table in place of the standard's. The reader
+ * of the run is reset with the same table. With the standard's table both calls are the same.
+ *   state      208 bytes, whatever they hold
+ *   settings   10 bytes
+ *   table      196 numbers
+ *   memory     as many numbers as drm_sizes says, whatever they hold
+ * Answers 0, 1 to 7, 23, 8, or 255.
+ */
+uint8_t drm_reset_table(uint8_t *state, size_t state_len, const uint8_t *settings, size_t settings_len,
+                        const uint8_t *table, size_t table_len, int16_t *memory, size_t memory_len);
+
+/*
  * Codes one super frame. Of memory only the slots of its three frames are written.
- *   state      12 bytes, as the last accepted call left them
+ *   state      208 bytes, as the last accepted call left them
  *   memory     likewise
  *   fac, sdc, msc                    27, SDC bytes, MSC bytes: the bits to code
  *   fac_cells, sdc_cells, msc_cells  390, SDC numbers, MSC numbers: all are written if the answer is 0
- * Answers 0, 1 to 12, or 255. At the end of a run code two super frames whose MSC bytes are zero: the reader then
+ * Answers 0, 1 to 7, 23, 8 to 12, or 255. At the end of a run code two super frames whose MSC bytes are zero: the reader then
  * has every frame before them.
  */
 uint8_t drm_code(uint8_t *state, size_t state_len, int16_t *memory, size_t memory_len, const uint8_t *fac,
@@ -187,14 +212,14 @@ uint8_t drm_code(uint8_t *state, size_t state_len, int16_t *memory, size_t memor
 
 /*
  * Reads one super frame.
- *   state      12 bytes, as the last accepted call left them
+ *   state      208 bytes, as the last accepted call left them
  *   memory     likewise
  *   fac_cells, sdc_cells, msc_cells  390, SDC numbers, MSC numbers: the cells received
  *   fac, sdc, msc                    27, SDC bytes, MSC bytes: all are written if the call is accepted; the finished
  *                                    frames stand first in msc, and the bytes beyond them are zero
  * Answers the number of frames that it finished, 0 to 3, if the call is accepted: 0, then 2, then 3 each time after a
  * reset in long interleaving, always 3 in short. Otherwise the answer is 256 * refusal + block, the refusal being 1 to
- * 10, 12 to 14 or 255. The block is the lowest at fault for 13 and 14, and 0 for the others: 0 to 2 an FAC block,
+ * 7, 23, 8 to 10, 12 to 14 or 255. The block is the lowest at fault for 13 and 14, and 0 for the others: 0 to 2 an FAC block,
  * 3 the SDC block; from 4 on, for 13 the three sent rows of MSC cells and 7 the fillers, for 14 the finished frames.
  */
 uint16_t drm_read(uint8_t *state, size_t state_len, int16_t *memory, size_t memory_len, const int16_t *fac_cells,

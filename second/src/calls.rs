@@ -3,9 +3,8 @@
 //! The drivers go over the trait alone, so that another program can be run through the same calls.
 
 use crate::buffers::{code_buffers, old_memory, read_buffers, BitBuffers, CellBuffers};
-use crate::forms::STATE_BYTES;
 use crate::settings::Settings;
-use crate::superframe::{reset, Answer, State};
+use crate::superframe::{reset, Answer, State, STATE_BYTES};
 use std::io;
 
 /// Where position and count stand in a state, after the ten bytes of the settings.

@@ -3,7 +3,7 @@
 //! MSC cells are interleaved over five frames (clause 7.6) and followed by fillers (clause 7.7).
 
 use crate::block::{Block, Scratch};
-use crate::forms::{START, STATE_BYTES};
+use crate::forms::START;
 use crate::interleaver::Places;
 use crate::mapping::{are_points, are_points_or_zero, is_coordinate};
 use crate::packing::spare_bit_set;
@@ -13,8 +13,8 @@ use crate::table::{passes, Table, ENTRIES, STANDARD};
 /// Slots of the memory in long interleaving, and so the number of frames a row's cells come from.
 const DEPTH: usize = 5;
 
-/// Settings, position, count and the table's numbers.
-pub const ALL_BYTES: usize = 12 + ENTRIES;
+/// Bytes of a state: settings, position, count and the table's numbers (02, S-11).
+pub const STATE_BYTES: usize = 12 + ENTRIES;
 
 pub(crate) const FAC_NUMBERS: usize = 2 * FAC_CELLS;
 
@@ -269,30 +269,17 @@ fn bad_point(state: &State, cells: &Cells, rows: &[i16], fillers: &[i16]) -> Opt
 
 impl State {
     /// Settings, position, count and the table.
-    pub fn all_bytes(&self) -> [u8; ALL_BYTES] {
-        let mut bytes = [0; ALL_BYTES];
+    pub fn bytes(&self) -> [u8; STATE_BYTES] {
+        let mut bytes = [0; STATE_BYTES];
         bytes[..10].copy_from_slice(&self.settings.bytes());
         bytes[10..12].copy_from_slice(&[self.position, self.count]);
         bytes[12..].copy_from_slice(&self.table);
         bytes
     }
 
-    pub fn from_all_bytes(b: [u8; ALL_BYTES]) -> State {
+    pub fn from_bytes(b: [u8; STATE_BYTES]) -> State {
         let (settings, table) = (std::array::from_fn(|i| b[i]), std::array::from_fn(|i| b[12 + i]));
         State { settings: Settings::from_bytes(settings), position: b[10], count: b[11], table }
-    }
-
-    /// As many bytes as calls lend today.
-    pub fn bytes(&self) -> [u8; STATE_BYTES] {
-        let all = self.all_bytes();
-        std::array::from_fn(|i| all[i])
-    }
-
-    /// Without a table it is the standard's.
-    pub fn from_bytes(b: [u8; STATE_BYTES]) -> State {
-        let mut all = State::default().all_bytes();
-        all[..STATE_BYTES].copy_from_slice(&b);
-        State::from_all_bytes(all)
     }
 
     /// Whether 12 lets position and count pass.

@@ -19,7 +19,7 @@ use Rattle.component.proofs.Register.{after-low}
 use Rattle.component.proofs.Codeword.{length-encode, codeword-bits, codeword-one, codeword-two, length-tail}
 use Rattle.component.proofs.Decoding.{length-decode, decode-bits, decode-encode}
 use Rattle.interleaver.proofs.Interleaving.{interleaved-length, interleaved-all, deinterleaved-interleaved, interleaved-none, deinterleaved-none}
-use Rattle.component.specs.Coding.{patternOf}
+use Rattle.patterns.specs.Contracts.{patternOf}
 use Rattle.block.specs.declared.Level.{Level}
 use Rattle.block.specs.Levels.{codedA, codedB, mixed, stream, totalA, totalB, streams}
 use Rattle.block.specs.Reading.{unmixed, sizeA, sizeB, inputA, inputB, inputsA, inputsB}

@@ -4,7 +4,7 @@ use mathlib.Core.Bool.{Bool, cond}
 use mathlib.Core.List.{List, [], _++_}
 use lib.ListN.{length, take, drop, replicate}
 use lib.Dec.{eqb}
-use Rattle.component.specs.Coding.{patternFrom}
+use Rattle.patterns.specs.Contracts.{patternFrom}
 use lib.IntN.{ℤ}
 use Rattle.block.specs.Packing.{unpacked}
 use Rattle.block.specs.Dispersal.{dispersedParts}

@@ -6,7 +6,7 @@ use mathlib.Core.List.{List, [], _∷_}
 use lib.ListN.{length, getD}
 use lib.IntN.{ℤ, pos}
 use Rattle.component.specs.Bits.{Bits}
-use Rattle.component.specs.Coding.{Held}
+use Rattle.patterns.specs.Contracts.{Held}
 use Rattle.interleaver.specs.Deinterleaving.{Cycles}
 use Rattle.lists.specs.Bytes.{bytesFor}
 use Rattle.block.specs.Packing.{spareZero}

@@ -4,7 +4,7 @@ use mathlib.Core.Bool.{cond}
 use mathlib.Core.List.{List, [], _∷_, _++_}
 use lib.ListN.{take, drop}
 use lib.Dec.{eqb}
-use Rattle.component.specs.Coding.{patternOf}
+use Rattle.patterns.specs.Contracts.{patternOf}
 use Rattle.component.specs.Register.{after}
 use Rattle.component.specs.Codeword.{codeword, tailBits}
 use Rattle.interleaver.specs.Interleaving.{interleaved}

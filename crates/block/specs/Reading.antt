@@ -12,7 +12,7 @@ use Rattle.component.specs.Decoding.{codedLength, decode}
 use Rattle.interleaver.specs.Deinterleaving.{deinterleaved}
 use Rattle.block.specs.Packing.{packed}
 use Rattle.block.specs.Dispersal.{dispersedParts}
-use Rattle.component.specs.Coding.{patternOf}
+use Rattle.patterns.specs.Contracts.{patternOf}
 use Rattle.block.specs.declared.Level.{Level}
 use Rattle.block.specs.declared.Block.{Block}
 use Rattle.block.specs.Mapping.{Constellation, axis}

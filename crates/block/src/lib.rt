@@ -1,5 +1,5 @@
 // A block in general: dispersal, partition, component code, bit interleaving and mapping over its levels. Definitions and laws, and working buffers.
-use component::code::Pattern;
+use patterns::Pattern;
 
 pub mod buffers;
 

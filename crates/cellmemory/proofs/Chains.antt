@@ -15,11 +15,12 @@ use Rattle.channels.specs.Msc.{mscConstellation}
 use Rattle.cellmemory.proofs.Points.{memoryTest, memory-points}
 use mathlib.Core.Logic.{_⊎_, inl, inr}
 use Rattle.lists.proofs.Counting.{below-or}
-use Rattle.settings.specs.declared.Settings.{Settings}
 use Rattle.settings.specs.declared.Sizes.{Sizes}
 use Rattle.settings.specs.Refusal.{first, refusal}
-use Rattle.settings.specs.Sizes.{depth, allSizes, noSizes, sizesOf}
-use Rattle.settings.proofs.Buffers.{sizes-accepts, sizes-refuses}
+use Rattle.settings.specs.Sizes.{depth, allSizes, sizesOf}
+use Rattle.settings.proofs.Buffers.{sizes-accepts}
+use Rattle.channels.specs.declared.Scheme.{Scheme}
+use Rattle.channels.specs.Scheme.{schemeRefusal}
 use Rattle.superframe.specs.declared.State.{State}
 use Rattle.superframe.specs.Memory.{slotSize}
 use Rattle.superframe.specs.Call.{memoryLength, inOrder}
@@ -32,38 +33,45 @@ use Rattle.superframe.proofs.Calls.{first-hold, first-own, first-own-pass}
 pub first-own-hold : (r m : ℕ) → (r ≡ 0 → ⊥) → first (ltb 0 r) r m ≡ r
 first-own-hold r m h = first-hold (ltb 0 r) r m (lt-ltb 0 r (omega arith))
 
--- 1 to 10 by the sizes of the settings.
-module _ (s : Settings) (z : Sizes) (e : z ≡ sizesOf s) where
-  -- Refused settings give their number, whatever follows.
-  pub settings-refused : (n m : ℕ) (nine ten : Bool) → (refusal s ≡ 0 → ⊥) → lengthRefusal z n nine ten ≡ first (ltb 0 (refusal s)) (refusal s) m
-  unfolding lengthRefusal noSizes
-  settings-refused n m nine ten h = rw (e, sizes-refuses s h) (first-own-hold (refusal s) _ h ∙ sym (first-own-hold (refusal s) m h))
+-- Settings of an accepted scheme.
+pub scheme-settings : (s : Scheme) → schemeRefusal s ≡ 0 → refusal (s .settings) ≡ 0
+unfolding schemeRefusal
+scheme-settings s h = first-own (refusal (s .settings)) _ h .0
+
+-- The number of settings and table, and 8 to 10 by the sizes of the settings.
+module _ (s : Scheme) (z : Sizes) (e : z ≡ sizesOf (s .settings)) (r : ℕ) (g : r ≡ schemeRefusal s) where
+  -- A number that is not 0 is given, whatever follows.
+  pub scheme-refused : (n m : ℕ) (nine ten : Bool) → (schemeRefusal s ≡ 0 → ⊥)
+      → lengthRefusal r z n nine ten ≡ first (ltb 0 (schemeRefusal s)) (schemeRefusal s) m
+  unfolding lengthRefusal
+  scheme-refused n m nine ten h = rw g (first-own-hold (schemeRefusal s) _ h ∙ sym (first-own-hold (schemeRefusal s) m h))
 
   -- Otherwise the sizes are those of the settings.
-  pub settings-allowed : (n : ℕ) (nine ten : Bool) → refusal s ≡ 0
-      → lengthRefusal z n nine ten
-      ≡ first (ltb 0 (refusal s)) (refusal s) (first (not (eqb n (memoryLength s))) 8 (first (not nine) 9 (first (not ten) 10 0)))
+  pub scheme-allowed : (n : ℕ) (nine ten : Bool) → schemeRefusal s ≡ 0
+      → lengthRefusal r z n nine ten
+      ≡ first (ltb 0 (schemeRefusal s)) (schemeRefusal s)
+      (first (not (eqb n (memoryLength (s .settings)))) 8 (first (not nine) 9 (first (not ten) 10 0)))
   unfolding lengthRefusal allSizes memoryLength slotSize
-  settings-allowed n nine ten h = rw (e, sizes-accepts s h, h)
+  scheme-allowed n nine ten h = rw (g, e, sizes-accepts (s .settings) (scheme-settings s h))
 
 -- 12 test by test: the position, the count and the cells.
-module _ (state : State) (memory : List ℤ) (d : ℕ) (e : d ≡ depth (state .settings)) where
+module _ (state : State) (memory : List ℤ) (d : ℕ) (e : d ≡ depth (state .scheme .settings)) where
   pub order-position : d ≤ state .position → false ≡ inOrder state memory
   unfolding inOrder
-  order-position h = rw (le-ltb (state .position) (depth (state .settings)) (omega arith))
+  order-position h = rw (le-ltb (state .position) (depth (state .scheme .settings)) (omega arith))
 
   pub order-count : d ≤ state .count → false ≡ inOrder state memory
   unfolding inOrder
   order-count h =
-      rw (le-ltb (state .count) (depth (state .settings)) (omega arith)) (sym (and-false (ltb (state .position) (depth (state .settings)))))
+      rw (le-ltb (state .count) (depth (state .scheme .settings)) (omega arith)) (sym (and-false (ltb (state .position) (depth (state .scheme .settings)))))
 
-  pub order-cells : length memory ≡ memoryLength (state .settings) → state .position < d → state .count < d → (k : ℕ) (b : Bool)
-      → k ≡ mscConstellation (state .settings .msc) → b ≡ pointsPass (memoryTest k) memory → b ≡ inOrder state memory
+  pub order-cells : length memory ≡ memoryLength (state .scheme .settings) → state .position < d → state .count < d → (k : ℕ) (b : Bool)
+      → k ≡ mscConstellation (state .scheme .settings .msc) → b ≡ pointsPass (memoryTest k) memory → b ≡ inOrder state memory
   unfolding inOrder memoryLength slotSize
   order-cells l p c k b f g =
-      let s = state .settings in
+      let s = state .scheme .settings in
       let n : length memory ≡ 2 * (depth s * nMux s) = l ∙ mul-left-comm (depth s) 2 (nMux s) in
-      g ∙ rw (f, lt-ltb (state .position) (depth s) (omega arith), lt-ltb (state .count) (depth s) (omega arith)) (memory-points s (depth s * nMux s) memory n)
+      g ∙ rw (f, lt-ltb (state .position) (depth s) (omega arith), lt-ltb (state .count) (depth s) (omega arith)) (memory-points (state .scheme) (depth s * nMux s) memory n)
 
 -- 8, 9 and 10 in their order, and what follows them.
 abbrev lengths-then : Bool → Bool → Bool → ℕ → ℕ
@@ -94,22 +102,25 @@ own-stops r m n h k = go (below-or 0 r)
         first-own-pass r m e ∙ k (λ g. h (first-own-pass r m e ∙ g)) ∙ sym (first-own-pass r n e)
 
 -- 1 to 10 with the tests of 9 and 10, and what follows them.
-module _ (s : Settings) (memory : List ℤ) (nine ten : Bool) (n : ℕ) (g : n ≡ refusalThen s memory nine ten 0) where
+module _ (s : Scheme) (memory : List ℤ) (nine ten : Bool) (n : ℕ) (g : n ≡ refusalThen s memory nine ten 0) where
   pub then-stops : (m : ℕ) → (n ≡ 0 → ⊥) → n ≡ refusalThen s memory nine ten m
   unfolding refusalThen
-  then-stops m h = g ∙ own-stops (refusal s) _ _ (λ k. h (g ∙ k)) (λ k. stops _ _ _ m k)
+  then-stops m h = g ∙ own-stops (schemeRefusal s) _ _ (λ k. h (g ∙ k)) (λ k. stops _ _ _ m k)
 
-  pub then-settings : n ≡ 0 → refusal s ≡ 0
+  pub then-scheme : n ≡ 0 → schemeRefusal s ≡ 0
   unfolding refusalThen
-  then-settings h = first-own (refusal s) _ (sym g ∙ h) .0
+  then-scheme h = first-own (schemeRefusal s) _ (sym g ∙ h) .0
 
-  then-passes : n ≡ 0 → (not (eqb (length memory) (memoryLength s)) ≡ false) × (not nine ≡ false) × (not ten ≡ false)
+  pub then-settings : n ≡ 0 → refusal (s .settings) ≡ 0
+  then-settings h = scheme-settings s (then-scheme h)
+
+  then-passes : n ≡ 0 → (not (eqb (length memory) (memoryLength (s .settings))) ≡ false) × (not nine ≡ false) × (not ten ≡ false)
   unfolding refusalThen
-  then-passes h = passes _ _ _ (first-own (refusal s) _ (sym g ∙ h) .1)
+  then-passes h = passes _ _ _ (first-own (schemeRefusal s) _ (sym g ∙ h) .1)
 
   pub then-fits : n ≡ 0 → Fits s memory
   then-fits h =
-      record { settings = then-settings h; long = eqb-true (length memory) (memoryLength s) (not-false _ (then-passes h .0)) }
+      record { scheme = then-scheme h; long = eqb-true (length memory) (memoryLength (s .settings)) (not-false _ (then-passes h .0)) }
 
   pub then-nine : n ≡ 0 → nine ≡ true
   then-nine h = not-false nine (then-passes h .1)
@@ -119,27 +130,27 @@ module _ (s : Settings) (memory : List ℤ) (nine ten : Bool) (n : ℕ) (g : n �
 
   pub then-goes-on : (m : ℕ) → n ≡ 0 → refusalThen s memory nine ten m ≡ m
   unfolding refusalThen first
-  then-goes-on m h = rw (then-settings h, then-passes h .0, then-passes h .1, then-passes h .2)
+  then-goes-on m h = rw (then-scheme h, then-passes h .0, then-passes h .1, then-passes h .2)
 
 -- The number that the sizes give, by the definitions' own tests.
-module _ (s : Settings) (z : Sizes) (e : z ≡ sizesOf s) (memory : List ℤ) where
-  pub refusal-is : (nine ten nine′ ten′ : Bool) → (refusal s ≡ 0 → nine ≡ nine′) → (refusal s ≡ 0 → ten ≡ ten′)
-      → lengthRefusal z (length memory) nine ten ≡ refusalThen s memory nine′ ten′ 0
+module _ (s : Scheme) (z : Sizes) (e : z ≡ sizesOf (s .settings)) (r : ℕ) (g : r ≡ schemeRefusal s) (memory : List ℤ) where
+  pub refusal-is : (nine ten nine′ ten′ : Bool) → (schemeRefusal s ≡ 0 → nine ≡ nine′) → (schemeRefusal s ≡ 0 → ten ≡ ten′)
+      → lengthRefusal r z (length memory) nine ten ≡ refusalThen s memory nine′ ten′ 0
   unfolding refusalThen
-  refusal-is nine ten nine′ ten′ p q = go (below-or 0 (refusal s))
+  refusal-is nine ten nine′ ten′ p q = go (below-or 0 (schemeRefusal s))
     where
-      go : (0 < refusal s) ⊎ (refusal s ≤ 0)
-          → lengthRefusal z (length memory) nine ten
-          ≡ first (ltb 0 (refusal s)) (refusal s) (lengths-then (not (eqb (length memory) (memoryLength s))) (not nine′) (not ten′) 0)
-      go (inl h) = settings-refused s z e (length memory) _ nine ten (omega arith)
-      go (inr h) = let k : refusal s ≡ 0 = omega arith in settings-allowed s z e (length memory) nine ten k ∙ rw (p k, q k)
+      go : (0 < schemeRefusal s) ⊎ (schemeRefusal s ≤ 0)
+          → lengthRefusal r z (length memory) nine ten
+          ≡ first (ltb 0 (schemeRefusal s)) (schemeRefusal s) (lengths-then (not (eqb (length memory) (memoryLength (s .settings)))) (not nine′) (not ten′) 0)
+      go (inl h) = scheme-refused s z e r g (length memory) _ nine ten (omega arith)
+      go (inr h) = let k : schemeRefusal s ≡ 0 = omega arith in scheme-allowed s z e r g (length memory) nine ten k ∙ rw (p k, q k)
 
 -- Lengths right by the sizes are right by the settings.
-module _ (s : Settings) (z : Sizes) (e : z ≡ sizesOf s) where
-  pub bytes-are : (fac sdc msc : List ℕ) → refusal s ≡ 0 → bytesLong z (length fac) (length sdc) (length msc) ≡ byteLengths s fac sdc msc
+module _ (s : Scheme) (z : Sizes) (e : z ≡ sizesOf (s .settings)) where
+  pub bytes-are : (fac sdc msc : List ℕ) → schemeRefusal s ≡ 0 → bytesLong z (length fac) (length sdc) (length msc) ≡ byteLengths (s .settings) fac sdc msc
   unfolding byteLengths allSizes
-  bytes-are fac sdc msc h = rw (e, sizes-accepts s h)
+  bytes-are fac sdc msc h = rw (e, sizes-accepts (s .settings) (scheme-settings s h))
 
-  pub cells-are : (fac sdc msc : List ℤ) → refusal s ≡ 0 → cellsLong z (length fac) (length sdc) (length msc) ≡ cellLengths s fac sdc msc
+  pub cells-are : (fac sdc msc : List ℤ) → schemeRefusal s ≡ 0 → cellsLong z (length fac) (length sdc) (length msc) ≡ cellLengths (s .settings) fac sdc msc
   unfolding cellLengths allSizes
-  cells-are fac sdc msc h = rw (e, sizes-accepts s h)
+  cells-are fac sdc msc h = rw (e, sizes-accepts (s .settings) (scheme-settings s h))

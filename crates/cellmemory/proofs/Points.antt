@@ -14,7 +14,7 @@ use Rattle.lists.specs.Lists.{table}
 use Rattle.lists.specs.Bools.{every}
 use Rattle.lists.proofs.Counting.{below-or}
 use Rattle.lists.proofs.Tables.{table-ext}
-use Rattle.settings.specs.declared.Settings.{Settings}
+use Rattle.channels.specs.declared.Scheme.{Scheme}
 use Rattle.settings.specs.Lengths.{nMux}
 use Rattle.settings.specs.Sizes.{depth}
 use Rattle.block.specs.Points.{arePoints}
@@ -44,33 +44,33 @@ not-leb a b = go (below-or b a)
     go (inl h) = rw (lt-leb a b h, lt-ltb b a h)
     go (inr h) = rw (le-leb a b h, le-ltb b a h)
 
-module _ (s : Settings) where
-  memory-cell : (memory : List ℤ) (i : ℕ) → cellPasses (memoryTest (mscConstellation (s .msc))) memory i ≡ memoryCell s memory i
+module _ (s : Scheme) where
+  memory-cell : (memory : List ℤ) (i : ℕ) → cellPasses (memoryTest (mscConstellation (s .settings .msc))) memory i ≡ memoryCell s memory i
   unfolding cellPasses memoryCell isBlank isStart mscBlock pointsOf
   memory-cell memory i = rw (mod-one i)
 
   pub memory-points : (n : ℕ) (memory : List ℤ) → length memory ≡ 2 * n
-      → pointsPass (memoryTest (mscConstellation (s .msc))) memory ≡ every (table (memoryCell s memory) 0 n)
+      → pointsPass (memoryTest (mscConstellation (s .settings .msc))) memory ≡ every (table (memoryCell s memory) 0 n)
   unfolding pointsPass
   memory-points n memory e =
       let h : length memory / 2 ≡ n = omega arith in
       rw h (ap every (table-ext _ _ 0 n (λ i a b. memory-cell memory i)))
 
-  row-cell : (count : ℕ) (row : List ℤ) (i : ℕ) → cellPasses (rowTest (mscConstellation (s .msc)) (depth s) count) row i ≡ rowCell s count row i
+  row-cell : (count : ℕ) (row : List ℤ) (i : ℕ) → cellPasses (rowTest (mscConstellation (s .settings .msc)) (depth (s .settings)) count) row i ≡ rowCell s count row i
   unfolding cellPasses rowCell mscBlock pointsOf
   row-cell count row i = rw (delay-even, not-leb)
 
-  pub row-points : (count : ℕ) (row : List ℤ) → length row ≡ 2 * nMux s
-      → pointsPass (rowTest (mscConstellation (s .msc)) (depth s) count) row ≡ rowPoints s count row
+  pub row-points : (count : ℕ) (row : List ℤ) → length row ≡ 2 * nMux (s .settings)
+      → pointsPass (rowTest (mscConstellation (s .settings .msc)) (depth (s .settings)) count) row ≡ rowPoints s count row
   unfolding pointsPass rowPoints
   row-points count row e =
-      let h : length row / 2 ≡ nMux s = omega arith in
-      rw h (ap every (table-ext _ _ 0 (nMux s) (λ i a b. row-cell count row i)))
+      let h : length row / 2 ≡ nMux (s .settings) = omega arith in
+      rw h (ap every (table-ext _ _ 0 (nMux (s .settings)) (λ i a b. row-cell count row i)))
 
-  pub sdc-points : (cells : List ℤ) → length cells % 2 ≡ 0 → pointsPass (pointsOnly (sdcConstellation (s .sdc))) cells ≡ arePoints (pointsOf (sdcBlock s)) cells
+  pub sdc-points : (cells : List ℤ) → length cells % 2 ≡ 0 → pointsPass (pointsOnly (sdcConstellation (s .settings .sdc))) cells ≡ arePoints (pointsOf (sdcBlock s)) cells
   unfolding sdcBlock pointsOf
-  sdc-points cells e = points-only (sdcConstellation (s .sdc)) cells e
+  sdc-points cells e = points-only (sdcConstellation (s .settings .sdc)) cells e
 
-pub fac-points : (cells : List ℤ) → length cells % 2 ≡ 0 → pointsPass (pointsOnly 0) cells ≡ arePoints (pointsOf facBlock) cells
-unfolding facBlock pointsOf
-fac-points cells e = points-only 0 cells e
+  pub fac-points : (cells : List ℤ) → length cells % 2 ≡ 0 → pointsPass (pointsOnly 0) cells ≡ arePoints (pointsOf (facBlock s)) cells
+  unfolding facBlock pointsOf
+  fac-points cells e = points-only 0 cells e

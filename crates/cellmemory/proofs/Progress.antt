@@ -29,8 +29,8 @@ pub later-low : (D d p : ℕ) → d < D → p ≡ later D d → p < D
 later-low D d p h e = rw (later-is D d p h e) (mod-lt (d + 1) (positive h))
 
 -- The state after a frame, from the next position and count.
-pub next-state-is : (state : State) (D p c : ℕ) → D ≡ depth (state .settings) → state .position < D → p ≡ later D (state .position)
-    → c ≡ min (state .count + 1) (D - 1) → record { settings = state .settings; position = p; count = c } ≡ nextState state
+pub next-state-is : (state : State) (D p c : ℕ) → D ≡ depth (state .scheme .settings) → state .position < D → p ≡ later D (state .position)
+    → c ≡ min (state .count + 1) (D - 1) → record { scheme = state .scheme; position = p; count = c } ≡ nextState state
 unfolding stateOf advanced progressOf
 next-state-is state D p c d h e f = rw (later-is D (state .position) p h e, f, d)
 
@@ -49,7 +49,7 @@ next-fits state memory memory′ h e =
 pub memory-most : {state : State} {memory : List ℤ} → StateFits state memory → length memory ≤ 61180
 unfolding slotSize
 memory-most {state} h =
-    let m : depth (state .settings) * (2 * nMux (state .settings)) ≤ 5 * (2 * nMux (state .settings)) =
-    mul-le-mul-right (2 * nMux (state .settings)) (depth-high (state .settings))
+    let m : depth (state .scheme .settings) * (2 * nMux (state .scheme .settings)) ≤ 5 * (2 * nMux (state .scheme .settings)) =
+    mul-le-mul-right (2 * nMux (state .scheme .settings)) (depth-high (state .scheme .settings))
     in
-    omega (arith, h .slots, h .allowed .ranges .muxMost)
+    omega (arith, h .slots, h .allowed .settings .ranges .muxMost)

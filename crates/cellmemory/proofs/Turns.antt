@@ -64,11 +64,11 @@ pub record RowFits (D n position : ℕ) (memory row : List ℤ) : Type 0 where
   pub slots : length memory ≡ D * (2 * n)
   pub numbers : length row ≡ 2 * n
 
-pub row-fits : (state : State) (D n : ℕ) (memory row : List ℤ) → RowLent state memory row → D ≡ depth (state .settings) → n ≡ nMux (state .settings)
+pub row-fits : (state : State) (D n : ℕ) (memory row : List ℤ) → RowLent state memory row → D ≡ depth (state .scheme .settings) → n ≡ nMux (state .scheme .settings)
     → RowFits D n (state .position) memory row
 unfolding slotSize
 row-fits state D n memory row h e f =
-    let b = h .fits .allowed .ranges in
+    let b = h .fits .allowed .settings .ranges in
     record {
       low = omega (arith, f, b .muxLeast);
       high = omega (arith, f, b .muxMost);

@@ -8,30 +8,31 @@ use lib.IntN.{ℤ, pos, negsuc}
 use lib.Dec.{eqb, leb, ltb}
 use Rattle.settings.specs.declared.Sizes.{Sizes}
 use Rattle.settings.specs.declared.Settings.{Settings}
-use Rattle.settings.specs.Accepted.{Accepted}
 use Rattle.settings.specs.Refusal.{first, refusal}
 use Rattle.settings.specs.Sizes.{depth, frameBytes, sdcBytes}
+use Rattle.channels.specs.declared.Scheme.{Scheme}
+use Rattle.channels.specs.Scheme.{schemeRefusal, SchemeAccepted}
 use Rattle.superframe.specs.declared.State.{State}
 use Rattle.superframe.specs.Memory.{slotSize}
 use Rattle.superframe.specs.Interleaving.{advanced}
 use Rattle.superframe.specs.Call.{memoryLength}
 use Rattle.superframe.specs.Code.{progressOf, stateOf}
 
--- State and memory in order: allowed settings, position and count below the depth, and memory of its length.
+-- State and memory in order: allowed settings and table, position and count below the depth, and memory of its length.
 pub record StateFits (state : State) (memory : List ℤ) : Type 0 where
-  pub allowed : Accepted (state .settings)
-  pub position : state .position < depth (state .settings)
-  pub count : state .count < depth (state .settings)
-  pub slots : length memory ≡ depth (state .settings) * slotSize (state .settings)
+  pub allowed : SchemeAccepted (state .scheme)
+  pub position : state .position < depth (state .scheme .settings)
+  pub count : state .count < depth (state .scheme .settings)
+  pub slots : length memory ≡ depth (state .scheme .settings) * slotSize (state .scheme .settings)
 
 -- The same with a row.
 pub record RowLent (state : State) (memory row : List ℤ) : Type 0 where
   pub fits : StateFits state memory
-  pub long : length row ≡ slotSize (state .settings)
+  pub long : length row ≡ slotSize (state .scheme .settings)
 
 -- The state after a frame: of a progress, position and count don't depend on memory.
 abbrev pub nextState : State → State
-nextState state = stateOf (state .settings) (advanced (depth (state .settings)) [] (progressOf state []))
+nextState state = stateOf (state .scheme) (advanced (depth (state .scheme .settings)) [] (progressOf state []))
 
 -- The slot before a slot; before the first comes the last.
 unfoldable pub previous : ℕ → ℕ → ℕ
@@ -65,17 +66,17 @@ bytesLong z fac sdc msc = eqb fac 27 && (eqb sdc (z .sdcbytes) && eqb msc (z .ms
 abbrev pub cellsLong : Sizes → ℕ → ℕ → ℕ → Bool
 cellsLong z fac sdc msc = eqb fac (z .facnumbers) && (eqb sdc (z .sdcnumbers) && eqb msc (z .mscnumbers))
 
--- 1 to 10: the settings, a memory of so many numbers, and the tests of 9 and 10.
-unfoldable pub lengthRefusal : Sizes → ℕ → Bool → Bool → ℕ
-lengthRefusal z numbers nine ten =
-    first (ltb 0 (z .refusal)) (z .refusal)
+-- The number of settings and table, and 8 to 10: a memory of so many numbers, and the tests of 9 and 10.
+unfoldable pub lengthRefusal : ℕ → Sizes → ℕ → Bool → Bool → ℕ
+lengthRefusal r z numbers nine ten =
+    first (ltb 0 r) r
     (first (not (eqb numbers (z .memory))) 8 (first (not nine) 9 (first (not ten) 10 0)))
 
--- The same by the settings, and what follows: a number m for the tests after 10.
-unfoldable pub refusalThen : Settings → List ℤ → Bool → Bool → ℕ → ℕ
+-- The same by settings and table, and what follows: a number m for the tests after 10.
+unfoldable pub refusalThen : Scheme → List ℤ → Bool → Bool → ℕ → ℕ
 refusalThen s memory nine ten m =
-    first (ltb 0 (refusal s)) (refusal s)
-    (first (not (eqb (length memory) (memoryLength s))) 8 (first (not nine) 9 (first (not ten) 10 m)))
+    first (ltb 0 (schemeRefusal s)) (schemeRefusal s)
+    (first (not (eqb (length memory) (memoryLength (s .settings)))) 8 (first (not nine) 9 (first (not ten) 10 m)))
 
 -- An SDC block and three multiplex frames of allowed settings, as packed bytes.
 pub record Packed (s : Settings) (sdc msc : List ℕ) : Type 0 where

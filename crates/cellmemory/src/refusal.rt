@@ -37,12 +37,12 @@ pub fn cells_long(z: Sizes, fac: usize, sdc: usize, msc: usize) -> bool
         & ((sdc == z.sdcnumbers as usize) & (msc == z.mscnumbers as usize))
 }
 
-// 1 to 10: the settings, a memory of so many numbers, and the tests of 9 and 10.
-pub fn length_refusal(z: Sizes, numbers: usize, nine: bool, ten: bool) -> u8
-    ensures { λ r. ⌜ r ≡ lengthRefusal z numbers nine ten ⌝ }
+// The number of settings and table, and 8 to 10: a memory of so many numbers, and the tests of 9 and 10.
+pub fn length_refusal(number: u8, z: Sizes, numbers: usize, nine: bool, ten: bool) -> u8
+    ensures { λ r. ⌜ r ≡ lengthRefusal number z numbers nine ten ⌝ }
 {
-    if z.refusal != 0 {
-        return z.refusal;
+    if number != 0 {
+        return number;
     }
     if numbers != z.memory as usize {
         return 8;
@@ -91,10 +91,10 @@ pub fn spares_zero(s: Settings, sdc: &[u8], msc: &[u8]) -> bool
 
 // 12: position and count are below the depth, and every memory cell is (0, 0) or an MSC point.
 pub fn in_order(state: State, memory: &[i16]) -> bool
-    requires { ⌜ Fits (state .settings) (now memory) ⌝ }
+    requires { ⌜ Fits (state .scheme) (now memory) ⌝ }
     ensures { λ b. ⌜ b ≡ inOrder state (now (memory .entry)) ⌝ }
 {
-    let s = state.settings;
+    let s = state.scheme.settings;
     let depth = answers::depth(s);
     if depth <= state.position as usize {
         return false;

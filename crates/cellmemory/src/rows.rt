@@ -61,15 +61,15 @@ fn next_count(depth: usize, count: usize) -> usize
 
 // The state after a frame: the position goes on to the next slot, and the count stops at D - 1.
 pub fn next_state(state: State) -> State
-    requires { ⌜ (state .position < depth (state .settings)) × (state .count < depth (state .settings)) ⌝ }
+    requires { ⌜ (state .position < depth (state .scheme .settings)) × (state .count < depth (state .scheme .settings)) ⌝ }
     ensures { λ r. ⌜ r ≡ nextState state ⌝ }
 {
-    let s = state.settings;
-    let depth = answers::depth(s);
+    let scheme = state.scheme;
+    let depth = answers::depth(scheme.settings);
     let position = next_modulo(depth, state.position as usize);
     let count = next_count(depth, state.count as usize);
     State {
-        settings: s,
+        scheme,
         position: position as u8,
         count: count as u8,
     }
@@ -87,10 +87,11 @@ fn copy_cell(from: &[i16], k: usize, to: &mut [i16], at: usize)
 // The sent cells of a frame whose own cells stand in memory at the position: what memory holds, whatever the count.
 pub fn send_row(state: State, memory: &[i16], out: &mut [i16])
     requires { ⌜ RowLent state (now memory) (now out) ⌝ }
-    ensures { λ r. ⌜ now (out .exit) ≡ sentRow (state .settings) (now (memory .entry)) (state .position) ⌝ }
+    ensures { λ r. ⌜ now (out .exit) ≡ sentRow (state .scheme .settings) (now (memory .entry)) (state .position) ⌝ }
 {
-    let depth = answers::depth(state.settings);
-    let n = tables::n_mux(state.settings.mode, state.settings.occupancy);
+    let settings = state.scheme.settings;
+    let depth = answers::depth(settings);
+    let n = tables::n_mux(settings.mode, settings.occupancy);
     let s = size_of(n);
     let q = offset_of(s);
     let mut place = 0;
@@ -118,10 +119,11 @@ fn take_cell(delay: usize, count: usize, row: &[i16], k: usize, memory: &mut [i1
 // The numbers of a row put where the coder took them.
 pub fn take_row(state: State, row: &[i16], memory: &mut [i16])
     requires { ⌜ RowLent state (now memory) (now row) ⌝ }
-    ensures { λ r. ⌜ now (memory .exit) ≡ taken (state .settings) (progressOf state (now (memory .entry))) (now (row .entry)) ⌝ }
+    ensures { λ r. ⌜ now (memory .exit) ≡ taken (state .scheme .settings) (progressOf state (now (memory .entry))) (now (row .entry)) ⌝ }
 {
-    let depth = answers::depth(state.settings);
-    let n = tables::n_mux(state.settings.mode, state.settings.occupancy);
+    let settings = state.scheme.settings;
+    let depth = answers::depth(settings);
+    let n = tables::n_mux(settings.mode, settings.occupancy);
     let count = state.count as usize;
     let s = size_of(n);
     let q = offset_of(s);

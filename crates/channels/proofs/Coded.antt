@@ -4,26 +4,28 @@ use mathlib.Core.Path.{_≡_, sym, ap, _∙_}
 use mathlib.Core.Logic.{_⊎_, inl, inr}
 use native.Mathlib.Nat.{mul-comm, mul-left-comm, mod-lt, div-add-mod'}
 use native.Mathlib.Omega.{arith}
-use Rattle.component.specs.Patterns.{RY, pattern, tailPattern}
-use Rattle.component.specs.Decoding.{codedLength, Sound}
-use Rattle.component.proofs.Patterns.{tail-sound}
+use mathlib.Core.List.{List}
+use Rattle.patterns.specs.Patterns.{RY, pattern, tailPattern, Sound}
+use Rattle.patterns.specs.Loaded.{Allowed}
+use Rattle.component.specs.Decoding.{codedLength}
+use Rattle.patterns.proofs.Patterns.{tail-sound}
 use Rattle.component.proofs.Lengths.{RY-low, rate-length, level-length}
 use Rattle.settings.specs.Formulas.{bitsA, bitsB, remainder}
 use Rattle.settings.proofs.PartA.{bitsA-exact}
 use Rattle.block.specs.Fits.{Mixes, plain, empty, cycle}
 
 -- part A: whole rounds of its pattern
-pub sizeA-is : (w n rate : ℕ) → rate < 13 → n % RY rate ≡ 0 → codedLength (pattern rate) 0 (bitsA w n rate) ≡ w * n
-sizeA-is w n rate h e =
+pub sizeA-is : {kept : List ℕ} → Allowed kept → (w n rate : ℕ) → rate < 13 → n % RY rate ≡ 0 → codedLength (pattern kept rate) 0 (bitsA w n rate) ≡ w * n
+sizeA-is A w n rate h e =
     let q = n / RY rate in
     let whole : n ≡ q * RY rate = omega (arith, div-add-mod' n (RY rate)) in
-    rw (bitsA-exact w n rate q whole, rate-length rate (w * q) h) (mul-left-comm (RY rate) w q ∙ ap (λ m. w * m) (mul-comm (RY rate) q ∙ sym whole))
+    rw (bitsA-exact w n rate q whole, rate-length A rate (w * q) h) (mul-left-comm (RY rate) w q ∙ ap (λ m. w * m) (mul-comm (RY rate) q ∙ sym whole))
 
 -- part B and its tail
-pub sizeB-is : (w n rate : ℕ) → rate < 13 → 12 ≤ w * n
-    → codedLength (pattern rate) 0 (bitsB w n rate) + codedLength (tailPattern (remainder w n rate)) 0 6 ≡ w * n
+pub sizeB-is : {kept : List ℕ} → Allowed kept → (w n rate : ℕ) → rate < 13 → 12 ≤ w * n
+    → codedLength (pattern kept rate) 0 (bitsB w n rate) + codedLength (tailPattern (remainder w n rate)) 0 6 ≡ w * n
 unfolding bitsB remainder
-sizeB-is w n rate h l = level-length rate (w * n - 12) h ∙ omega arith
+sizeB-is A w n rate h l = level-length A rate (w * n - 12) h ∙ omega arith
 
 -- the tail's pattern stands in table 66
 pub tail-fits : (w n rate : ℕ) → rate < 13 → Sound (tailPattern (remainder w n rate))

@@ -4,9 +4,11 @@ use mathlib.Core.List.{[], _∷_}
 use native.Mathlib.Omega.{arith}
 use lib.Dec.{lit<, lit≤}
 use lib.ListN.{length}
-use Rattle.component.specs.Patterns.{R3/5, pattern}
+use Rattle.patterns.specs.Patterns.{R3/5, pattern}
+use Rattle.patterns.specs.Loaded.{Allowed}
 use Rattle.component.proofs.Codeword.{coded-none}
-use Rattle.component.proofs.Patterns.{pattern-sound, pattern-from, held}
+use Rattle.patterns.proofs.Loaded.{pattern-sound}
+use Rattle.patterns.proofs.Patterns.{pattern-from, held}
 use Rattle.component.proofs.Lengths.{fac-length}
 use Rattle.settings.specs.Rates.{facRate}
 use Rattle.settings.specs.Cells.{facCells}
@@ -17,53 +19,54 @@ use Rattle.block.specs.Reading.{sizeA, sizeB}
 use Rattle.block.specs.Fits.{empty, cycle, LevelFits, none, more, BlockFits}
 use Rattle.block.proofs.Mapping.{levelCount, constellation-labels}
 use Rattle.block.proofs.Blocks.{levels-from, length-six}
+use Rattle.channels.specs.declared.Scheme.{Scheme}
 use Rattle.channels.specs.Fac.{facLevel, facBlock}
 
-levels-are : levelsOf facBlock ≡ facLevel ∷ []
+levels-are : (s : Scheme) → levelsOf (facBlock s) ≡ facLevel s ∷ []
 unfolding facBlock
-levels-are = levels-from 0 (facLevel ∷ []) 0 facCells 0
+levels-are s = levels-from 0 (facLevel s ∷ []) 0 facCells 0
 
 -- 72 bits
-pub fac-bits : bitCount facBlock ≡ facBits
+pub fac-bits : (s : Scheme) → bitCount (facBlock s) ≡ facBits
 unfolding bitCount facLevel totalA totalB facBits
-fac-bits = rw levels-are
+fac-bits s = rw (levels-are s)
 
-size-A : sizeA facLevel ≡ 0
+size-A : (s : Scheme) → sizeA (facLevel s) ≡ 0
 unfolding sizeA facLevel facRate
-size-A = rw pattern-from (coded-none (pattern R3/5) 0)
+size-A s = rw pattern-from (coded-none (pattern (s .table) R3/5) 0)
 
-size-B : sizeB facLevel ≡ 130
+size-B : (s : Scheme) → Allowed (s .table) → sizeB (facLevel s) ≡ 130
 unfolding sizeB facLevel facRate facBits
-size-B = rw pattern-from fac-length
+size-B s T = rw pattern-from (fac-length T)
 
-fac-level : LevelFits 130 facLevel
+fac-level : (s : Scheme) → Allowed (s .table) → LevelFits 130 (facLevel s)
 unfolding facLevel facRate
-fac-level =
-    let H = held (pattern-sound R3/5 (lit< tt)) in
+fac-level s T =
+    let H = held (pattern-sound T R3/5 (lit< tt)) in
     record {
       heldA = H;
       heldB = H;
       heldTail = H;
       small = lit< tt;
-      mixesA = empty size-A;
-      mixesB = rw size-B (cycle (record { low = lit≤ tt; factor = refl }));
-      size = rw (size-A, size-B);
+      mixesA = empty (size-A s);
+      mixesB = rw (size-B s T) (cycle (record { low = lit≤ tt; factor = refl }));
+      size = rw (size-A s, size-B s T);
     }
 
 -- the FAC's level and constellation allow its bits to be read back
-pub fac-fits : BlockFits facBlock
+pub fac-fits : (s : Scheme) → Allowed (s .table) → BlockFits (facBlock s)
 unfolding facBlock facCells levelCount oneAxis pointsOf facBits
-fac-fits =
+fac-fits s T =
     record {
       streams = 1;
-      levels = ap length levels-are;
-      fit = rw levels-are (more fac-level none);
+      levels = ap length (levels-are s);
+      fit = rw (levels-are s) (more (fac-level s T) none);
       labels = constellation-labels 0;
       front = omega arith;
       few = lit≤ tt;
-      room = length-six (facLevel ∷ []);
+      room = length-six (facLevel s ∷ []);
       known = lit< tt;
       part = omega arith;
       most = lit≤ tt;
-      short = rw fac-bits (lit≤ tt);
+      short = rw (fac-bits s) (lit≤ tt);
     }

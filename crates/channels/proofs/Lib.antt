@@ -5,3 +5,5 @@ pub mod Sdc
 pub mod Msc
 pub mod Made
 pub mod Lent
+pub mod Schemes
+pub mod EveryTable

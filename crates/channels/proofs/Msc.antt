@@ -9,18 +9,19 @@ use native.Mathlib.Omega.{arith}
 use lib.ListN.{length, getD}
 use lib.Dec.{T, eqb, ltb, eqb→eq, ltb→lt, lit<}
 use borrow.Author.Tests.{eqb-true, ne-eqb}
-use Rattle.component.specs.Patterns.{RY, pattern}
+use Rattle.patterns.specs.Patterns.{RY, pattern}
 use Rattle.component.proofs.Codeword.{coded-none}
-use Rattle.component.proofs.Patterns.{pattern-sound, pattern-from, held}
-use Rattle.settings.specs.declared.Settings.{Settings}
+use Rattle.patterns.proofs.Loaded.{pattern-sound}
+use Rattle.patterns.proofs.Patterns.{pattern-from, held}
+use Rattle.patterns.specs.Loaded.{Allowed}
 use Rattle.settings.specs.Rates.{rates, table67, table68, table69, table71, commonDenominator, vsppRate}
 use Rattle.settings.specs.Formulas.{hierarchical, width, partA, partB, partVspp, cellsA}
 use Rattle.settings.specs.Refusal.{topLevel}
 use Rattle.settings.specs.Lengths.{nMux, n1, n2, l1, l2, lVspp}
 use Rattle.settings.specs.Sizes.{frameBits}
-use Rattle.settings.specs.Accepted.{Level as Protection, Accepted}
+use Rattle.settings.specs.Accepted.{Level as Protection}
 use Rattle.settings.proofs.LookUps.{all, all-at}
-use Rattle.component.proofs.Tests.{both-left, both-right}
+use Rattle.lists.proofs.Rules.{both-left, both-right}
 use Rattle.settings.proofs.Parts.{levels, level-at}
 use Rattle.settings.proofs.PartA.{divide, common-divides, times-denominator}
 use Rattle.block.specs.declared.Level.{Level}
@@ -31,22 +32,24 @@ use Rattle.block.proofs.Blocks.{levels-from, length-six}
 use Rattle.block.specs.Reading.{sizeA, sizeB}
 use Rattle.block.specs.Fits.{plain, LevelFits, LevelsFit, more, BlockFits}
 use Rattle.block.proofs.Mapping.{levelCount, constellation-labels}
+use Rattle.channels.specs.declared.Scheme.{Scheme}
+use Rattle.channels.specs.Scheme.{SchemeAccepted}
 use Rattle.channels.specs.Msc.{vsppLevel, mscSteps, mscVspp, mscProtected, mscLevels, mscConstellation, mscBlock}
 use Rattle.channels.proofs.Coded.{sizeB-is, tail-fits, Step}
 use Rattle.channels.proofs.Protected.{Cells, protected-fit, protected-length, protected-totalA, protected-totalB}
 
 -- the level of the very strongly protected part has w N coded bits
-vspp-level : (w n rate : ℕ) → rate < 13 → 12 ≤ w * n → LevelFits (w * n) (vsppLevel w n rate)
+vspp-level : {kept : List ℕ} → Allowed kept → (w n rate : ℕ) → rate < 13 → 12 ≤ w * n → LevelFits (w * n) (vsppLevel kept w n rate)
 unfolding vsppLevel sizeA sizeB
-vspp-level w n rate h l =
+vspp-level {kept} T w n rate h l =
     record {
-      heldA = held (pattern-sound rate h);
-      heldB = held (pattern-sound rate h);
+      heldA = held (pattern-sound T rate h);
+      heldB = held (pattern-sound T rate h);
       heldTail = held (tail-fits w n rate h);
       small = lit< tt;
       mixesA = plain refl;
       mixesB = plain refl;
-      size = rw (pattern-from, pattern-from, coded-none (pattern rate) 0, zero-add) (sizeB-is w n rate h l);
+      size = rw (pattern-from, pattern-from, coded-none (pattern kept rate) 0, zero-add) (sizeB-is T w n rate h l);
     }
 
 -- facts of every protection level, each one computed test
@@ -176,92 +179,92 @@ both-axes msc n = go (eqb msc 1)
     go true = omega arith
     go false = refl
 
-module _ {s : Settings} (accepted : Accepted s) where
-  A : Protection (s .msc) (s .levela)
-  A = accepted .ranges .partA
+module _ {c : Scheme} (served : SchemeAccepted c) where
+  A : Protection (c .settings .msc) (c .settings .levela)
+  A = served .settings .ranges .partA
 
-  B : Protection (s .msc) (s .levelb)
-  B = accepted .ranges .partB
+  B : Protection (c .settings .msc) (c .settings .levelb)
+  B = served .settings .ranges .partB
 
-  pub cells : Cells (width (s .msc)) (n1 s) (n2 s) (rates (s .msc) (s .levela))
+  pub cells : Cells (width (c .settings .msc)) (n1 (c .settings)) (n2 (c .settings)) (rates (c .settings .msc) (c .settings .levela))
   unfolding n1 cellsA
   cells =
       record {
-        whole = divided (commonDenominator (s .msc) (s .levela)) (rates (s .msc) (s .levela)) (common-divides (s .msc) (s .levela) A) _;
-        some = none-or-enough (width (s .msc)) (n1 s) (accepted .n1Some);
-        room = omega (arith, wide (s .msc) (n2 s), accepted .n2Least);
+        whole = divided (commonDenominator (c .settings .msc) (c .settings .levela)) (rates (c .settings .msc) (c .settings .levela)) (common-divides (c .settings .msc) (c .settings .levela) A) _;
+        some = none-or-enough (width (c .settings .msc)) (n1 (c .settings)) (served .settings .n1Some);
+        room = omega (arith, wide (c .settings .msc) (n2 (c .settings)), served .settings .n2Least);
       }
 
-  same-count : length (rates (s .msc) (s .levela)) ≡ length (rates (s .msc) (s .levelb))
-  same-count = omega (arith, count-levels (s .msc) (s .levela) A, count-levels (s .msc) (s .levelb) B)
+  same-count : length (rates (c .settings .msc) (c .settings .levela)) ≡ length (rates (c .settings .msc) (c .settings .levelb))
+  same-count = omega (arith, count-levels (c .settings .msc) (c .settings .levela) A, count-levels (c .settings .msc) (c .settings .levelb) B)
 
-  levels-fit : LevelsFit (cond (eqb (mscConstellation (s .msc)) HMMIX) (nMux s) (2 * nMux s)) (mscLevels s)
+  levels-fit : LevelsFit (cond (eqb (mscConstellation (c .settings .msc)) HMMIX) (nMux (c .settings)) (2 * nMux (c .settings))) (mscLevels c)
   unfolding mscLevels mscVspp mscProtected
   levels-fit =
-      let e : width (s .msc) * n1 s + width (s .msc) * n2 s ≡ width (s .msc) * nMux s = rw (← mul-add, accepted .cells) in
-      let F = protected-fit (width (s .msc)) (n1 s) (n2 s) (rates (s .msc) (s .levela)) (rates (s .msc) (s .levelb)) (mscSteps (s .msc)) cells
-      (rates-low (s .msc) (s .levela) A) (rates-low (s .msc) (s .levelb) B) (steps (s .msc)) in
+      let e : width (c .settings .msc) * n1 (c .settings) + width (c .settings .msc) * n2 (c .settings) ≡ width (c .settings .msc) * nMux (c .settings) = rw (← mul-add, served .settings .cells) in
+      let F = protected-fit (served .table) (width (c .settings .msc)) (n1 (c .settings)) (n2 (c .settings)) (rates (c .settings .msc) (c .settings .levela)) (rates (c .settings .msc) (c .settings .levelb)) (mscSteps (c .settings .msc)) cells
+      (rates-low (c .settings .msc) (c .settings .levela) A) (rates-low (c .settings .msc) (c .settings .levelb) B) (steps (c .settings .msc)) in
       rw (mix-is, ← both-axes)
-      (front-fit (hierarchical (s .msc)) (mscVspp s) (mscProtected s) (width (s .msc) * nMux s)
-      (vspp-level (width (s .msc)) (nMux s) (vsppRate (s .vspp)) (vspp-rate-low (s .vspp)) (omega (arith, wide (s .msc) (nMux s), accepted .ranges .muxLeast)))
+      (front-fit (hierarchical (c .settings .msc)) (mscVspp c) (mscProtected c) (width (c .settings .msc) * nMux (c .settings))
+      (vspp-level (served .table) (width (c .settings .msc)) (nMux (c .settings)) (vsppRate (c .settings .vspp)) (vspp-rate-low (c .settings .vspp)) (omega (arith, wide (c .settings .msc) (nMux (c .settings)), served .settings .ranges .muxLeast)))
       (rw e at F))
 
-  total-A : totalA (mscLevels s) ≡ lVspp s + l1 s
+  total-A : totalA (mscLevels c) ≡ lVspp (c .settings) + l1 (c .settings)
   unfolding mscLevels mscVspp mscProtected vsppLevel lVspp partVspp l1 partA
   total-A =
-      front-totalA (hierarchical (s .msc)) (mscVspp s) (mscProtected s)
-      ∙ ap (λ m. cond (hierarchical (s .msc)) (mscVspp s .bitsa) 0 + m)
-      (protected-totalA (width (s .msc)) (n1 s) (n2 s) (rates (s .msc) (s .levela)) (rates (s .msc) (s .levelb)) (mscSteps (s .msc)))
+      front-totalA (hierarchical (c .settings .msc)) (mscVspp c) (mscProtected c)
+      ∙ ap (λ m. cond (hierarchical (c .settings .msc)) (mscVspp c .bitsa) 0 + m)
+      (protected-totalA (c .table) (width (c .settings .msc)) (n1 (c .settings)) (n2 (c .settings)) (rates (c .settings .msc) (c .settings .levela)) (rates (c .settings .msc) (c .settings .levelb)) (mscSteps (c .settings .msc)))
 
-  total-B : totalB (mscLevels s) ≡ l2 s
+  total-B : totalB (mscLevels c) ≡ l2 (c .settings)
   unfolding mscLevels mscVspp mscProtected vsppLevel l2 partB
   total-B =
-      front-totalB (hierarchical (s .msc)) (mscVspp s) (mscProtected s) refl
-      ∙ protected-totalB (width (s .msc)) (n1 s) (n2 s) (rates (s .msc) (s .levela)) (rates (s .msc) (s .levelb)) (mscSteps (s .msc)) same-count
+      front-totalB (hierarchical (c .settings .msc)) (mscVspp c) (mscProtected c) refl
+      ∙ protected-totalB (c .table) (width (c .settings .msc)) (n1 (c .settings)) (n2 (c .settings)) (rates (c .settings .msc) (c .settings .levela)) (rates (c .settings .msc) (c .settings .levelb)) (mscSteps (c .settings .msc)) same-count
 
-  levels-are : levelsOf (mscBlock s) ≡ mscLevels s
+  levels-are : levelsOf (mscBlock c) ≡ mscLevels c
   unfolding mscBlock
-  levels-are = levels-from _ (mscLevels s) _ _ _
+  levels-are = levels-from _ (mscLevels c) _ _ _
 
   -- a multiplex frame has L_VSPP + L1 + L2 bits
-  pub msc-bits : bitCount (mscBlock s) ≡ frameBits s
+  pub msc-bits : bitCount (mscBlock c) ≡ frameBits (c .settings)
   unfolding bitCount frameBits
   msc-bits = rw (levels-are, total-A, total-B) (omega arith)
 
 -- how many levels a multiplex frame has
-pub length-levels : (s : Settings) → length (mscLevels s) ≡ cond (hierarchical (s .msc)) 1 0 + length (rates (s .msc) (s .levela))
+pub length-levels : (c : Scheme) → length (mscLevels c) ≡ cond (hierarchical (c .settings .msc)) 1 0 + length (rates (c .settings .msc) (c .settings .levela))
 unfolding mscLevels mscProtected
-length-levels s =
-    front-length (hierarchical (s .msc)) (mscVspp s) (mscProtected s)
-    ∙ ap (λ m. cond (hierarchical (s .msc)) 1 0 + m)
-    (protected-length (width (s .msc)) (n1 s) (n2 s) (rates (s .msc) (s .levela)) (rates (s .msc) (s .levelb)) (mscSteps (s .msc)))
+length-levels c =
+    front-length (hierarchical (c .settings .msc)) (mscVspp c) (mscProtected c)
+    ∙ ap (λ m. cond (hierarchical (c .settings .msc)) 1 0 + m)
+    (protected-length (c .table) (width (c .settings .msc)) (n1 (c .settings)) (n2 (c .settings)) (rates (c .settings .msc) (c .settings .levela)) (rates (c .settings .msc) (c .settings .levelb)) (mscSteps (c .settings .msc)))
 
-module _ {s : Settings} (accepted : Accepted s) where
-  P : Protection (s .msc) (s .levela)
-  P = accepted .ranges .partA
+module _ {c : Scheme} (served : SchemeAccepted c) where
+  P : Protection (c .settings .msc) (c .settings .levela)
+  P = served .settings .ranges .partA
 
   -- at most six levels
-  pub few-of : length (mscLevels s) ≤ 6
-  few-of = rw (length-levels s) (few-levels (s .msc) (s .levela) P)
+  pub few-of : length (mscLevels c) ≤ 6
+  few-of = rw (length-levels c) (few-levels (c .settings .msc) (c .settings .levela) P)
 
-  front-low : mscBlock s .vspp ≤ bitCount (mscBlock s)
+  front-low : mscBlock c .vspp ≤ bitCount (mscBlock c)
   unfolding frameBits mscBlock
-  front-low = rw (msc-bits accepted) (omega arith)
+  front-low = rw (msc-bits served) (omega arith)
 
   -- a multiplex frame's levels and constellation allow its bits to be read back
-  pub msc-fits : BlockFits (mscBlock s)
+  pub msc-fits : BlockFits (mscBlock c)
   unfolding mscBlock oneAxis pointsOf
   msc-fits =
       record {
-        streams = levelCount (mscConstellation (s .msc));
-        levels = ap length (levels-are accepted) ∙ length-levels s ∙ count-levels (s .msc) (s .levela) P;
-        fit = rw (levels-are accepted) (levels-fit accepted);
-        labels = constellation-labels (mscConstellation (s .msc));
+        streams = levelCount (mscConstellation (c .settings .msc));
+        levels = ap length (levels-are served) ∙ length-levels c ∙ count-levels (c .settings .msc) (c .settings .levela) P;
+        fit = rw (levels-are served) (levels-fit served);
+        labels = constellation-labels (mscConstellation (c .settings .msc));
         front = front-low;
         few = few-of;
-        room = length-six (mscLevels s);
-        known = constellation-low (s .msc);
-        part = omega (arith, accepted .n1Most);
-        most = accepted .ranges .muxMost;
-        short = rw (msc-bits accepted) (omega (arith, accepted .frameMost, accepted .ranges .muxMost));
+        room = length-six (mscLevels c);
+        known = constellation-low (c .settings .msc);
+        part = omega (arith, served .settings .n1Most);
+        most = served .settings .ranges .muxMost;
+        short = rw (msc-bits served) (omega (arith, served .settings .frameMost, served .settings .ranges .muxMost));
       }

@@ -7,8 +7,10 @@ use native.Mathlib.Omega.{arith}
 use lib.ListN.{length, getD, drop}
 use lib.Seq.{getD-drop}
 use Rattle.lists.specs.Lists.{total}
-use Rattle.component.specs.Patterns.{RY}
-use Rattle.component.proofs.Patterns.{pattern-sound, pattern-from, held}
+use Rattle.patterns.specs.Patterns.{RY}
+use Rattle.patterns.specs.Loaded.{Allowed}
+use Rattle.patterns.proofs.Loaded.{pattern-sound}
+use Rattle.patterns.proofs.Patterns.{pattern-from, held}
 use Rattle.settings.specs.Formulas.{bitsA, bitsB}
 use Rattle.block.specs.declared.Level.{Level}
 use Rattle.block.specs.Levels.{totalA, totalB}
@@ -23,24 +25,24 @@ pub record Cells (w cells1 cells2 : ℕ) (ratesA : List ℕ) : Type 0 where
   pub some : (w * cells1 ≡ 0) ⊎ (5 ≤ w * cells1)
   pub room : 12 ≤ w * cells2
 
-module _ (w cells1 cells2 rateA rateB t : ℕ) where
+module _ {kept : List ℕ} (T : Allowed kept) (w cells1 cells2 rateA rateB t : ℕ) where
   -- part A has w N1 coded bits
-  size-A : rateA < 13 → cells1 % RY rateA ≡ 0 → sizeA (protectedLevel w cells1 cells2 rateA rateB t) ≡ w * cells1
+  size-A : rateA < 13 → cells1 % RY rateA ≡ 0 → sizeA (protectedLevel kept w cells1 cells2 rateA rateB t) ≡ w * cells1
   unfolding sizeA protectedLevel
-  size-A h e = rw pattern-from (sizeA-is w cells1 rateA h e)
+  size-A h e = rw pattern-from (sizeA-is T w cells1 rateA h e)
 
   -- part B has w N2
-  size-B : rateB < 13 → 12 ≤ w * cells2 → sizeB (protectedLevel w cells1 cells2 rateA rateB t) ≡ w * cells2
+  size-B : rateB < 13 → 12 ≤ w * cells2 → sizeB (protectedLevel kept w cells1 cells2 rateA rateB t) ≡ w * cells2
   unfolding sizeB protectedLevel
-  size-B h l = rw (pattern-from, pattern-from) (sizeB-is w cells2 rateB h l)
+  size-B h l = rw (pattern-from, pattern-from) (sizeB-is T w cells2 rateB h l)
 
   protected-level : rateA < 13 → rateB < 13 → Step t → cells1 % RY rateA ≡ 0 → (w * cells1 ≡ 0) ⊎ (5 ≤ w * cells1) → 12 ≤ w * cells2
-      → LevelFits (w * cells1 + w * cells2) (protectedLevel w cells1 cells2 rateA rateB t)
+      → LevelFits (w * cells1 + w * cells2) (protectedLevel kept w cells1 cells2 rateA rateB t)
   unfolding protectedLevel
   protected-level ha hb S e some room =
       record {
-        heldA = held (pattern-sound rateA ha);
-        heldB = held (pattern-sound rateB hb);
+        heldA = held (pattern-sound T rateA ha);
+        heldB = held (pattern-sound T rateB hb);
         heldTail = held (tail-fits w cells2 rateB hb);
         small = S .small;
         mixesA = rw (size-A ha e) (mixes S some);
@@ -49,45 +51,45 @@ module _ (w cells1 cells2 rateA rateB t : ℕ) where
       }
 
 -- all levels of the standard protected part, by the lists of their rates
-pub protected-fit : (w cells1 cells2 : ℕ) (ratesA ratesB ts : List ℕ) → Cells w cells1 cells2 ratesA
+pub protected-fit : {kept : List ℕ} → Allowed kept → (w cells1 cells2 : ℕ) (ratesA ratesB ts : List ℕ) → Cells w cells1 cells2 ratesA
     → ((i : ℕ) → getD ratesA i 0 < 13) → ((i : ℕ) → getD ratesB i 0 < 13) → ((i : ℕ) → Step (getD ts i 0))
-    → LevelsFit (w * cells1 + w * cells2) (protectedLevels w cells1 cells2 ratesA ratesB ts)
+    → LevelsFit (w * cells1 + w * cells2) (protectedLevels kept w cells1 cells2 ratesA ratesB ts)
 unfolding protectedLevels
-protected-fit w cells1 cells2 [] ratesB ts C A B S = none
-protected-fit w cells1 cells2 (rateA ∷ ratesA) ratesB ts C A B S =
+protected-fit T w cells1 cells2 [] ratesB ts C A B S = none
+protected-fit T w cells1 cells2 (rateA ∷ ratesA) ratesB ts C A B S =
     more
-    (protected-level w cells1 cells2 rateA (getD ratesB 0 0) (getD ts 0 0) (A 0) (B 0) (S 0) (C .whole 0 (omega arith)) (C .some) (C .room))
-    (protected-fit w cells1 cells2 ratesA (drop 1 ratesB) (drop 1 ts)
+    (protected-level T w cells1 cells2 rateA (getD ratesB 0 0) (getD ts 0 0) (A 0) (B 0) (S 0) (C .whole 0 (omega arith)) (C .some) (C .room))
+    (protected-fit T w cells1 cells2 ratesA (drop 1 ratesB) (drop 1 ts)
     (record { whole = λ i h. C .whole (suc i) (omega arith); some = C .some; room = C .room })
     (λ i. A (suc i)) (λ i. rw getD-drop (B (1 + i))) (λ i. rw getD-drop (S (1 + i))))
 
-pub protected-length : (w cells1 cells2 : ℕ) (ratesA ratesB ts : List ℕ) → length (protectedLevels w cells1 cells2 ratesA ratesB ts) ≡ length ratesA
+pub protected-length : (kept : List ℕ) (w cells1 cells2 : ℕ) (ratesA ratesB ts : List ℕ) → length (protectedLevels kept w cells1 cells2 ratesA ratesB ts) ≡ length ratesA
 unfolding protectedLevels
-protected-length w cells1 cells2 [] ratesB ts = refl
-protected-length w cells1 cells2 (rateA ∷ ratesA) ratesB ts = ap suc (protected-length w cells1 cells2 ratesA (drop 1 ratesB) (drop 1 ts))
+protected-length kept w cells1 cells2 [] ratesB ts = refl
+protected-length kept w cells1 cells2 (rateA ∷ ratesA) ratesB ts = ap suc (protected-length kept w cells1 cells2 ratesA (drop 1 ratesB) (drop 1 ts))
 
-pub protected-totalA : (w cells1 cells2 : ℕ) (ratesA ratesB ts : List ℕ)
-    → totalA (protectedLevels w cells1 cells2 ratesA ratesB ts) ≡ total (map (bitsA w cells1) ratesA)
+pub protected-totalA : (kept : List ℕ) (w cells1 cells2 : ℕ) (ratesA ratesB ts : List ℕ)
+    → totalA (protectedLevels kept w cells1 cells2 ratesA ratesB ts) ≡ total (map (bitsA w cells1) ratesA)
 unfolding totalA total protectedLevels protectedLevel
-protected-totalA w cells1 cells2 [] ratesB ts = refl
-protected-totalA w cells1 cells2 (rateA ∷ ratesA) ratesB ts =
-    ap (λ m. bitsA w cells1 rateA + m) (protected-totalA w cells1 cells2 ratesA (drop 1 ratesB) (drop 1 ts))
+protected-totalA kept w cells1 cells2 [] ratesB ts = refl
+protected-totalA kept w cells1 cells2 (rateA ∷ ratesA) ratesB ts =
+    ap (λ m. bitsA w cells1 rateA + m) (protected-totalA kept w cells1 cells2 ratesA (drop 1 ratesB) (drop 1 ts))
 
-pub protected-totalB : (w cells1 cells2 : ℕ) (ratesA ratesB ts : List ℕ) → length ratesA ≡ length ratesB
-    → totalB (protectedLevels w cells1 cells2 ratesA ratesB ts) ≡ total (map (bitsB w cells2) ratesB)
+pub protected-totalB : (kept : List ℕ) (w cells1 cells2 : ℕ) (ratesA ratesB ts : List ℕ) → length ratesA ≡ length ratesB
+    → totalB (protectedLevels kept w cells1 cells2 ratesA ratesB ts) ≡ total (map (bitsB w cells2) ratesB)
 unfolding totalB total protectedLevels protectedLevel
-protected-totalB w cells1 cells2 [] [] ts e = refl
-protected-totalB w cells1 cells2 [] (rateB ∷ ratesB) ts e = absurd (omega arith)
-protected-totalB w cells1 cells2 (rateA ∷ ratesA) [] ts e = absurd (omega arith)
-protected-totalB w cells1 cells2 (rateA ∷ ratesA) (rateB ∷ ratesB) ts e =
-    ap (λ m. bitsB w cells2 rateB + m) (protected-totalB w cells1 cells2 ratesA ratesB (drop 1 ts) (omega arith))
+protected-totalB kept w cells1 cells2 [] [] ts e = refl
+protected-totalB kept w cells1 cells2 [] (rateB ∷ ratesB) ts e = absurd (omega arith)
+protected-totalB kept w cells1 cells2 (rateA ∷ ratesA) [] ts e = absurd (omega arith)
+protected-totalB kept w cells1 cells2 (rateA ∷ ratesA) (rateB ∷ ratesB) ts e =
+    ap (λ m. bitsB w cells2 rateB + m) (protected-totalB kept w cells1 cells2 ratesA ratesB (drop 1 ts) (omega arith))
 
 -- level k of them, and none past the last
-pub protected-at : (w cells1 cells2 : ℕ) (ratesA ratesB ts : List ℕ) (k : ℕ) (z : Level) → k < length ratesA
-    → getD (protectedLevels w cells1 cells2 ratesA ratesB ts) k z ≡ protectedLevel w cells1 cells2 (getD ratesA k 0) (getD ratesB k 0) (getD ts k 0)
+pub protected-at : (kept : List ℕ) (w cells1 cells2 : ℕ) (ratesA ratesB ts : List ℕ) (k : ℕ) (z : Level) → k < length ratesA
+    → getD (protectedLevels kept w cells1 cells2 ratesA ratesB ts) k z ≡ protectedLevel kept w cells1 cells2 (getD ratesA k 0) (getD ratesB k 0) (getD ts k 0)
 unfolding protectedLevels
-protected-at w cells1 cells2 [] ratesB ts k z h = absurd (omega arith)
-protected-at w cells1 cells2 (rateA ∷ ratesA) ratesB ts zero z h = refl
-protected-at w cells1 cells2 (rateA ∷ ratesA) ratesB ts (suc k) z h =
+protected-at kept w cells1 cells2 [] ratesB ts k z h = absurd (omega arith)
+protected-at kept w cells1 cells2 (rateA ∷ ratesA) ratesB ts zero z h = refl
+protected-at kept w cells1 cells2 (rateA ∷ ratesA) ratesB ts (suc k) z h =
     let e : 1 + k ≡ suc k = omega arith in
-    protected-at w cells1 cells2 ratesA (drop 1 ratesB) (drop 1 ts) k z (omega arith) ∙ rw (getD-drop 1 ratesB k 0, getD-drop 1 ts k 0, e)
+    protected-at kept w cells1 cells2 ratesA (drop 1 ratesB) (drop 1 ts) k z (omega arith) ∙ rw (getD-drop 1 ratesB k 0, getD-drop 1 ts k 0, e)

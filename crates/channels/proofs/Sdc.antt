@@ -9,16 +9,16 @@ use native.Mathlib.Omega.{arith}
 use lib.ListN.{length, getD}
 use lib.Dec.{eqb, lit<}
 use Rattle.lists.specs.Lists.{total}
-use Rattle.settings.specs.declared.Settings.{Settings}
 use Rattle.settings.specs.Rates.{sdcRates}
 use Rattle.settings.specs.Formulas.{bitsA, sdcBits}
 use Rattle.settings.specs.Lengths.{nSdc, lSdc}
-use Rattle.settings.specs.Accepted.{Accepted}
 use Rattle.block.specs.Mapping.{HMMIX}
 use Rattle.block.specs.Block.{levelsOf, pointsOf, oneAxis, bitCount}
 use Rattle.block.specs.Fits.{BlockFits}
 use Rattle.block.proofs.Mapping.{levelCount, constellation-labels}
 use Rattle.block.proofs.Blocks.{levels-from, length-six}
+use Rattle.channels.specs.declared.Scheme.{Scheme}
+use Rattle.channels.specs.Scheme.{SchemeAccepted}
 use Rattle.channels.specs.Sdc.{sdcLevels, sdcSteps, sdcConstellation, sdcBlock}
 use Rattle.channels.proofs.Coded.{Step}
 use Rattle.channels.proofs.Protected.{protected-fit, protected-length, protected-totalA, protected-totalB}
@@ -29,17 +29,17 @@ unfolding total bitsA
 none-A [] = refl
 none-A (rate ∷ rs) = rw (mul-zero, zero-mul, zero-div, none-A rs)
 
-levels-are : (s : Settings) → levelsOf (sdcBlock s) ≡ sdcLevels s
+levels-are : (c : Scheme) → levelsOf (sdcBlock c) ≡ sdcLevels c
 unfolding sdcBlock
-levels-are s = levels-from 0 (sdcLevels s) _ _ _
+levels-are c = levels-from 0 (sdcLevels c) _ _ _
 
 -- as many bits as the formula says
-pub sdc-bits : (s : Settings) → bitCount (sdcBlock s) ≡ lSdc s
+pub sdc-bits : (c : Scheme) → bitCount (sdcBlock c) ≡ lSdc (c .settings)
 unfolding bitCount lSdc sdcBits sdcLevels
-sdc-bits s =
-    let rs = sdcRates (s .sdc) in
-    let ts = sdcSteps (s .sdc) in
-    rw (levels-are s, protected-totalA 2 0 (nSdc s) rs rs ts, none-A rs, protected-totalB 2 0 (nSdc s) rs rs ts refl, zero-add)
+sdc-bits c =
+    let rs = sdcRates (c .settings .sdc) in
+    let ts = sdcSteps (c .settings .sdc) in
+    rw (levels-are c, protected-totalA (c .table) 2 0 (nSdc (c .settings)) rs rs ts, none-A rs, protected-totalB (c .table) 2 0 (nSdc (c .settings)) rs rs ts refl, zero-add)
 
 -- the rates, steps and constellation of both SDC modes
 rates-low : (sdc : ℕ) → sdc ≤ 1 → (i : ℕ) → getD (sdcRates sdc) i 0 < 13
@@ -60,9 +60,9 @@ steps (suc zero) h zero = record { step = inr refl; small = lit< tt }
 steps (suc zero) h (suc i) = record { step = inl refl; small = lit< tt }
 steps (suc (suc sdc)) h i = absurd (omega arith)
 
-pub length-levels : (s : Settings) → length (sdcLevels s) ≡ length (sdcRates (s .sdc))
+pub length-levels : (c : Scheme) → length (sdcLevels c) ≡ length (sdcRates (c .settings .sdc))
 unfolding sdcLevels
-length-levels s = protected-length 2 0 (nSdc s) (sdcRates (s .sdc)) (sdcRates (s .sdc)) (sdcSteps (s .sdc))
+length-levels c = protected-length (c .table) 2 0 (nSdc (c .settings)) (sdcRates (c .settings .sdc)) (sdcRates (c .settings .sdc)) (sdcSteps (c .settings .sdc))
 
 -- two levels in 16-QAM, one in 4-QAM
 record Counted (sdc : ℕ) : Type 0 where
@@ -78,25 +78,25 @@ counted (suc zero) h = record { levels = refl; few = omega arith; known = lit< t
 counted (suc (suc sdc)) h = absurd (omega arith)
 
 -- an SDC block's levels and constellation allow its bits to be read back
-pub sdc-fits : {s : Settings} → Accepted s → BlockFits (sdcBlock s)
+pub sdc-fits : {c : Scheme} → SchemeAccepted c → BlockFits (sdcBlock c)
 unfolding sdcBlock sdcLevels oneAxis pointsOf
-sdc-fits {s} A =
-    let h : s .sdc ≤ 1 = A .ranges .sdc in
-    let rs = sdcRates (s .sdc) in
-    let C = counted (s .sdc) h in
-    let F = protected-fit 2 0 (nSdc s) rs rs (sdcSteps (s .sdc))
-    (record { whole = λ i x. zero-mod _; some = inl (mul-zero 2); room = omega (arith, A .ranges .sdcLeast) })
-    (rates-low (s .sdc) h) (rates-low (s .sdc) h) (steps (s .sdc) h) in
+sdc-fits {c} A =
+    let h : c .settings .sdc ≤ 1 = A .settings .ranges .sdc in
+    let rs = sdcRates (c .settings .sdc) in
+    let C = counted (c .settings .sdc) h in
+    let F = protected-fit (A .table) 2 0 (nSdc (c .settings)) rs rs (sdcSteps (c .settings .sdc))
+    (record { whole = λ i x. zero-mod _; some = inl (mul-zero 2); room = omega (arith, A .settings .ranges .sdcLeast) })
+    (rates-low (c .settings .sdc) h) (rates-low (c .settings .sdc) h) (steps (c .settings .sdc) h) in
     record {
-      streams = levelCount (sdcConstellation (s .sdc));
-      levels = ap length (levels-are s) ∙ length-levels s ∙ C .levels;
-      fit = rw (levels-are s, ← C .both (nSdc s)) F;
-      labels = constellation-labels (sdcConstellation (s .sdc));
+      streams = levelCount (sdcConstellation (c .settings .sdc));
+      levels = ap length (levels-are c) ∙ length-levels c ∙ C .levels;
+      fit = rw (levels-are c, ← C .both (nSdc (c .settings))) F;
+      labels = constellation-labels (sdcConstellation (c .settings .sdc));
       front = omega arith;
-      few = rw (length-levels s) (C .few);
-      room = length-six (sdcLevels s);
+      few = rw (length-levels c) (C .few);
+      room = length-six (sdcLevels c);
       known = C .known;
       part = omega arith;
-      most = omega (arith, A .ranges .sdcMost);
-      short = rw (sdc-bits s) (omega (arith, A .sdcBitsMost));
+      most = omega (arith, A .settings .ranges .sdcMost);
+      short = rw (sdc-bits c) (omega (arith, A .settings .sdcBitsMost));
     }

@@ -5,7 +5,7 @@ use mathlib.Core.List.{List, [], _∷_}
 use lib.ListN.{replicate, getD}
 use lib.IntN.{ℤ, pos, negsuc}
 use Rattle.lists.specs.Lists.{table}
-use Rattle.component.specs.Patterns.{pattern, R1/2}
+use Rattle.patterns.specs.Patterns.{table65, pattern, R1/2}
 use Rattle.component.specs.Codeword.{encode}
 use Rattle.interleaver.specs.Interleaving.{place}
 use Rattle.settings.specs.declared.Settings.{Settings}
@@ -37,7 +37,7 @@ coordinateOf labelling i0 i1 i2 = getD labelling (labelAt ((i0 ∷ []) ∷ (i1 �
 -- 01 "Cases", the marked ones in its order.
 pub record Cases : Type 0 where
   pub dispersal : table p 0 16 ≡ 0 ∷ 0 ∷ 0 ∷ 0 ∷ 0 ∷ 1 ∷ 1 ∷ 1 ∷ 1 ∷ 0 ∷ 1 ∷ 1 ∷ 1 ∷ 1 ∷ 1 ∷ 0 ∷ []
-  pub rate-1/2 : encode (pattern R1/2) 0 0 (1 ∷ replicate 6 0) ≡ 1 ∷ 1 ∷ 0 ∷ 1 ∷ 1 ∷ 1 ∷ 1 ∷ 1 ∷ 0 ∷ 0 ∷ 1 ∷ 0 ∷ 1 ∷ 1 ∷ []
+  pub rate-1/2 : encode (pattern table65 R1/2) 0 0 (1 ∷ replicate 6 0) ≡ 1 ∷ 1 ∷ 0 ∷ 1 ∷ 1 ∷ 1 ∷ 1 ∷ 1 ∷ 0 ∷ 0 ∷ 1 ∷ 0 ∷ 1 ∷ 1 ∷ []
   pub places-6-13 : table (place 13 6) 0 6 ≡ 0 ∷ 1 ∷ 4 ∷ 5 ∷ 2 ∷ 3 ∷ []
   pub places-8-21 : table (place 21 8) 0 8 ≡ 0 ∷ 1 ∷ 6 ∷ 7 ∷ 4 ∷ 5 ∷ 2 ∷ 3 ∷ []
   pub places-8-5 : table (place 5 8) 0 8 ≡ 0 ∷ 1 ∷ 6 ∷ 7 ∷ 4 ∷ 5 ∷ 2 ∷ 3 ∷ []

@@ -2,13 +2,13 @@
 use Prim.Native.Nat.{ℕ}
 use mathlib.Core.List.{List, [], _∷_}
 use lib.ListN.{getD}
-use Rattle.settings.specs.declared.Settings.{Settings}
 use Rattle.settings.specs.Rates.{sdcRates}
 use Rattle.settings.specs.Lengths.{nSdc}
 use Rattle.block.specs.declared.Level.{Level}
 use Rattle.block.specs.declared.Block.{Block}
 use Rattle.block.specs.Mapping.{QAM4, QAM16}
 use Rattle.block.specs.Block.{blockOf}
+use Rattle.channels.specs.declared.Scheme.{Scheme}
 use Rattle.channels.specs.Protected.{protectedLevels}
 
 -- 001 clause 7.3.3: t is 13 and 21 for 16-QAM's levels 0 and 1, and 21 for 4-QAM.
@@ -16,12 +16,14 @@ unfoldable pub sdcSteps : ℕ → List ℕ
 sdcSteps sdc = getD ((13 ∷ 21 ∷ []) ∷ (21 ∷ []) ∷ []) sdc []
 
 -- The SM formula with N1 = 0 and N2 = N_SDC.
-unfoldable pub sdcLevels : Settings → List Level
-sdcLevels s = protectedLevels 2 0 (nSdc s) (sdcRates (s .sdc)) (sdcRates (s .sdc)) (sdcSteps (s .sdc))
+unfoldable pub sdcLevels : Scheme → List Level
+sdcLevels c =
+    let s = c .settings in
+    protectedLevels (c .table) 2 0 (nSdc s) (sdcRates (s .sdc)) (sdcRates (s .sdc)) (sdcSteps (s .sdc))
 
 -- SDC mode 0 is 16-QAM, 1 is 4-QAM.
 unfoldable pub sdcConstellation : ℕ → ℕ
 sdcConstellation sdc = getD (QAM16 ∷ QAM4 ∷ []) sdc QAM4
 
-unfoldable pub sdcBlock : Settings → Block
-sdcBlock s = blockOf 0 (sdcLevels s) (sdcConstellation (s .sdc)) (nSdc s) 0
+unfoldable pub sdcBlock : Scheme → Block
+sdcBlock c = blockOf 0 (sdcLevels c) (sdcConstellation (c .settings .sdc)) (nSdc (c .settings)) 0

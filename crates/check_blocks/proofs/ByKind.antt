@@ -13,9 +13,9 @@ use Rattle.block.specs.Block.{bitCount}
 use mathlib.Core.Bool.{Bool, true, false, cond}
 use borrow.Author.Tests.{eq-eqb, ne-eqb}
 use lib.Dec.{eqb}
-use Rattle.settings.specs.declared.Settings.{Settings}
-use Rattle.settings.specs.Accepted.{Accepted}
 use Rattle.block.specs.Fits.{BlockFits, BlockLent}
+use Rattle.channels.specs.declared.Scheme.{Scheme}
+use Rattle.channels.specs.Scheme.{SchemeAccepted}
 use Rattle.channels.specs.Fac.{facBlock}
 use Rattle.channels.specs.Sdc.{sdcBlock}
 use Rattle.channels.specs.Msc.{mscBlock}
@@ -25,25 +25,25 @@ use Rattle.channels.proofs.Msc.{msc-fits}
 use Rattle.check_blocks.specs.Kinds.{blockOf}
 
 -- the block of a number that is compared
-pub is-fac : (kind : ℕ) (s : Settings) → kind ≡ 0 → blockOf kind s ≡ facBlock
+pub is-fac : (kind : ℕ) (s : Scheme) → kind ≡ 0 → blockOf kind s ≡ facBlock s
 unfolding blockOf
 is-fac kind s e = rw (eq-eqb kind 0 e)
 
-pub is-sdc : (kind : ℕ) (s : Settings) → (kind ≡ 0 → ⊥) → kind ≡ 1 → blockOf kind s ≡ sdcBlock s
+pub is-sdc : (kind : ℕ) (s : Scheme) → (kind ≡ 0 → ⊥) → kind ≡ 1 → blockOf kind s ≡ sdcBlock s
 unfolding blockOf
 is-sdc kind s n e = rw (ne-eqb kind 0 n, eq-eqb kind 1 e)
 
-pub is-frame : (kind : ℕ) (s : Settings) → (kind ≡ 0 → ⊥) → (kind ≡ 1 → ⊥) → blockOf kind s ≡ mscBlock s
+pub is-frame : (kind : ℕ) (s : Scheme) → (kind ≡ 0 → ⊥) → (kind ≡ 1 → ⊥) → blockOf kind s ≡ mscBlock s
 unfolding blockOf
 is-frame kind s n m = rw (ne-eqb kind 0 n, ne-eqb kind 1 m)
 
 -- every kind's bits can be read back
-pub kind-fits : (s : Settings) → Accepted s → (kind : ℕ) → BlockFits (blockOf kind s)
+pub kind-fits : (s : Scheme) → SchemeAccepted s → (kind : ℕ) → BlockFits (blockOf kind s)
 unfolding blockOf
 kind-fits s a kind = go (eqb kind 0) (eqb kind 1)
   where
-    go : (i j : Bool) → BlockFits (cond i facBlock (cond j (sdcBlock s) (mscBlock s)))
-    go true j = fac-fits
+    go : (i j : Bool) → BlockFits (cond i (facBlock s) (cond j (sdcBlock s) (mscBlock s)))
+    go true j = fac-fits s (a .table)
     go false true = sdc-fits a
     go false false = msc-fits a
 

@@ -8,6 +8,8 @@ use Rattle.settings.specs.Refusal.{refusal}
 use Rattle.lists.specs.Bytes.{bytesFor}
 use Rattle.block.specs.declared.Block.{Block}
 use Rattle.block.specs.Block.{bitCount, cellsFrom}
+use Rattle.channels.specs.declared.Scheme.{Scheme}
+use Rattle.channels.specs.Scheme.{standardScheme}
 use Rattle.channels.specs.Fac.{facBlock}
 use Rattle.channels.specs.Sdc.{sdcBlock}
 use Rattle.channels.specs.Msc.{mscBlock}
@@ -16,8 +18,8 @@ use Rattle.vectors.specs.Draws.{state, drawnBlock}
 use Rattle.check_blocks.specs.declared.blocks.Drawn.{Drawn}
 
 -- Kind 0 is an FAC block, 1 an SDC block, any other number a multiplex frame.
-unfoldable pub blockOf : ℕ → Settings → Block
-blockOf kind s = cond (eqb kind 0) facBlock (cond (eqb kind 1) (sdcBlock s) (mscBlock s))
+unfoldable pub blockOf : ℕ → Scheme → Block
+blockOf kind s = cond (eqb kind 0) (facBlock s) (cond (eqb kind 1) (sdcBlock s) (mscBlock s))
 
 -- The bytes of a block, drawn from a state.
 unfoldable pub bytesDrawn : Block → ℕ → List ℕ
@@ -27,6 +29,6 @@ bytesDrawn k x = drawnBlock x (bitCount k) (bytesFor (bitCount k))
 unfoldable pub drawnFrom : Block → ℕ → Drawn
 drawnFrom k x = record { x = state x (bytesFor (bitCount k)); digest = cellsTaken 0 (cellsFrom k (bytesDrawn k x)) }
 
--- Nothing is drawn for settings that are refused.
+-- The puncturing table is the standard's. Nothing is drawn for settings that are refused.
 unfoldable pub drawnOf : ℕ → Settings → ℕ → Drawn
-drawnOf kind s x = cond (eqb (refusal s) 0) (drawnFrom (blockOf kind s) x) (record { x = x; digest = 0 })
+drawnOf kind s x = cond (eqb (refusal s) 0) (drawnFrom (blockOf kind (standardScheme s)) x) (record { x = x; digest = 0 })

@@ -8,6 +8,7 @@ use blockcoder::read::read_block;
 use channels::blocks::fac_block;
 use channels::blocks::msc_block;
 use channels::blocks::sdc_block;
+use channels::tables::standard_scheme;
 use multilevel::places::bit_count;
 use settings::Settings;
 use settings::refusals;
@@ -16,6 +17,7 @@ use vectors::draws;
 ghost use mathlib.Core.Path.{_≡_};
 ghost use Rattle.settings.specs.Accepted.{Accepted};
 ghost use Rattle.block.specs.Fits.{BlockFits};
+ghost use Rattle.channels.specs.Scheme.{standardScheme};
 ghost use Rattle.blockcoder.specs.declared.Found.the-variants.{Given};
 ghost use Rattle.vectors.specs.Digest.{cellsTaken};
 ghost use Rattle.check_blocks.specs.Kinds.{blockOf, drawnFrom, drawnOf};
@@ -34,18 +36,19 @@ pub struct Drawn {
     pub digest: u64,
 }
 
-// The block of a kind.
+// The block of a kind, with the standard's table.
 fn block_of(kind: u8, s: Settings) -> Block
     requires { ⌜ Accepted s ⌝ }
-    ensures { λ r. ⌜ r ≡ blockOf kind s ⌝ }
+    ensures { λ r. ⌜ r ≡ blockOf kind (standardScheme s) ⌝ }
 {
+    let scheme = standard_scheme(s);
     if kind == FAC {
-        return fac_block();
+        return fac_block(scheme);
     }
     if kind == SDC {
-        return sdc_block(s);
+        return sdc_block(scheme);
     }
-    msc_block(s)
+    msc_block(scheme)
 }
 
 // The digest of the cells, or 0 where the block did not come back.

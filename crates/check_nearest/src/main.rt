@@ -2,6 +2,9 @@
 // second/README.md, "nearest". The stored lines are those of the second program, which tries all bits.
 use libc::STDOUT_FILENO;
 use nearest::search::search_with;
+use patterns::table::pattern;
+use patterns::table::standard_table;
+use patterns::table::tail_pattern;
 use vectors::digests;
 use vectors::draws;
 use vectors::text;
@@ -39,6 +42,15 @@ fn of_bits(d: u64, bits: &[u8]) -> u64 {
     d
 }
 
+// The search by a rate of the standard's table and a row of the tail table.
+fn search_by(k: usize, r: usize, flips: &[u8], values: &[u8], found: &mut [u8]) -> u16
+    requires { ⌜ Lends k r (now flips) (now found) × Below 2 (now flips) ⌝ }
+{
+    let table = standard_table();
+    let p = pattern(&table, k);
+    search_with(p, tail_pattern(r), flips, values, found)
+}
+
 // Draws the bits that are added, and then the values; what the search finds goes into the digest.
 fn search_drawn(
     k: usize,
@@ -55,7 +67,7 @@ fn search_drawn(
     reduce(flips, 2);
     let y = draws::block(x, 448, values);
     reduce(values, 3);
-    let count = search_with(k, 13 + r, flips, values, found);
+    let count = search_by(k, r, flips, values, found);
     let digest = digests::taken(of_bits(at.digest, found), count as u64);
     Place { x: y, digest }
 }

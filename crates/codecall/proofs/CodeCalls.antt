@@ -21,9 +21,9 @@ use Rattle.superframe.specs.Contracts.{CodeFits}
 
 -- Code's refusal from 1 to 10, and then 11 and 12.
 module _ (state : State) (memory : List ℤ) (fac sdc msc : List ℕ) (faccells sdccells msccells : List ℤ) (n : ℕ)
-    (g : n ≡ refusalThen (state .settings) memory (byteLengths (state .settings) fac sdc msc) (cellLengths (state .settings) faccells sdccells msccells) 0) where
-  code-is : refusalThen (state .settings) memory (byteLengths (state .settings) fac sdc msc) (cellLengths (state .settings) faccells sdccells msccells)
-      (first (not (sparesZero (state .settings) sdc msc)) 11 (first (not (inOrder state memory)) 12 0))
+    (g : n ≡ refusalThen (state .scheme) memory (byteLengths (state .scheme .settings) fac sdc msc) (cellLengths (state .scheme .settings) faccells sdccells msccells) 0) where
+  code-is : refusalThen (state .scheme) memory (byteLengths (state .scheme .settings) fac sdc msc) (cellLengths (state .scheme .settings) faccells sdccells msccells)
+      (first (not (sparesZero (state .scheme .settings) sdc msc)) 11 (first (not (inOrder state memory)) 12 0))
       ≡ codeRefusal state memory (codeCall fac sdc msc faccells sdccells msccells)
   unfolding codeRefusal refusalThen
   code-is = refl
@@ -31,17 +31,17 @@ module _ (state : State) (memory : List ℤ) (fac sdc msc : List ℕ) (faccells 
   pub code-early : (n ≡ 0 → ⊥) → n ≡ codeRefusal state memory (codeCall fac sdc msc faccells sdccells msccells)
   code-early h = then-stops _ _ _ _ n g _ h ∙ code-is
 
-  pub code-packed : n ≡ 0 → Packed (state .settings) sdc msc
+  pub code-packed : n ≡ 0 → Packed (state .scheme .settings) sdc msc
   code-packed h =
-      let b = bytes-fit (state .settings) fac sdc msc (then-nine _ _ _ _ n g h) in
+      let b = bytes-fit (state .scheme .settings) fac sdc msc (then-nine _ _ _ _ n g h) in
       record { settings = then-settings _ _ _ _ n g h; sdclong = b .sdclong; msclong = b .msclong }
 
   code-rest : n ≡ 0 → codeRefusal state memory (codeCall fac sdc msc faccells sdccells msccells)
-      ≡ first (not (sparesZero (state .settings) sdc msc)) 11 (first (not (inOrder state memory)) 12 0)
+      ≡ first (not (sparesZero (state .scheme .settings) sdc msc)) 11 (first (not (inOrder state memory)) 12 0)
   code-rest h = sym code-is ∙ then-goes-on _ _ _ _ n g _ h
 
   -- 11, 12 and acceptance.
-  module _ (h : n ≡ 0) (b : Bool) (k : b ≡ sparesZero (state .settings) sdc msc) where
+  module _ (h : n ≡ 0) (b : Bool) (k : b ≡ sparesZero (state .scheme .settings) sdc msc) where
     pub code-eleven : not b ≡ true → 11 ≡ codeRefusal state memory (codeCall fac sdc msc faccells sdccells msccells)
     unfolding first
     code-eleven t = sym (code-rest h ∙ rw (← k, t))
@@ -73,7 +73,7 @@ done-call state memory c r y e h g = g ∙ sym (code-accepts state memory c (sym
 -- What the parts of an accepted call yield.
 pub accepted-call : (state : State) (memory : List ℤ) (fac sdc msc : List ℕ) (faccells sdccells msccells : List ℤ)
     (state′ : State) (memory′ faccells′ sdccells′ msccells′ : List ℤ) → MscCoded state msc memory state′ memory′ msccells′
-    → faccells′ ≡ joined (map (cellsFrom facBlock) (parts 9 fac)) → sdccells′ ≡ cellsFrom (sdcBlock (state .settings)) sdc
+    → faccells′ ≡ joined (map (cellsFrom (facBlock (state .scheme))) (parts 9 fac)) → sdccells′ ≡ cellsFrom (sdcBlock (state .scheme)) sdc
     → codeYield (record { refusal = 0; state = state′ }) memory′ faccells′ sdccells′ msccells′
     ≡ codeAccepted state memory (codeCall fac sdc msc faccells sdccells msccells)
 unfolding codeAccepted

@@ -19,6 +19,7 @@ use Rattle.block.specs.Block.{cellsFrom}
 use Rattle.block.proofs.Blocks.{length-cells}
 use Rattle.channels.specs.Fac.{facBlock}
 use Rattle.channels.specs.Msc.{mscBlock}
+use Rattle.channels.specs.declared.Scheme.{Scheme}
 use Rattle.superframe.specs.declared.State.{State}
 use Rattle.superframe.specs.Memory.{stored, slotSize}
 use Rattle.superframe.specs.Interleaving.{Progress, advanced, afterFrames, sentRow, sentRows, fillers}
@@ -31,27 +32,27 @@ use Rattle.cellmemory.proofs.Progress.{next-fits}
 use Rattle.codecall.specs.Contracts.{FrameFits, FrameCoded, MscFits, MscCoded, framesAfter, framesSent}
 
 -- The numbers of a block's cells.
-pub fac-long : (bytes : List ℕ) → length (cellsFrom facBlock bytes) ≡ 130
+pub fac-long : (s : Scheme) (bytes : List ℕ) → length (cellsFrom (facBlock s) bytes) ≡ 130
 unfolding cellsFrom facBlock facCells
-fac-long bytes = length-cells facBlock _
+fac-long s bytes = length-cells (facBlock s) _
 
-pub frame-long : (s : Settings) (bytes : List ℕ) → length (cellsFrom (mscBlock s) bytes) ≡ slotSize s
+pub frame-long : (s : Scheme) (bytes : List ℕ) → length (cellsFrom (mscBlock s) bytes) ≡ slotSize (s .settings)
 unfolding cellsFrom mscBlock slotSize
 frame-long s bytes = length-cells (mscBlock s) _
 
 -- A frame's cells in their slot: memory after them, and a row can be sent.
-module _ (state : State) (bytes : List ℕ) (memory row : List ℤ) (h : FrameFits state bytes memory row) (n : ℕ) (f : n ≡ slotSize (state .settings)) where
+module _ (state : State) (bytes : List ℕ) (memory row : List ℤ) (h : FrameFits state bytes memory row) (n : ℕ) (f : n ≡ slotSize (state .scheme .settings)) where
   pub slot-within : state .position * n + n ≤ length memory
-  slot-within = rw f (omega (arith, h .lent .fits .slots, slot-before (slotSize (state .settings)) (state .position) (depth (state .settings)) (h .lent .fits .position)))
+  slot-within = rw f (omega (arith, h .lent .fits .slots, slot-before (slotSize (state .scheme .settings)) (state .position) (depth (state .scheme .settings)) (h .lent .fits .position)))
 
-  module _ (last : List ℤ) (e : last ≡ cellsFrom (mscBlock (state .settings)) bytes) where
+  module _ (last : List ℤ) (e : last ≡ cellsFrom (mscBlock (state .scheme)) bytes) where
     stored-is : putMid (state .position * n) (state .position * n + n - state .position * n) memory last ≡ sets memory (state .position * n) last
     stored-is =
-        let l : length last ≡ n = ap length e ∙ frame-long (state .settings) bytes ∙ sym f in
+        let l : length last ≡ n = ap length e ∙ frame-long (state .scheme) bytes ∙ sym f in
         put-sets (state .position * n) (state .position * n + n) memory last (omega arith) slot-within (omega arith)
 
     pub frame-stored : putMid (state .position * n) (state .position * n + n - state .position * n) memory last
-        ≡ stored (slotSize (state .settings)) memory (state .position) (cellsFrom (mscBlock (state .settings)) bytes)
+        ≡ stored (slotSize (state .scheme .settings)) memory (state .position) (cellsFrom (mscBlock (state .scheme)) bytes)
     unfolding stored
     frame-stored = stored-is ∙ rw (f, e)
 
@@ -78,29 +79,29 @@ module _ (s : Settings) where
   sent-more q (g ∷ fs) f = rw (sent-more _ fs f, append-assoc)
 
 -- The first i frames of a call.
-abbrev pub frames-to : Settings → List ℕ → ℕ → List (List ℤ)
-frames-to s msc i = map (cellsFrom (mscBlock s)) (table (part (frameBytes s) msc) 0 i)
+abbrev pub frames-to : Scheme → List ℕ → ℕ → List (List ℤ)
+frames-to s msc i = map (cellsFrom (mscBlock s)) (table (part (frameBytes (s .settings)) msc) 0 i)
 
-frames-more : (s : Settings) (msc : List ℕ) (i : ℕ) → frames-to s msc (i + 1) ≡ frames-to s msc i ++ (cellsFrom (mscBlock s) (part (frameBytes s) msc i) ∷ [])
+frames-more : (s : Scheme) (msc : List ℕ) (i : ℕ) → frames-to s msc (i + 1) ≡ frames-to s msc i ++ (cellsFrom (mscBlock s) (part (frameBytes (s .settings)) msc i) ∷ [])
 unfolding table
 frames-more s msc i =
-    map-table _ _ 0 (i + 1) ∙ table-add (λ k. cellsFrom (mscBlock s) (part (frameBytes s) msc k)) 0 i 1 ∙ rw (zero-add i, map-table (cellsFrom (mscBlock s)) (part (frameBytes s) msc) 0 i)
+    map-table _ _ 0 (i + 1) ∙ table-add (λ k. cellsFrom (mscBlock s) (part (frameBytes (s .settings)) msc k)) 0 i 1 ∙ rw (zero-add i, map-table (cellsFrom (mscBlock s)) (part (frameBytes (s .settings)) msc) 0 i)
 
 -- What coding frame after frame holds before frame i: state, memory and rows are those after the first i frames.
 pub record Coding (state : State) (msc : List ℕ) (memory₀ cells₀ : List ℤ) (n len : ℕ) (memory cells : List ℤ) (after : State) (i : ℕ) : Type 0 where
   pub lent : MscFits state msc memory₀ cells₀
-  pub numbers-are : n ≡ slotSize (state .settings)
-  pub bytes-are : len ≡ frameBytes (state .settings)
+  pub numbers-are : n ≡ slotSize (state .scheme .settings)
+  pub bytes-are : len ≡ frameBytes (state .scheme .settings)
   pub upto : i ≤ 3
   pub fits : StateFits after memory
-  pub state-is : after ≡ stateOf (state .settings) (framesAfter state memory₀ (frames-to (state .settings) msc i))
-  pub memory-is : memory ≡ framesAfter state memory₀ (frames-to (state .settings) msc i) .memory
+  pub state-is : after ≡ stateOf (state .scheme) (framesAfter state memory₀ (frames-to (state .scheme) msc i))
+  pub memory-is : memory ≡ framesAfter state memory₀ (frames-to (state .scheme) msc i) .memory
   pub same : length memory ≡ length memory₀
   pub long : length cells ≡ length cells₀
-  pub sent : take (n * i) cells ≡ framesSent state memory₀ (frames-to (state .settings) msc i)
+  pub sent : take (n * i) cells ≡ framesSent state memory₀ (frames-to (state .scheme) msc i)
 
 module _ (state : State) (msc : List ℕ) (memory₀ cells₀ : List ℤ) (n len : ℕ) where
-  pub coding-start : MscFits state msc memory₀ cells₀ → n ≡ slotSize (state .settings) → len ≡ frameBytes (state .settings)
+  pub coding-start : MscFits state msc memory₀ cells₀ → n ≡ slotSize (state .scheme .settings) → len ≡ frameBytes (state .scheme .settings)
       → Coding state msc memory₀ cells₀ n len memory₀ cells₀ state 0
   unfolding stateOf progressOf afterFrames sentRows table
   coding-start h e f =
@@ -121,15 +122,15 @@ module _ (state : State) (msc : List ℕ) (memory₀ cells₀ : List ℤ) (n len
     -- The rows lie within the cells.
     pub rows-within : 3 * n ≤ length cells
     unfolding slotSize
-    rows-within = omega (arith, w .numbers-are, w .long, w .lent .numbers, w .lent .fits .allowed .ranges .threeFrames)
+    rows-within = omega (arith, w .numbers-are, w .long, w .lent .numbers, w .lent .fits .allowed .settings .ranges .threeFrames)
 
     -- Frame i and its row lie within their buffers.
     pub coding-within : i < 3 → (len * i + len ≤ length msc) × (n * i + n ≤ length cells)
     coding-within h = (part-within len i 3 (length msc) h (w .lent .input ∙ rw (w .bytes-are)), part-below n i 3 (length cells) h rows-within)
 
-    settings-are : after .settings ≡ state .settings
+    settings-are : after .scheme .settings ≡ state .scheme .settings
     unfolding stateOf
-    settings-are = ap (λ (x : State). x .settings) (w .state-is)
+    settings-are = ap (λ (x : State). x .scheme .settings) (w .state-is)
 
     pub coding-fits : i < 3 → FrameFits after (take (len * i + len - len * i) (drop (len * i) msc)) memory (take (n * i + n - n * i) (drop (n * i) cells))
     coding-fits h =
@@ -145,13 +146,13 @@ module _ (state : State) (msc : List ℕ) (memory₀ cells₀ : List ℤ) (n len
     unfolding stateOf advanced progressOf
     coding-turn memory′ row after′ h c l e =
         let b = coding-within h in
-        let s = state .settings in
+        let s = state .scheme in
         let r = framesAfter state memory₀ (frames-to s msc i) in
-        let f = cellsFrom (mscBlock s) (part (frameBytes s) msc i) in
-        let frame-is : FrameCoded (stateOf s r) (part (frameBytes s) msc i) (r .memory) memory′ row =
+        let f = cellsFrom (mscBlock s) (part (frameBytes (s .settings)) msc i) in
+        let frame-is : FrameCoded (stateOf s r) (part (frameBytes (s .settings)) msc i) (r .memory) memory′ row =
         rw (part-is len i msc, w .bytes-are, w .state-is, w .memory-is) at c
         in
-        let long : length row ≡ n = ap length (frame-is .sent) ∙ unfold sentRow in length-table _ 0 (slotSize s) ∙ sym (w .numbers-are) in
+        let long : length row ≡ n = ap length (frame-is .sent) ∙ unfold sentRow in length-table _ 0 (slotSize (s .settings)) ∙ sym (w .numbers-are) in
         let put = put-sets (n * i) (n * i + n) cells row (omega arith) (b .1) (omega arith) in
         let next : n * (i + 1) ≡ n * i + length row = rw (add-one i, mul-suc, long) in
         record {
@@ -160,21 +161,21 @@ module _ (state : State) (msc : List ℕ) (memory₀ cells₀ : List ℤ) (n len
           bytes-are = w .bytes-are;
           upto = omega arith;
           fits = rw e (next-fits after memory memory′ (w .fits) l);
-          state-is = e ∙ rw (w .state-is, frames-more s msc i, after-more s (progressOf state memory₀) (frames-to s msc i) f);
-          memory-is = frame-is .held ∙ rw (frames-more s msc i, after-more s (progressOf state memory₀) (frames-to s msc i) f);
+          state-is = e ∙ rw (w .state-is, frames-more s msc i, after-more (s .settings) (progressOf state memory₀) (frames-to s msc i) f);
+          memory-is = frame-is .held ∙ rw (frames-more s msc i, after-more (s .settings) (progressOf state memory₀) (frames-to s msc i) f);
           same = l ∙ w .same;
           long = ap length put ∙ length-sets cells (n * i) row ∙ w .long;
           sent =
               ap (take (n * (i + 1))) put ∙ take-sets (n * i) (n * (i + 1)) cells row next (omega (arith, next, long, b .1))
-              ∙ rw (w .sent, frame-is .sent, frame-is .held, frames-more s msc i, sent-more s (progressOf state memory₀) (frames-to s msc i) f);
+              ∙ rw (w .sent, frame-is .sent, frame-is .held, frames-more s msc i, sent-more (s .settings) (progressOf state memory₀) (frames-to s msc i) f);
         }
 
     -- As many numbers after the rows as the fillers have.
-    pub rest-long : length (take (length cells - 3 * n) (drop (3 * n) cells)) ≡ 2 * (nSfa (state .settings) - 3 * nMux (state .settings))
+    pub rest-long : length (take (length cells - 3 * n) (drop (3 * n) cells)) ≡ 2 * (nSfa (state .scheme .settings) - 3 * nMux (state .scheme .settings))
     unfolding slotSize
     rest-long =
         length-take-le (length cells - 3 * n) (drop (3 * n) cells) (rw length-drop (omega arith))
-        ∙ omega (arith, w .long, w .lent .numbers, w .numbers-are, w .lent .fits .allowed .ranges .threeFrames)
+        ∙ omega (arith, w .long, w .lent .numbers, w .numbers-are, w .lent .fits .allowed .settings .ranges .threeFrames)
 
     -- After the third frame, with the fillers.
     pub coding-end : (fill : List ℤ) → 3 ≤ i → fill ≡ take (length (take (length cells - 3 * n) (drop (3 * n) cells))) fillerNumbers
@@ -182,7 +183,7 @@ module _ (state : State) (msc : List ℕ) (memory₀ cells₀ : List ℤ) (n len
     unfolding frameCells parts fillers
     coding-end fill h f =
         let e : i ≡ 3 = omega (arith, w .upto) in
-        let front : take (3 * n) cells ≡ framesSent state memory₀ (frames-to (state .settings) msc 3) =
+        let front : take (3 * n) cells ≡ framesSent state memory₀ (frames-to (state .scheme) msc 3) =
         rw (mul-comm 3 n, ← e) (w .sent)
         in
         record {
@@ -190,5 +191,5 @@ module _ (state : State) (msc : List ℕ) (memory₀ cells₀ : List ℤ) (n len
           held = w .memory-is ∙ rw e;
           sent =
               ap₂ (λ (x y : List ℤ). x ++ (fill ++ y)) front (post-is (3 * n) (length cells) cells rows-within ∙ drop-length cells)
-              ∙ ap (λ (x : List ℤ). framesSent state memory₀ (frames-to (state .settings) msc 3) ++ x) (append-nil fill ∙ f ∙ ap (λ (k : ℕ). take k fillerNumbers) rest-long);
+              ∙ ap (λ (x : List ℤ). framesSent state memory₀ (frames-to (state .scheme) msc 3) ++ x) (append-nil fill ∙ f ∙ ap (λ (k : ℕ). take k fillerNumbers) rest-long);
         }

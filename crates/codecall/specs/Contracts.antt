@@ -32,28 +32,28 @@ codeYield done memory faccells sdccells msccells =
 -- A frame's bytes, memory and a row.
 pub record FrameFits (state : State) (bytes : List ℕ) (memory row : List ℤ) : Type 0 where
   pub lent : RowLent state memory row
-  pub input : length bytes ≡ frameBytes (state .settings)
+  pub input : length bytes ≡ frameBytes (state .scheme .settings)
 
 -- The frame's cells in memory, and the row that is sent then.
 pub record FrameCoded (state : State) (bytes : List ℕ) (memory memory′ row : List ℤ) : Type 0 where
-  pub held : memory′ ≡ stored (slotSize (state .settings)) memory (state .position) (cellsFrom (mscBlock (state .settings)) bytes)
-  pub sent : row ≡ sentRow (state .settings) memory′ (state .position)
+  pub held : memory′ ≡ stored (slotSize (state .scheme .settings)) memory (state .position) (cellsFrom (mscBlock (state .scheme)) bytes)
+  pub sent : row ≡ sentRow (state .scheme .settings) memory′ (state .position)
 
 -- The packed bytes of three frames, memory, and room for the MSC sequence.
 pub record MscFits (state : State) (msc : List ℕ) (memory cells : List ℤ) : Type 0 where
   pub fits : StateFits state memory
-  pub input : length msc ≡ 3 * frameBytes (state .settings)
-  pub numbers : length cells ≡ 2 * nSfa (state .settings)
+  pub input : length msc ≡ 3 * frameBytes (state .scheme .settings)
+  pub numbers : length cells ≡ 2 * nSfa (state .scheme .settings)
 
 -- The progress after the first frames of a call, and the rows that they send.
 abbrev pub framesAfter : State → List ℤ → List (List ℤ) → Progress
-framesAfter state memory fs = afterFrames (state .settings) (progressOf state memory) fs
+framesAfter state memory fs = afterFrames (state .scheme .settings) (progressOf state memory) fs
 
 abbrev pub framesSent : State → List ℤ → List (List ℤ) → List ℤ
-framesSent state memory fs = sentRows (state .settings) (progressOf state memory) fs
+framesSent state memory fs = sentRows (state .scheme .settings) (progressOf state memory) fs
 
 -- The state and memory after the frames, and their rows with the fillers.
 pub record MscCoded (state : State) (msc : List ℕ) (memory : List ℤ) (state′ : State) (memory′ cells : List ℤ) : Type 0 where
-  pub after : state′ ≡ stateOf (state .settings) (framesAfter state memory (frameCells (state .settings) msc))
-  pub held : memory′ ≡ framesAfter state memory (frameCells (state .settings) msc) .memory
-  pub sent : cells ≡ framesSent state memory (frameCells (state .settings) msc) ++ fillers (state .settings)
+  pub after : state′ ≡ stateOf (state .scheme) (framesAfter state memory (frameCells (state .scheme) msc))
+  pub held : memory′ ≡ framesAfter state memory (frameCells (state .scheme) msc) .memory
+  pub sent : cells ≡ framesSent state memory (frameCells (state .scheme) msc) ++ fillers (state .scheme .settings)

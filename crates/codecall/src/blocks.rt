@@ -4,6 +4,7 @@ use cellmemory::fillers::write_fillers;
 use cellmemory::rows::next_state;
 use cellmemory::rows::send_row;
 use cellmemory::rows::slot_size;
+use channels::Scheme;
 use channels::blocks::fac_block;
 use channels::blocks::msc_block;
 use settings::answers;
@@ -14,19 +15,20 @@ ghost use mathlib.Core.Path.{_≡_};
 ghost use mathlib.Core.List.{map};
 ghost use lib.ListN.{length};
 ghost use Rattle.block.specs.Block.{cellsFrom};
+ghost use Rattle.patterns.specs.Loaded.{Allowed};
 ghost use Rattle.channels.specs.Fac.{facBlock};
 ghost use Rattle.superframe.specs.Call.{parts, joined};
 ghost use Rattle.codecall.specs.Contracts.{FrameFits, FrameCoded, MscFits, MscCoded};
 
 // The cells of three FAC blocks.
-pub fn code_fac(fac: &[u8], cells: &mut [i16])
-    requires { ⌜ (length (now fac) ≡ 27) × (length (now cells) ≡ 390) ⌝ }
-    ensures { λ r. ⌜ now (cells .exit) ≡ joined (map (cellsFrom facBlock) (parts 9 (now (fac .entry)))) ⌝ }
+pub fn code_fac(s: Scheme, fac: &[u8], cells: &mut [i16])
+    requires { ⌜ Allowed (s .table) × (length (now fac) ≡ 27) × (length (now cells) ≡ 390) ⌝ }
+    ensures { λ r. ⌜ now (cells .exit) ≡ joined (map (cellsFrom (facBlock s)) (parts 9 (now (fac .entry)))) ⌝ }
 {
     let mut k = 0;
     while k < 3 {
         code_block(
-            fac_block(),
+            fac_block(s),
             &fac[FAC_BYTES * k..FAC_BYTES * k + FAC_BYTES],
             &mut cells[FAC_NUMBERS * k..FAC_NUMBERS * k + FAC_NUMBERS],
         );
@@ -39,10 +41,10 @@ fn code_frame(state: State, bytes: &[u8], memory: &mut [i16], row: &mut [i16])
     requires { ⌜ FrameFits state (now bytes) (now memory) (now row) ⌝ }
     ensures { λ r. ⌜ FrameCoded state (now (bytes .entry)) (now (memory .entry)) (now (memory .exit)) (now (row .exit)) ⌝ }
 {
-    let s = state.settings;
-    let n = slot_size(s);
+    let scheme = state.scheme;
+    let n = slot_size(scheme.settings);
     let at = state.position as usize * n;
-    code_block(msc_block(s), bytes, &mut memory[at..at + n]);
+    code_block(msc_block(scheme), bytes, &mut memory[at..at + n]);
     send_row(state, memory, row);
 }
 
@@ -51,7 +53,7 @@ pub fn code_msc(state: State, msc: &[u8], memory: &mut [i16], cells: &mut [i16])
     requires { ⌜ MscFits state (now msc) (now memory) (now cells) ⌝ }
     ensures { λ r. ⌜ MscCoded state (now (msc .entry)) (now (memory .entry)) r (now (memory .exit)) (now (cells .exit)) ⌝ }
 {
-    let s = state.settings;
+    let s = state.scheme.settings;
     let n = slot_size(s);
     let bytes = answers::frame_bytes(s);
     let mut after = state;

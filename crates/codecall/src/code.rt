@@ -3,8 +3,9 @@ use crate::blocks::code_fac;
 use crate::blocks::code_msc;
 use blockcoder::code::code_block;
 use cellmemory::refusal;
+use channels::Scheme;
 use channels::blocks::sdc_block;
-use settings::Settings;
+use channels::tables::scheme_refusal;
 use settings::answers;
 use superframe::Done;
 use superframe::State;
@@ -16,7 +17,7 @@ ghost use Rattle.codecall.specs.Contracts.{codeCall, codeYield};
 
 // 1 to 10.
 fn code_lengths(
-    s: Settings,
+    s: Scheme,
     fac: &[u8],
     sdc: &[u8],
     msc: &[u8],
@@ -26,13 +27,14 @@ fn code_lengths(
     msccells: &[i16],
 ) -> u8
     ensures { λ r. ⌜ r ≡ refusalThen s (now (memory .entry))
-        (byteLengths s (now (fac .entry)) (now (sdc .entry)) (now (msc .entry)))
-        (cellLengths s (now (faccells .entry)) (now (sdccells .entry)) (now (msccells .entry))) 0 ⌝ }
+        (byteLengths (s .settings) (now (fac .entry)) (now (sdc .entry)) (now (msc .entry)))
+        (cellLengths (s .settings) (now (faccells .entry)) (now (sdccells .entry)) (now (msccells .entry))) 0 ⌝ }
 {
-    let z = answers::sizes(s);
+    let number = scheme_refusal(s);
+    let z = answers::sizes(s.settings);
     let nine = refusal::bytes_long(z, fac.len(), sdc.len(), msc.len());
     let ten = refusal::cells_long(z, faccells.len(), sdccells.len(), msccells.len());
-    refusal::length_refusal(z, memory.len(), nine, ten)
+    refusal::length_refusal(number, z, memory.len(), nine, ten)
 }
 
 // The lowest number that applies, 0 for acceptance.
@@ -49,12 +51,12 @@ fn code_refusal(
     ensures { λ r. ⌜ r ≡ codeRefusal state (now (memory .entry))
         (codeCall (now (fac .entry)) (now (sdc .entry)) (now (msc .entry)) (now (faccells .entry)) (now (sdccells .entry)) (now (msccells .entry))) ⌝ }
 {
-    let s = state.settings;
+    let s = state.scheme;
     let number = code_lengths(s, fac, sdc, msc, memory, faccells, sdccells, msccells);
     if number != 0 {
         return number;
     }
-    if !refusal::spares_zero(s, sdc, msc) {
+    if !refusal::spares_zero(s.settings, sdc, msc) {
         return 11;
     }
     if !refusal::in_order(state, memory) {
@@ -79,8 +81,8 @@ fn code_accepted(
         ≡ codeAccepted state (now (memory .entry))
         (codeCall (now (fac .entry)) (now (sdc .entry)) (now (msc .entry)) (now (faccells .entry)) (now (sdccells .entry)) (now (msccells .entry))) ⌝ }
 {
-    code_fac(fac, faccells);
-    code_block(sdc_block(state.settings), sdc, sdccells);
+    code_fac(state.scheme, fac, faccells);
+    code_block(sdc_block(state.scheme), sdc, sdccells);
     let after = code_msc(state, msc, memory, msccells);
     Done {
         refusal: 0,

@@ -1,19 +1,25 @@
-// The call Reset. 01 "Operations".
+// The call Reset. 01 "Operations"; 02 S-11.
 use cellmemory::refusal;
+use channels::tables::refusal_with;
+use channels::tables::scheme_of;
 use lists::numbers::clear;
+use patterns::table::standard_table;
 use settings::Settings;
 use settings::answers;
 use superframe::Done;
 use superframe::State;
 ghost use mathlib.Core.Path.{_≡_};
+ghost use Rattle.channels.specs.Scheme.{schemeOf, standardScheme};
 ghost use Rattle.superframe.specs.Reset.{resetOf};
 ghost use Rattle.codecall.specs.Contracts.{resetYield};
 
-// Acceptance fills memory with zero, takes the settings and sets position and count to 0; a refusal gives the old state back.
-pub fn reset(old: State, settings: Settings, memory: &mut [i16]) -> Done
-    ensures { λ r. ⌜ resetYield r (now (memory .exit)) ≡ resetOf old settings (now (memory .entry)) ⌝ }
+// Acceptance fills memory with zero, takes the settings and the table and sets position and count to 0; a refusal gives the old state back.
+pub fn reset_table(old: State, settings: Settings, table: &[u8], memory: &mut [i16]) -> Done
+    ensures { λ r. ⌜ resetYield r (now (memory .exit)) ≡ resetOf old (schemeOf settings (now (table .entry))) (now (memory .entry)) ⌝ }
 {
-    let number = refusal::length_refusal(answers::sizes(settings), memory.len(), true, true);
+    let number = refusal_with(settings, table);
+    let z = answers::sizes(settings);
+    let number = refusal::length_refusal(number, z, memory.len(), true, true);
     if number != 0 {
         return Done {
             refusal: number,
@@ -24,9 +30,17 @@ pub fn reset(old: State, settings: Settings, memory: &mut [i16]) -> Done
     Done {
         refusal: 0,
         state: State {
-            settings,
+            scheme: scheme_of(settings, table),
             position: 0,
             count: 0,
         },
     }
+}
+
+// The same with the standard's table.
+pub fn reset(old: State, settings: Settings, memory: &mut [i16]) -> Done
+    ensures { λ r. ⌜ resetYield r (now (memory .exit)) ≡ resetOf old (standardScheme settings) (now (memory .entry)) ⌝ }
+{
+    let table = standard_table();
+    reset_table(old, settings, &table, memory)
 }

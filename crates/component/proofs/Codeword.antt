@@ -13,7 +13,8 @@ use lib.Count.{ones, onesIn, ones-step}
 use Rattle.component.specs.Bits.{Bits}
 use Rattle.component.specs.Register.{next, parity, parities, after}
 use Rattle.component.specs.Codeword.{kept, following, encode, codeword, tailBits, Segment}
-use Rattle.component.specs.Decoding.{codedLength, Sound}
+use Rattle.patterns.specs.Patterns.{Sound}
+use Rattle.component.specs.Decoding.{codedLength}
 use Rattle.component.proofs.Bits.{bits-nil, bits-cons, bits-head, bits-rest, bits-append}
 use Rattle.component.proofs.Sets.{sets-append}
 use Rattle.component.proofs.Register.{parity-bit}

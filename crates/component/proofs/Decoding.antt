@@ -9,7 +9,8 @@ use lib.Count.{ones}
 use Rattle.component.specs.Bits.{Bits}
 use Rattle.component.specs.Register.{next, parity, parities, after}
 use Rattle.component.specs.Codeword.{kept, following, encode, codeword, Segment}
-use Rattle.component.specs.Decoding.{codedLength, newest, decode, shape, segments, Sound, Readable, AllReadable}
+use Rattle.patterns.specs.Patterns.{Sound}
+use Rattle.component.specs.Decoding.{codedLength, newest, decode, shape, segments, Readable, AllReadable}
 use Rattle.component.specs.Decoding.AllReadable.{none, more}
 use Rattle.component.proofs.Bits.{bits-nil, bits-cons, bits-head, bits-rest}
 use Rattle.component.proofs.Register.{next-low, after-low, newest-parity, newest-bit}

@@ -1,5 +1,5 @@
 -- Laws of lengths: whole rounds of a pattern, the rates, the tail, and the codewords of a level and of the FAC. Assumes nothing.
-use Prim.Native.Nat.{ℕ, zero, suc, _+_, _-_, _*_, _/_, _%_, _<_}
+use Prim.Native.Nat.{ℕ, zero, suc, _+_, _-_, _*_, _/_, _%_, _≤_, _<_}
 use mathlib.Core.Path.{_≡_, refl, sym, ap, ap₂, _∙_}
 use mathlib.Core.List.{List, [], _∷_, _++_, append-assoc, append-nil}
 use native.Mathlib.Nat.{add-zero, zero-add, suc-add, mul-zero, mul-suc, mul-comm, mod-lt, div-add-mod'}
@@ -9,12 +9,16 @@ use lib.Dec.{lit<}
 use lib.ListN.{length, getD}
 use lib.Count.{ones, onesIn}
 use Rattle.component.specs.Register.{next, after}
-use Rattle.component.specs.Patterns.{columns, numerators, denominators, RX, RY, table65, pattern, tail, table66, tailPattern, R3/5}
+use Rattle.lists.specs.Lists.{table, total}
+use Rattle.patterns.specs.Patterns.{columns, numerators, denominators, RX, RY, pattern, tail, table66, tailPattern, R3/5, Sound}
+use Rattle.patterns.specs.Loaded.{Allowed}
 use Rattle.component.specs.Codeword.{following, encode, codeword, tailBits}
-use Rattle.component.specs.Decoding.{codedLength, segment, Sound}
+use Rattle.patterns.specs.Patterns.{Sound}
+use Rattle.component.specs.Decoding.{codedLength, segment}
 use Rattle.component.proofs.Codeword.{length-codeword}
-use Rattle.component.proofs.Tests.{equal, less}
-use Rattle.component.proofs.Patterns.{pattern-sound, tail-sound}
+use Rattle.lists.proofs.Rules.{equal, less}
+use Rattle.patterns.proofs.Patterns.{tail-sound}
+use Rattle.patterns.proofs.Loaded.{pattern-columns, pattern-sound, pattern-total}
 
 -- the column n columns after column i
 unfoldable pub columnAfter : List ℕ → ℕ → ℕ → ℕ
@@ -80,25 +84,24 @@ rounds S zero = simp mul-zero
 rounds {p} S (suc c) =
     simp mul-suc (rw (codedLength-add p 0 (length p * c) (length p), columnAfter-rounds S c, rounds S c))
 
--- a rate's pattern has RX columns
-pub pattern-columns : (rate : ℕ) → rate < 13 → length (pattern rate) ≡ RX rate
-unfolding pattern RX numerators columns table65
-pattern-columns = equal (λ k. length (pattern k)) RX 13 tt
+-- the coded bits of the columns from i on, within a round
+columns-length : (p : List ℕ) (i n : ℕ) → i + n ≤ length p → codedLength p i n ≡ total (table (λ k. ones (getD p k 0)) i n)
+unfolding codedLength following table total
+columns-length p i zero h = refl
+columns-length p i (suc zero) h = refl
+columns-length p i (suc (suc n)) h =
+    let s : i + 1 ≡ suc i = omega arith in
+    rw (lt-ltb (i + 1) (length p) (omega arith), s) (ap (λ x. ones (getD p i 0) + x) (columns-length p (suc i) (suc n) (omega arith)))
 
 -- a round of a rate's pattern has RY coded bits
-pub pattern-round : (rate : ℕ) → rate < 13 → codedLength (pattern rate) 0 (RX rate) ≡ RY rate
-unfolding pattern RX RY numerators denominators columns table65 codedLength following ones onesIn
-pattern-round = equal (λ k. codedLength (pattern k) 0 (RX k)) RY 13 tt
+pub pattern-round : {kept : List ℕ} → Allowed kept → (rate : ℕ) → rate < 13 → codedLength (pattern kept rate) 0 (RX rate) ≡ RY rate
+pattern-round {kept} A rate h =
+    columns-length (pattern kept rate) 0 (RX rate) (omega (arith, pattern-columns kept rate)) ∙ pattern-total A rate h
 
 -- a denominator is from 1 to 11
 pub RY-low : (rate : ℕ) → rate < 13 → (0 < RY rate) × (RY rate < 12)
 unfolding RY denominators
 RY-low rate h = (less (λ k. 0) RY 13 tt rate h, less RY (λ k. 12) 13 tt rate h)
-
--- a row of the tail table has six columns
-pub tail-columns : (r : ℕ) → r < 12 → length (tailPattern r) ≡ 6
-unfolding tailPattern columns tail table66
-tail-columns = equal (λ k. length (tailPattern k)) (λ k. 6) 12 tt
 
 -- the six tail bits of row r have 12 + r coded bits
 pub tail-length : (r : ℕ) → r < 12 → codedLength (tailPattern r) 0 6 ≡ 12 + r
@@ -106,56 +109,56 @@ unfolding tailPattern columns tail table66 codedLength following ones onesIn
 tail-length = equal (λ k. codedLength (tailPattern k) 0 6) (λ k. 12 + k) 12 tt
 
 -- RX × c input bits of a rate have RY × c coded bits
-pub rate-length : (rate c : ℕ) → rate < 13 → codedLength (pattern rate) 0 (RX rate * c) ≡ RY rate * c
-rate-length rate c h = rw (← pattern-round rate h, ← pattern-columns rate h) (rounds (pattern-sound rate h) c)
+pub rate-length : {kept : List ℕ} → Allowed kept → (rate c : ℕ) → rate < 13 → codedLength (pattern kept rate) 0 (RX rate * c) ≡ RY rate * c
+rate-length {kept} A rate c h = rw (← pattern-round A rate h, ← pattern-columns kept rate) (rounds (pattern-sound A rate h) c)
 
 -- part B of a level and its tail: RX × (m / RY) bits and six zeros, punctured by row m mod RY, have m + 12 coded bits
-pub level-length : (rate m : ℕ) → rate < 13
-    → codedLength (pattern rate) 0 (RX rate * (m / RY rate)) + codedLength (tailPattern (m % RY rate)) 0 6 ≡ m + 12
-level-length rate m h =
+pub level-length : {kept : List ℕ} → Allowed kept → (rate m : ℕ) → rate < 13
+    → codedLength (pattern kept rate) 0 (RX rate * (m / RY rate)) + codedLength (tailPattern (m % RY rate)) 0 6 ≡ m + 12
+level-length A rate m h =
     let low : m % RY rate < RY rate = mod-lt m (RY-low rate h .0) in
     let whole : RY rate * (m / RY rate) + m % RY rate ≡ m = rw (mul-comm (RY rate) (m / RY rate)) (div-add-mod' m (RY rate)) in
-    rw (rate-length rate (m / RY rate) h, tail-length (m % RY rate) (omega (arith, RY-low rate h))) (omega arith)
+    rw (rate-length A rate (m / RY rate) h, tail-length (m % RY rate) (omega (arith, RY-low rate h))) (omega arith)
 
 -- the FAC's 72 bits and six zeros at 3/5
-pub fac-length : codedLength (pattern R3/5) 0 72 + codedLength (pattern R3/5) 0 6 ≡ 130
+pub fac-length : {kept : List ℕ} → Allowed kept → codedLength (pattern kept R3/5) 0 72 + codedLength (pattern kept R3/5) 0 6 ≡ 130
 unfolding RX RY numerators denominators
-fac-length = ap₂ _+_ (rate-length R3/5 24 (lit< tt)) (rate-length R3/5 2 (lit< tt))
+fac-length A = ap₂ _+_ (rate-length A R3/5 24 (lit< tt)) (rate-length A R3/5 2 (lit< tt))
 
 -- a level's codeword: part A of c whole rounds, part B and the tail of m + 12 coded bits
-pub level-codeword : (rateA rateB c m r : ℕ) (a b : List ℕ) → rateA < 13 → rateB < 13
+pub level-codeword : {kept : List ℕ} → Allowed kept → (rateA rateB c m r : ℕ) (a b : List ℕ) → rateA < 13 → rateB < 13
     → length a ≡ RX rateA * c
     → length b ≡ RX rateB * (m / RY rateB)
-    → length (codeword r (segment (pattern rateA) a ∷ segment (pattern rateB) b ∷ segment (tailPattern (m % RY rateB)) tailBits ∷ []))
+    → length (codeword r (segment (pattern kept rateA) a ∷ segment (pattern kept rateB) b ∷ segment (tailPattern (m % RY rateB)) tailBits ∷ []))
     ≡ RY rateA * c + (m + 12)
 unfolding codeword tailBits
-level-codeword rateA rateB c m r a b hA hB ea eb =
+level-codeword {kept} A rateA rateB c m r a b hA hB ea eb =
     let low : m % RY rateB < RY rateB = mod-lt m (RY-low rateB hB .0) in
-    let B = segment (pattern rateB) b in
+    let B = segment (pattern kept rateB) b in
     let T = segment (tailPattern (m % RY rateB)) tailBits in
     rw (
-      length-codeword r (segment (pattern rateA) a) (B ∷ T ∷ []) (pattern-sound rateA hA),
-      length-codeword (after r a) B (T ∷ []) (pattern-sound rateB hB),
+      length-codeword r (segment (pattern kept rateA) a) (B ∷ T ∷ []) (pattern-sound A rateA hA),
+      length-codeword (after r a) B (T ∷ []) (pattern-sound A rateB hB),
       length-codeword (after (after r a) b) T [] (tail-sound (m % RY rateB) (omega (arith, RY-low rateB hB))),
       ea,
       eb,
-      rate-length rateA c hA,
+      rate-length A rateA c hA,
     )
-    (omega (arith, level-length rateB m hB))
+    (omega (arith, level-length A rateB m hB))
 
 -- the FAC's codeword of 72 bits and six zeros has 130 coded bits
-pub fac-codeword : (r : ℕ) (xs : List ℕ) → length xs ≡ 72
-    → length (codeword r (segment (pattern R3/5) xs ∷ segment (pattern R3/5) tailBits ∷ [])) ≡ 130
+pub fac-codeword : {kept : List ℕ} → Allowed kept → (r : ℕ) (xs : List ℕ) → length xs ≡ 72
+    → length (codeword r (segment (pattern kept R3/5) xs ∷ segment (pattern kept R3/5) tailBits ∷ [])) ≡ 130
 unfolding codeword tailBits
-fac-codeword r xs e =
-    let T = segment (pattern R3/5) tailBits in
-    let S : Sound (pattern R3/5) = pattern-sound R3/5 (lit< tt) in
-    rw (length-codeword r (segment (pattern R3/5) xs) (T ∷ []) S, length-codeword (after r xs) T [] S, e) (omega (arith, fac-length))
+fac-codeword {kept} A r xs e =
+    let T = segment (pattern kept R3/5) tailBits in
+    let S : Sound (pattern kept R3/5) = pattern-sound A R3/5 (lit< tt) in
+    rw (length-codeword r (segment (pattern kept R3/5) xs) (T ∷ []) S, length-codeword (after r xs) T [] S, e) (omega (arith, fac-length A))
 
 -- and its tail goes on with the pattern: the 78 bits are one segment
-pub fac-goes-on : (r : ℕ) (xs : List ℕ) → length xs ≡ 72
-    → codeword r (segment (pattern R3/5) xs ∷ segment (pattern R3/5) tailBits ∷ []) ≡ encode (pattern R3/5) r 0 (xs ++ tailBits)
-unfolding codeword pattern columns table65
-fac-goes-on r xs e =
-    rw (append-nil (encode (pattern R3/5) (after r xs) 0 tailBits))
-    (sym (encode-rounds (pattern-sound R3/5 (lit< tt)) r 24 xs tailBits e))
+pub fac-goes-on : {kept : List ℕ} → Allowed kept → (r : ℕ) (xs : List ℕ) → length xs ≡ 72
+    → codeword r (segment (pattern kept R3/5) xs ∷ segment (pattern kept R3/5) tailBits ∷ []) ≡ encode (pattern kept R3/5) r 0 (xs ++ tailBits)
+unfolding codeword RX numerators
+fac-goes-on {kept} A r xs e =
+    rw (append-nil (encode (pattern kept R3/5) (after r xs) 0 tailBits))
+    (sym (encode-rounds (pattern-sound A R3/5 (lit< tt)) r 24 xs tailBits (rw (pattern-columns kept R3/5) e)))

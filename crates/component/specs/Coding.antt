@@ -1,30 +1,14 @@
 -- What the functions of the component code require and promise: nothing of 01 is stated here.
-use Prim.Native.Nat.{ℕ, _+_, _-_, _≤_, _<_}
+use Prim.Native.Nat.{ℕ, _+_, _≤_, _<_}
 use mathlib.Core.Path.{_≡_}
-use mathlib.Core.List.{List, _++_}
-use lib.ListN.{length, take, drop, replicate}
+use mathlib.Core.List.{List}
+use lib.ListN.{length, drop}
 use lib.Seq.{sets}
 use Rattle.component.specs.Bits.{Bits}
 use Rattle.component.specs.Register.{after}
 use Rattle.component.specs.Codeword.{encode}
-use Rattle.component.specs.declared.code.Pattern.{Pattern}
-use Rattle.component.specs.Decoding.{codedLength, decode, Sound}
-
--- The columns of a pattern, filled up with zeros to eight.
-unfoldable pub padded : List ℕ → List ℕ
-padded p = p ++ replicate (8 - length p) 0
-
--- A pattern as the code holds it, and the pattern that it holds.
-unfoldable pub patternFrom : List ℕ → Pattern
-patternFrom p = record { columns = padded p; width = length p }
-
-unfoldable pub patternOf : Pattern → List ℕ
-patternOf p = take (p .width) (p .columns)
-
--- A sound pattern is held.
-pub record Held (p : Pattern) : Type 0 where
-  pub sound : Sound (patternOf p)
-  pub there : p .width ≤ length (p .columns)
+use Rattle.patterns.specs.Patterns.{Sound}
+use Rattle.component.specs.Decoding.{codedLength, decode}
 
 -- encode requires a sound pattern, a register of seven bits, bits to code, and room for the coded ones.
 pub record Encodes (pattern : List ℕ) (register : ℕ) (bits out : List ℕ) (at : ℕ) : Type 0 where

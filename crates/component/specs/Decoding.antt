@@ -1,17 +1,12 @@
 -- The component code's lengths and its decoding. 01 "Component code"; 001 clause 7.3.2.
-use Prim.Native.Nat.{ℕ, zero, suc, _+_, _%_, _<_}
-use mathlib.Core.Path.{_≡_}
-use mathlib.Core.List.{List, [], _∷_, _++_}
+use Prim.Native.Nat.{ℕ, zero, suc, _+_, _%_}
+use mathlib.Core.List.{List, [], _∷_}
 use lib.ListN.{length, getD, drop}
 use lib.Count.{ones}
 use Rattle.component.specs.Register.{next, parity, after}
-use Rattle.component.specs.Patterns.{table65, table66}
+use Rattle.patterns.specs.Patterns.{Sound}
 use Rattle.component.specs.Codeword.{following, Segment}
 use Rattle.component.specs.Bits.{Bits}
-
--- The patterns by number: 0 to 12 are the rates of table 65, 13 to 24 the rows of table 66.
-unfoldable pub patternAt : ℕ → List ℕ
-patternAt k = getD (table65 ++ table66) k []
 
 -- How many coded bits n input bits give from column i on: a column keeps as many as its number has ones.
 unfoldable pub codedLength : List ℕ → ℕ → ℕ → ℕ
@@ -54,12 +49,6 @@ segments register (s ∷ ss) coded =
     (after register (decode (s .pattern) register 0 (s .count) coded))
     ss
     (drop (codedLength (s .pattern) 0 (s .count)) coded)
-
--- A pattern has columns, and each keeps b0.
-pub record Sound (pattern : List ℕ) : Type 0 where
-  pub some : 0 < length pattern
-  pub first : (i : ℕ) → i < length pattern → getD pattern i 0 % 2 ≡ 1
-  pub four : (i : ℕ) → i < length pattern → getD pattern i 0 < 16
 
 -- A segment that can be read back: a sound pattern, and bits.
 pub record Readable (s : Segment) : Type 0 where

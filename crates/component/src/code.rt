@@ -1,4 +1,5 @@
 // The component code: coded bits of a segment, and the segment's bits from them.
+use patterns::Pattern;
 ghost use mathlib.Core.Path.{_≡_};
 ghost use mathlib.Core.Bool.{cond};
 ghost use mathlib.Core.List.{[], _∷_};
@@ -9,83 +10,10 @@ ghost use lib.Dec.{ltb};
 ghost use lib.Count.{ones};
 ghost use Rattle.component.specs.Register.{next, parity, parities};
 ghost use Rattle.component.specs.Codeword.{kept};
-ghost use Rattle.component.specs.Decoding.{patternAt, codedLength, newest, Sound};
-ghost use Rattle.component.specs.Coding.{patternOf, patternFrom, Held, Encodes, Encoded, Decodes, Decoded};
-
-// The kept bits of each pattern's columns, filled up with zeros: the rates of table 65 and then the rows of table 66.
-const KEPT: [[u8; 8]; 25] = [
-    [15, 0, 0, 0, 0, 0, 0, 0],
-    [15, 7, 7, 0, 0, 0, 0, 0],
-    [7, 0, 0, 0, 0, 0, 0, 0],
-    [7, 7, 7, 3, 0, 0, 0, 0],
-    [3, 0, 0, 0, 0, 0, 0, 0],
-    [3, 5, 3, 1, 0, 0, 0, 0],
-    [3, 1, 3, 0, 0, 0, 0, 0],
-    [3, 1, 0, 0, 0, 0, 0, 0],
-    [3, 1, 1, 3, 1, 1, 3, 1],
-    [3, 1, 1, 0, 0, 0, 0, 0],
-    [3, 1, 1, 1, 0, 0, 0, 0],
-    [3, 1, 1, 1, 1, 1, 1, 0],
-    [3, 1, 1, 1, 1, 1, 1, 1],
-    [3, 3, 3, 3, 3, 3, 0, 0],
-    [7, 3, 3, 3, 3, 3, 0, 0],
-    [7, 3, 3, 7, 3, 3, 0, 0],
-    [7, 7, 3, 7, 3, 3, 0, 0],
-    [7, 7, 3, 7, 7, 3, 0, 0],
-    [7, 7, 7, 7, 7, 3, 0, 0],
-    [7, 7, 7, 7, 7, 7, 0, 0],
-    [15, 7, 7, 7, 7, 7, 0, 0],
-    [15, 7, 7, 15, 7, 7, 0, 0],
-    [15, 15, 7, 15, 7, 7, 0, 0],
-    [15, 15, 7, 15, 7, 15, 0, 0],
-    [15, 15, 15, 15, 7, 15, 0, 0],
-];
-
-// How many columns each pattern has.
-const COLUMNS: [usize; 25] = [
-    1,
-    3,
-    1,
-    4,
-    1,
-    4,
-    3,
-    2,
-    8,
-    3,
-    4,
-    7,
-    8,
-    6,
-    6,
-    6,
-    6,
-    6,
-    6,
-    6,
-    6,
-    6,
-    6,
-    6,
-    6,
-];
-
-// A puncturing pattern: the kept bits of its columns, filled up with zeros, and how many columns it has.
-pub struct Pattern {
-    pub columns: [u8; 8],
-    pub width: usize,
-}
-
-// The pattern of number k: 0 to 12 are the rates of table 65, 13 to 24 the rows of table 66.
-pub fn pattern_at(k: usize) -> Pattern
-    requires { ⌜ k < 25 ⌝ }
-    ensures { λ r. ⌜ r ≡ patternFrom (patternAt k) ⌝ }
-{
-    Pattern {
-        columns: KEPT[k],
-        width: COLUMNS[k],
-    }
-}
+ghost use Rattle.patterns.specs.Patterns.{Sound};
+ghost use Rattle.patterns.specs.Contracts.{patternOf, Held};
+ghost use Rattle.component.specs.Decoding.{codedLength, newest};
+ghost use Rattle.component.specs.Coding.{Encodes, Encoded, Decodes, Decoded};
 
 // A coder's register, and the place of the next coded bit.
 pub struct Coder {

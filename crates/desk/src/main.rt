@@ -1,4 +1,5 @@
 // The desk's program: it reads, calls the jobs and writes. What is decided and what is said stands in `console`, `jobs` and `linejobs`.
+use channels::tables::standard_scheme;
 use codecall::reset::reset;
 use console::End;
 use console::Job;
@@ -112,7 +113,7 @@ fn run(job: Job, start: State, bytes: &mut [u8], memory: &mut [i16], out: &mut [
 // A run from a reset; settings that it refuses are refused at the first super frame too.
 fn run_settings(job: Job, s: Settings, bytes: &mut [u8], memory: &mut [i16], out: &mut [u8]) {
     let old = State {
-        settings: s,
+        scheme: standard_scheme(s),
         position: 0,
         count: 0,
     };

@@ -1,10 +1,11 @@
--- What drm_reset, drm_code and drm_read yield, by the calls on states.
+-- What drm_reset, drm_reset_table, drm_code and drm_read yield, by the calls on states.
 use Prim.Native.Nat.{ℕ, _+_, _*_}
 use mathlib.Core.Bool.{cond, _&&_}
 use mathlib.Core.List.{List}
 use lib.ListN.{length}
 use lib.IntN.{ℤ}
 use lib.Dec.{eqb}
+use Rattle.channels.specs.Scheme.{schemeOf}
 use Rattle.superframe.specs.declared.State.{State}
 use Rattle.superframe.specs.declared.Done.{Done}
 use Rattle.superframe.specs.declared.Answer.{Answer}
@@ -52,14 +53,14 @@ readYields answer state memory fac sdc msc =
 unfoldable pub stateAfter : Done → List ℕ → List ℕ
 stateAfter done bytes = cond (eqb (done .refusal) 0) (stateBytes (done .state)) bytes
 
--- Reset. A state or settings of the wrong length: 255, and nothing is written.
+-- Reset with a table, which drm_reset takes from the standard. A state or settings of the wrong length: 255, and nothing is written.
 unfoldable pub resetAnswered : ResetYield → List ℕ → ResetBytes
 resetAnswered y state = resetYields (y .done .refusal) (stateAfter (y .done) state) (y .memory)
 
-unfoldable pub resetBytes : List ℕ → List ℕ → List ℤ → ResetBytes
-resetBytes state settings memory =
-    cond (eqb (length state) 12 && eqb (length settings) 10)
-    (resetAnswered (resetOf (stateOf state) (settingsOf settings) memory) state)
+unfoldable pub resetBytes : List ℕ → List ℕ → List ℕ → List ℤ → ResetBytes
+resetBytes state settings table memory =
+    cond (eqb (length state) 208 && eqb (length settings) 10)
+    (resetAnswered (resetOf (stateOf state) (schemeOf (settingsOf settings) table) memory) state)
     (resetYields 255 state memory)
 
 -- Code. A state of the wrong length: 255, and nothing is written.
@@ -69,7 +70,7 @@ codeAnswered y state =
 
 unfoldable pub codeBytes : List ℕ → List ℤ → CodeCall → CodeBytes
 codeBytes state memory c =
-    cond (eqb (length state) 12) (codeAnswered (codeOf (stateOf state) memory c) state)
+    cond (eqb (length state) 208) (codeAnswered (codeOf (stateOf state) memory c) state)
     (codeYields 255 state memory (c .faccells) (c .sdccells) (c .msccells))
 
 -- An answer in one number: 256 times its number (0 for acceptance), plus its block, plus its finished frames.
@@ -89,5 +90,5 @@ readAnswered y state =
 
 unfoldable pub readBytes : List ℕ → List ℤ → ReadCall → ReadBytes
 readBytes state memory c =
-    cond (eqb (length state) 12) (readAnswered (readOf (stateOf state) memory c) state)
+    cond (eqb (length state) 208) (readAnswered (readOf (stateOf state) memory c) state)
     (readYields (256 * 255) state memory (c .fac) (c .sdc) (c .msc))

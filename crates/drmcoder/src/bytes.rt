@@ -1,10 +1,12 @@
 // Settings and states as bytes.
+use channels::tables::scheme_of;
+use lists::bytes::copy;
 use settings::Settings;
 use superframe::State;
 ghost use mathlib.Core.Path.{_≡_};
 ghost use lib.ListN.{length};
 ghost use Prim.Native.Nat.{_+_, _*_, _/_, _%_, _≤_};
-ghost use Rattle.drmcoder.specs.Bytes.{settingsOf, stateOf, stateBytes};
+ghost use Rattle.drmcoder.specs.Bytes.{settingsOf, stateOf, frontBytes, stateBytes};
 
 // Two bytes, high byte first.
 fn word(high: u8, low: u8) -> u16
@@ -43,22 +45,24 @@ pub fn settings_of(bytes: &[u8]) -> Settings
     }
 }
 
+// A state from its 208 bytes.
 pub fn state_of(bytes: &[u8]) -> State
-    requires { ⌜ length (now bytes) ≡ 12 ⌝ }
+    requires { ⌜ length (now bytes) ≡ 208 ⌝ }
     ensures { λ r. ⌜ r ≡ stateOf (now (bytes .entry)) ⌝ }
 {
     State {
-        settings: settings_of(bytes),
+        scheme: scheme_of(settings_of(bytes), &bytes[12..]),
         position: bytes[10],
         count: bytes[11],
     }
 }
 
-pub fn put_state(state: State, bytes: &mut [u8])
+// The twelve bytes before the table.
+fn put_front(state: State, bytes: &mut [u8])
     requires { ⌜ length (now bytes) ≡ 12 ⌝ }
-    ensures { λ r. ⌜ now (bytes .exit) ≡ stateBytes state ⌝ }
+    ensures { λ r. ⌜ now (bytes .exit) ≡ frontBytes state ⌝ }
 {
-    let s = state.settings;
+    let s = state.scheme.settings;
     bytes[0] = s.mode;
     bytes[1] = s.occupancy;
     bytes[2] = s.msc;
@@ -71,4 +75,13 @@ pub fn put_state(state: State, bytes: &mut [u8])
     bytes[9] = s.interleaving;
     bytes[10] = state.position;
     bytes[11] = state.count;
+}
+
+pub fn put_state(state: State, bytes: &mut [u8])
+    requires { ⌜ length (now bytes) ≡ 208 ⌝ }
+    ensures { λ r. ⌜ now (bytes .exit) ≡ stateBytes state ⌝ }
+{
+    let table = state.scheme.table;
+    put_front(state, &mut bytes[0..12]);
+    copy(&table, &mut bytes[12..]);
 }

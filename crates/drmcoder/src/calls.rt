@@ -1,9 +1,10 @@
-// The calls drm_reset, drm_code and drm_read.
+// The calls drm_reset, drm_reset_table, drm_code and drm_read.
 use crate::bytes::put_state;
 use crate::bytes::settings_of;
 use crate::bytes::state_of;
 use codecall::code::code;
-use codecall::reset::reset;
+use codecall::reset::reset_table;
+use patterns::table::standard_table;
 use readcall::read::read;
 use superframe::Answer;
 use superframe::Done;
@@ -11,13 +12,14 @@ use superframe::Reading;
 ghost use mathlib.Core.Path.{_≡_};
 ghost use lib.ListN.{length};
 ghost use Prim.Native.Nat.{_+_, _*_};
+ghost use Rattle.patterns.specs.Patterns.{table65};
 ghost use Rattle.codecall.specs.Contracts.{codeCall};
 ghost use Rattle.readcall.specs.Contracts.{readCall};
 ghost use Rattle.drmcoder.specs.Calls.{stateAfter, stateRead, answerWord, resetYields, codeYields, readYields, resetBytes, codeBytes, readBytes};
 
 // The answer of Reset and Code, with the state written where the call is accepted.
 fn finish(done: Done, bytes: &mut [u8]) -> u8
-    requires { ⌜ length (now bytes) ≡ 12 ⌝ }
+    requires { ⌜ length (now bytes) ≡ 208 ⌝ }
     ensures { λ r. ⌜ r ≡ done .refusal ⌝ }
     ensures { λ r. ⌜ now (bytes .exit) ≡ stateAfter done (now (bytes .entry)) ⌝ }
 {
@@ -37,7 +39,7 @@ fn refusal_word(number: u8, block: u8) -> u16
 
 // The answer of Read, with the state written where the call is accepted.
 fn finish_read(reading: Reading, bytes: &mut [u8]) -> u16
-    requires { ⌜ length (now bytes) ≡ 12 ⌝ }
+    requires { ⌜ length (now bytes) ≡ 208 ⌝ }
     ensures { λ r. ⌜ r ≡ answerWord (reading .answer) ⌝ }
     ensures { λ r. ⌜ now (bytes .exit) ≡ stateRead (reading .answer) (reading .state) (now (bytes .entry)) ⌝ }
 {
@@ -51,19 +53,43 @@ fn finish_read(reading: Reading, bytes: &mut [u8]) -> u16
     }
 }
 
-// Begins a run of settings on a memory.
-#[no_mangle]
-pub extern "C" fn drm_reset(state: &mut [u8], settings: &[u8], memory: &mut [i16]) -> u8
-    ensures { λ r. ⌜ resetYields r (now (state .exit)) (now (memory .exit)) ≡ resetBytes (now (state .entry)) (now (settings .entry)) (now (memory .entry)) ⌝ }
+// Begins a run of settings and a table on a memory.
+fn reset_bytes(state: &mut [u8], settings: &[u8], table: &[u8], memory: &mut [i16]) -> u8
+    ensures { λ r. ⌜ resetYields r (now (state .exit)) (now (memory .exit))
+        ≡ resetBytes (now (state .entry)) (now (settings .entry)) (now (table .entry)) (now (memory .entry)) ⌝ }
 {
-    if state.len() != 12 {
+    if state.len() != 208 {
         return 255;
     }
     if settings.len() != 10 {
         return 255;
     }
-    let done = reset(state_of(state), settings_of(settings), memory);
+    let done = reset_table(state_of(state), settings_of(settings), table, memory);
     finish(done, state)
+}
+
+// Begins a run with the standard's table.
+#[no_mangle]
+pub extern "C" fn drm_reset(state: &mut [u8], settings: &[u8], memory: &mut [i16]) -> u8
+    ensures { λ r. ⌜ resetYields r (now (state .exit)) (now (memory .exit))
+        ≡ resetBytes (now (state .entry)) (now (settings .entry)) table65 (now (memory .entry)) ⌝ }
+{
+    let table = standard_table();
+    reset_bytes(state, settings, &table, memory)
+}
+
+// Begins a run with a table of its own. 02 S-11.
+#[no_mangle]
+pub extern "C" fn drm_reset_table(
+    state: &mut [u8],
+    settings: &[u8],
+    table: &[u8],
+    memory: &mut [i16],
+) -> u8
+    ensures { λ r. ⌜ resetYields r (now (state .exit)) (now (memory .exit))
+        ≡ resetBytes (now (state .entry)) (now (settings .entry)) (now (table .entry)) (now (memory .entry)) ⌝ }
+{
+    reset_bytes(state, settings, table, memory)
 }
 
 // Three FAC blocks, an SDC block and three multiplex frames to the cells of a super frame.
@@ -82,7 +108,7 @@ pub extern "C" fn drm_code(
         ≡ codeBytes (now (state .entry)) (now (memory .entry))
         (codeCall (now (fac .entry)) (now (sdc .entry)) (now (msc .entry)) (now (faccells .entry)) (now (sdccells .entry)) (now (msccells .entry))) ⌝ }
 {
-    if state.len() != 12 {
+    if state.len() != 208 {
         return 255;
     }
     let done = code(
@@ -114,7 +140,7 @@ pub extern "C" fn drm_read(
         ≡ readBytes (now (state .entry)) (now (memory .entry))
         (readCall (now (faccells .entry)) (now (sdccells .entry)) (now (msccells .entry)) (now (fac .entry)) (now (sdc .entry)) (now (msc .entry))) ⌝ }
 {
-    if state.len() != 12 {
+    if state.len() != 208 {
         return 65280;
     }
     let reading = read(

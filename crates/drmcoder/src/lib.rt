@@ -1,4 +1,4 @@
-// The C interface. Settings are ten bytes, a state is those ten, position and count.
+// The C interface. Settings are ten bytes, a state is those ten, position, count and the 196 numbers of its table.
 pub mod bytes;
 pub mod calls;
 pub mod decide;

@@ -11,7 +11,7 @@ use Rattle.lists.specs.Lists.{table}
 use Rattle.lists.proofs.Tables.{length-table, table-ext}
 use Rattle.component.specs.Bits.{Bits}
 use Rattle.component.proofs.Bits.{bits-nil, bits-cons, bits-head, bits-rest}
-use Rattle.component.proofs.Tests.{at}
+use Rattle.lists.proofs.Rules.{at}
 use Rattle.block.specs.Packing.{bitAt, unpacked, digits}
 use Rattle.block.proofs.Lists.{bits-table}
 use Rattle.facfields.specs.Crc.{g8, tapped, shifted, register, crcBits}

@@ -13,7 +13,7 @@ use lib.Pow.{pow-pos, pow-add, pow-mono}
 use lib.Dec.{ltb}
 use Rattle.lists.specs.Lists.{total}
 use Rattle.lists.proofs.Bools.{never-both, and-left, and-right}
-use Rattle.component.proofs.Tests.{equal, less}
+use Rattle.lists.proofs.Rules.{equal, less}
 use Rattle.facfields.specs.Bits.{bitsOf, laid, fit, numbersIn}
 use Rattle.facfields.specs.Fields.{widths}
 use Rattle.facfields.proofs.Digits.{bitsOf-add, bitsOf-join, bitsOf-mod}

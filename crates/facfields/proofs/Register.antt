@@ -9,7 +9,7 @@ use lib.ListN.{length, replicate, length-map}
 use lib.Seq.{take-all}
 use Rattle.component.specs.Bits.{Bits}
 use Rattle.component.proofs.Bits.{bits-nil, bits-cons}
-use Rattle.component.proofs.Tests.{equal}
+use Rattle.lists.proofs.Rules.{equal}
 use Rattle.block.specs.Packing.{digits}
 use Rattle.facfields.specs.Bits.{bitsOf}
 use Rattle.facfields.specs.Crc.{g8, tapped, shifted, register, crcBits}

@@ -10,14 +10,15 @@ use lib.IntN.{ℤ}
 use lib.Dec.{eqb, leb, lit≤}
 use Rattle.lists.specs.Bytes.{bytesFor}
 use Rattle.lists.proofs.Bools.{and-left, and-right}
-use Rattle.settings.specs.declared.Settings.{Settings}
-use Rattle.settings.specs.Refusal.{first, refusal}
+use Rattle.settings.specs.Refusal.{first}
 use Rattle.settings.specs.Lengths.{nMux}
 use Rattle.settings.specs.Sizes.{frameBits}
 use Rattle.settings.proofs.Chain.{passes, own-next, first-passes, first-next}
-use Rattle.settings.proofs.Bounds.{accepted-of}
 use Rattle.block.specs.Block.{cellsOf}
+use Rattle.channels.specs.declared.Scheme.{Scheme}
+use Rattle.channels.specs.Scheme.{schemeRefusal}
 use Rattle.channels.specs.Msc.{mscBlock}
+use Rattle.channels.proofs.Schemes.{scheme-accepted}
 use Rattle.halves.specs.Halves.{joinedBits, halvesLong, halvesSpare, halvesRefusal, halvesYield, halvesOf}
 use Rattle.halves.specs.Contracts.{HalvesFit}
 
@@ -55,43 +56,43 @@ pub below : (bits cut n m : ℕ) {a b : ℕ} → cut ≤ bits → a ≡ bytesFor
 unfolding halvesLong
 below bits cut n m h e f = rw (e, f, le-leb cut bits h)
 
-module _ (s : Settings) (cut : ℕ) (one two : List ℕ) (numbers : ℕ) where
+module _ (s : Scheme) (cut : ℕ) (one two : List ℕ) (numbers : ℕ) where
   -- the refusals, from the tests that find them
-  pub of-settings : {r : ℕ} → r ≡ refusal s → (r ≡ 0 → ⊥) → r ≡ halvesRefusal s cut one two numbers
+  pub of-settings : {r : ℕ} → r ≡ schemeRefusal s → (r ≡ 0 → ⊥) → r ≡ halvesRefusal s cut one two numbers
   unfolding halvesRefusal first
   of-settings {r} e h = rw (← e, lt-ltb 0 r (omega arith))
 
-  module _ (z : refusal s ≡ 0) {b : Bool} (l : b ≡ halvesLong (frameBits s) cut (length one) (length two)) where
+  module _ (z : schemeRefusal s ≡ 0) {b : Bool} (l : b ≡ halvesLong (frameBits (s .settings)) cut (length one) (length two)) where
     pub nine : not b ≡ true → 9 ≡ halvesRefusal s cut one two numbers
     unfolding halvesRefusal first
     nine h = rw (z, ← l, h)
 
     module _ (h : not b ≡ false) where
-      pub ten : (numbers ≡ 2 * nMux s → ⊥) → 10 ≡ halvesRefusal s cut one two numbers
+      pub ten : (numbers ≡ 2 * nMux (s .settings) → ⊥) → 10 ≡ halvesRefusal s cut one two numbers
       unfolding halvesRefusal first
-      ten n = rw (z, ← l, h, ne-eqb numbers (2 * nMux s) n)
+      ten n = rw (z, ← l, h, ne-eqb numbers (2 * nMux (s .settings)) n)
 
-      pub last : (c : Bool) → numbers ≡ 2 * nMux s → c ≡ halvesSpare (frameBits s) cut one two → first (not c) 11 0 ≡ halvesRefusal s cut one two numbers
+      pub last : (c : Bool) → numbers ≡ 2 * nMux (s .settings) → c ≡ halvesSpare (frameBits (s .settings)) cut one two → first (not c) 11 0 ≡ halvesRefusal s cut one two numbers
       unfolding halvesRefusal first
-      last c n e = rw (z, ← l, h, eq-eqb numbers (2 * nMux s) n, e)
+      last c n e = rw (z, ← l, h, eq-eqb numbers (2 * nMux (s .settings)) n, e)
 
 -- an accepted call has what it wants
-fit : (s : Settings) (cut : ℕ) (one two : List ℕ) (cells : List ℤ) → halvesRefusal s cut one two (length cells) ≡ 0 → HalvesFit s cut one two cells
+fit : (s : Scheme) (cut : ℕ) (one two : List ℕ) (cells : List ℤ) → halvesRefusal s cut one two (length cells) ≡ 0 → HalvesFit s cut one two cells
 unfolding halvesRefusal
 fit s cut one two cells h =
-    let h₁ = own-next (refusal s) _ h in
+    let h₁ = own-next (schemeRefusal s) _ h in
     let h₂ = first-next _ 9 _ (lit≤ tt) h₁ in
-    let l = long-halves (frameBits s) cut (length one) (length two) (not-false _ (first-passes _ 9 _ (lit≤ tt) h₁)) in
+    let l = long-halves (frameBits (s .settings)) cut (length one) (length two) (not-false _ (first-passes _ 9 _ (lit≤ tt) h₁)) in
     record {
-      accepted = accepted-of s (passes (refusal s) _ h);
+      accepted = scheme-accepted s (passes (schemeRefusal s) _ h);
       inside = l .inside;
       oneLong = l .oneLong;
       twoLong = l .twoLong;
-      cellsLong = eqb-true (length cells) (2 * nMux s) (not-false _ (first-passes _ 10 _ (lit≤ tt) h₂));
+      cellsLong = eqb-true (length cells) (2 * nMux (s .settings)) (not-false _ (first-passes _ 10 _ (lit≤ tt) h₂));
     }
 
 -- a call that is refused, and one that isn't
-module _ (s : Settings) (cut : ℕ) (one two : List ℕ) (cells : List ℤ) {r : ℕ} (e : r ≡ halvesRefusal s cut one two (length cells)) where
+module _ (s : Scheme) (cut : ℕ) (one two : List ℕ) (cells : List ℤ) {r : ℕ} (e : r ≡ halvesRefusal s cut one two (length cells)) where
   pub refused : (r ≡ 0 → ⊥) → halvesYield r cells ≡ halvesOf s cut one two cells
   unfolding halvesOf
   refused h = rw (← e, ne-eqb r 0 h)

@@ -10,11 +10,9 @@ use lib.IntN.{ℤ}
 use Rattle.lists.specs.Bytes.{bytesFor}
 use Rattle.component.specs.Bits.{Bits}
 use Rattle.component.proofs.Bits.{bits-append, bits-drop}
-use Rattle.settings.specs.declared.Settings.{Settings}
-use Rattle.settings.specs.Refusal.{first, refusal}
+use Rattle.settings.specs.Refusal.{first}
 use Rattle.settings.specs.Lengths.{nMux}
 use Rattle.settings.specs.Sizes.{frameBits}
-use Rattle.settings.proofs.Bounds.{accepted-of}
 use Rattle.block.specs.Packing.{unpacked, packed, spareZero}
 use Rattle.block.specs.Dispersal.{dispersed, dispersedParts, dispersedFrom}
 use Rattle.block.specs.Block.{cellsFrom}
@@ -22,7 +20,10 @@ use Rattle.block.specs.Fits.{Bytes}
 use Rattle.block.proofs.Lists.{bits-take}
 use Rattle.block.proofs.Packing.{length-packed, unpacked-packed, spare-packed, length-unpacked, bits-unpacked, packed-unpacked}
 use Rattle.block.proofs.Dispersal.{length-dispersed, bits-dispersed, dispersed-append, dispersed-twice}
+use Rattle.channels.specs.declared.Scheme.{Scheme}
+use Rattle.channels.specs.Scheme.{schemeRefusal}
 use Rattle.channels.specs.Msc.{mscBlock}
+use Rattle.channels.proofs.Schemes.{scheme-accepted}
 use Rattle.channels.proofs.Msc.{msc-bits}
 use Rattle.dispersal.specs.Calls.{dispersedBytes}
 use Rattle.halves.specs.Halves.{joinedBits, halvesLong, halvesSpare, halvesRefusal, halvesYield, halvesOf}
@@ -60,12 +61,12 @@ pub whole-frame : (v : ℕ) (f : List ℕ) (cut : ℕ) → cut ≤ length f
     → dispersedFrom v 0 (take cut f) ++ dispersedFrom v cut (drop cut f) ≡ dispersedParts v f
 whole-frame v f cut h = joined v cut (take cut f) (drop cut f) (length-take-le cut f h) ∙ ap (dispersedParts v) (take-append-drop cut f)
 
-module _ (s : Settings) (z : refusal s ≡ 0) (frame : List ℕ) (cut : ℕ) (h : cut ≤ frameBits s) where
+module _ (s : Scheme) (z : schemeRefusal s ≡ 0) (frame : List ℕ) (cut : ℕ) (h : cut ≤ frameBits (s .settings)) where
   abbrev bits : List ℕ
-  bits = unpacked (frameBits s) frame
+  bits = unpacked (frameBits (s .settings)) frame
 
-  long : length bits ≡ frameBits s
-  long = length-unpacked (frameBits s) frame
+  long : length bits ≡ frameBits (s .settings)
+  long = length-unpacked (frameBits (s .settings)) frame
 
   abbrev one : List ℕ
   one = packed (take cut bits)
@@ -74,29 +75,29 @@ module _ (s : Settings) (z : refusal s ≡ 0) (frame : List ℕ) (cut : ℕ) (h 
   two = packed (drop cut bits)
 
   some : Bits bits
-  some = bits-unpacked (frameBits s) frame
+  some = bits-unpacked (frameBits (s .settings)) frame
 
   take-long : length (take cut bits) ≡ cut
   take-long = length-take-le cut bits (rw long h)
 
-  drop-long : length (drop cut bits) ≡ frameBits s - cut
+  drop-long : length (drop cut bits) ≡ frameBits (s .settings) - cut
   drop-long = length-drop cut bits ∙ ap (λ n. n - cut) long
 
   -- the halves are whole, and no spare bit is set
-  right : halvesLong (frameBits s) cut (length one) (length two) ≡ true
+  right : halvesLong (frameBits (s .settings)) cut (length one) (length two) ≡ true
   unfolding halvesLong
   right =
       rw (
-        le-leb cut (frameBits s) h,
+        le-leb cut (frameBits (s .settings)) h,
         eq-eqb (length (packed (take cut bits))) (bytesFor cut) (length-packed (bits-take cut some) ∙ ap bytesFor take-long),
-        eq-eqb (length (packed (drop cut bits))) (bytesFor (frameBits s - cut)) (length-packed (bits-drop cut some) ∙ ap bytesFor drop-long),
+        eq-eqb (length (packed (drop cut bits))) (bytesFor (frameBits (s .settings) - cut)) (length-packed (bits-drop cut some) ∙ ap bytesFor drop-long),
       )
 
-  clean : halvesSpare (frameBits s) cut one two ≡ true
+  clean : halvesSpare (frameBits (s .settings)) cut one two ≡ true
   unfolding halvesSpare
   clean =
       let a : spareZero cut (packed (take cut bits)) ≡ true = ap (λ n. spareZero n (packed (take cut bits))) (sym take-long) ∙ spare-packed (bits-take cut some) in
-      let b : spareZero (frameBits s - cut) (packed (drop cut bits)) ≡ true =
+      let b : spareZero (frameBits (s .settings) - cut) (packed (drop cut bits)) ≡ true =
       ap (λ n. spareZero n (packed (drop cut bits))) (sym drop-long) ∙ spare-packed (bits-drop cut some) in
       rw (a, b)
 
@@ -104,9 +105,9 @@ module _ (s : Settings) (z : refusal s ≡ 0) (frame : List ℕ) (cut : ℕ) (h 
   back : joinedBits s cut one two ≡ bits
   unfolding joinedBits
   back =
-      ap₂ _++_ (again cut (bits-take cut some) take-long) (again (frameBits s - cut) (bits-drop cut some) drop-long) ∙ take-append-drop cut bits
+      ap₂ _++_ (again cut (bits-take cut some) take-long) (again (frameBits (s .settings) - cut) (bits-drop cut some) drop-long) ∙ take-append-drop cut bits
 
-  pub same-cells : (cells : List ℤ) → length cells ≡ 2 * nMux s → halvesOf s cut one two cells ≡ halvesYield 0 (cellsFrom (mscBlock s) frame)
+  pub same-cells : (cells : List ℤ) → length cells ≡ 2 * nMux (s .settings) → halvesOf s cut one two cells ≡ halvesYield 0 (cellsFrom (mscBlock s) frame)
   unfolding halvesOf halvesRefusal first cellsFrom
   same-cells cells l =
-      rw (z, right, eq-eqb (length cells) (2 * nMux s) l, clean, back, msc-bits (accepted-of s z))
+      rw (z, right, eq-eqb (length cells) (2 * nMux (s .settings)) l, clean, back, msc-bits (scheme-accepted s z))

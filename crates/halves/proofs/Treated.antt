@@ -8,7 +8,7 @@ use lib.ListN.{length, take, drop, length-append}
 use lib.IntN.{ℤ}
 use Rattle.lists.specs.Bytes.{bytesFor}
 use Rattle.lists.proofs.Parts.{length-start, length-second, both-written, length-written, written-front}
-use Rattle.settings.specs.declared.Settings.{Settings}
+use Rattle.channels.specs.declared.Scheme.{Scheme}
 use Rattle.settings.specs.Sizes.{frameBits}
 use Rattle.settings.proofs.Buffers.{frame-low}
 use Rattle.block.specs.Packing.{unpacked}
@@ -68,16 +68,16 @@ module _ {cut : ℕ} {one two bits : List ℕ} (t : Treats cut one two bits) whe
         ∙ joined v cut (unpacked cut one) (unpacked (length bits - cut) two) (length-unpacked cut one)
 
 -- a buffer for the largest block
-module _ {s : Settings} {cut : ℕ} {one two : List ℕ} {cells : List ℤ} (H : HalvesFit s cut one two cells) {n : ℕ} (h : n ≡ frameBits s)
+module _ {s : Scheme} {cut : ℕ} {one two : List ℕ} {cells : List ℤ} (H : HalvesFit s cut one two cells) {n : ℕ} (h : n ≡ frameBits (s .settings))
     (buffer : List ℕ) (l : length buffer ≡ 36708) where
   pub room : n ≤ length buffer
-  room = omega (arith, frame-low s (H .accepted))
+  room = omega (arith, frame-low (s .settings) (H .accepted .settings))
 
   pub treats : Treats cut one two (take (n - 0) buffer)
   treats =
-      let e : length (take (n - 0) buffer) ≡ frameBits s = length-start n buffer room ∙ h in
+      let e : length (take (n - 0) buffer) ≡ frameBits (s .settings) = length-start n buffer room ∙ h in
       record {
-        most = rw e (frame-low s (H .accepted));
+        most = rw e (frame-low (s .settings) (H .accepted .settings));
         inside = rw e (H .inside);
         oneLong = H .oneLong;
         twoLong = rw e (H .twoLong);
@@ -91,10 +91,10 @@ module _ {s : Settings} {cut : ℕ} {one two : List ℕ} {cells : List ℤ} (H :
         e
         ∙ ap₂ (λ (k : Block) (i : ℕ). dispersedParts (k .vspp) (unpacked cut one ++ unpacked (i - cut) two)) m (length-start n buffer room ∙ h)
 
-    joined-long : length (joinedBits s cut one two) ≡ frameBits s
+    joined-long : length (joinedBits s cut one two) ≡ frameBits (s .settings)
     unfolding joinedBits
     joined-long =
-        rw (length-append (unpacked cut one) (unpacked (frameBits s - cut) two), length-unpacked cut one, length-unpacked (frameBits s - cut) two)
+        rw (length-append (unpacked cut one) (unpacked (frameBits (s .settings) - cut) two), length-unpacked cut one, length-unpacked (frameBits (s .settings) - cut) two)
         (omega (arith, H .inside))
 
     long : length part ≡ n

@@ -5,10 +5,10 @@ use mathlib.Core.List.{List}
 use lib.ListN.{length}
 use lib.IntN.{ℤ}
 use Rattle.lists.specs.Bytes.{bytesFor}
-use Rattle.settings.specs.declared.Settings.{Settings}
-use Rattle.settings.specs.Accepted.{Accepted}
 use Rattle.settings.specs.Lengths.{nMux}
 use Rattle.settings.specs.Sizes.{frameBits}
+use Rattle.channels.specs.declared.Scheme.{Scheme}
+use Rattle.channels.specs.Scheme.{SchemeAccepted}
 
 -- Halves that have the bytes of the bits below the cut, and of the others.
 pub record Treats (cut : ℕ) (one two bits : List ℕ) : Type 0 where
@@ -18,9 +18,9 @@ pub record Treats (cut : ℕ) (one two bits : List ℕ) : Type 0 where
   pub twoLong : length two ≡ bytesFor (length bits - cut)
 
 -- No refusal 1 to 10.
-pub record HalvesFit (s : Settings) (cut : ℕ) (one two : List ℕ) (cells : List ℤ) : Type 0 where
-  pub accepted : Accepted s
-  pub inside : cut ≤ frameBits s
+pub record HalvesFit (s : Scheme) (cut : ℕ) (one two : List ℕ) (cells : List ℤ) : Type 0 where
+  pub accepted : SchemeAccepted s
+  pub inside : cut ≤ frameBits (s .settings)
   pub oneLong : length one ≡ bytesFor cut
-  pub twoLong : length two ≡ bytesFor (frameBits s - cut)
-  pub cellsLong : length cells ≡ 2 * nMux s
+  pub twoLong : length two ≡ bytesFor (frameBits (s .settings) - cut)
+  pub cellsLong : length cells ≡ 2 * nMux (s .settings)

@@ -8,13 +8,14 @@ use lib.IntN.{ℤ}
 use Rattle.lists.specs.Bytes.{bytesFor}
 use Rattle.component.specs.Bits.{Bits}
 use Rattle.settings.specs.declared.Settings.{Settings}
-use Rattle.settings.specs.Refusal.{refusal}
 use Rattle.settings.specs.Lengths.{nMux, lVspp}
 use Rattle.settings.specs.Sizes.{frameBits}
 use Rattle.block.specs.Packing.{unpacked, packed, spareZero}
 use Rattle.block.specs.Dispersal.{dispersed, dispersedParts, dispersedFrom}
 use Rattle.block.specs.Block.{cellsFrom}
 use Rattle.block.specs.Fits.{Bytes}
+use Rattle.channels.specs.declared.Scheme.{Scheme}
+use Rattle.channels.specs.Scheme.{schemeRefusal}
 use Rattle.channels.specs.Msc.{mscBlock}
 use Rattle.dispersal.specs.Calls.{dispersedBytes}
 use Rattle.halves.specs.Halves.{halvesYield, halvesOf}
@@ -40,7 +41,7 @@ pub record FromAnyBit : Type 0 where
       → packed (dispersedFrom (lVspp s) 0 (unpacked cut one) ++ dispersedFrom (lVspp s) cut (unpacked n two))
       ≡ packed (dispersedParts (lVspp s) (unpacked cut one ++ unpacked n two))
   -- and the cells made of the halves of a packed frame, each packed again, are the frame's cells
-  pub sameCells : (s : Settings) → refusal s ≡ 0 → (frame : List ℕ) (cut : ℕ) → cut ≤ frameBits s
-      → (cells : List ℤ) → length cells ≡ 2 * nMux s
-      → let bits = unpacked (frameBits s) frame in
+  pub sameCells : (s : Scheme) → schemeRefusal s ≡ 0 → (frame : List ℕ) (cut : ℕ) → cut ≤ frameBits (s .settings)
+      → (cells : List ℤ) → length cells ≡ 2 * nMux (s .settings)
+      → let bits = unpacked (frameBits (s .settings)) frame in
       halvesOf s cut (packed (take cut bits)) (packed (drop cut bits)) cells ≡ halvesYield 0 (cellsFrom (mscBlock s) frame)

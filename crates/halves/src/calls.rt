@@ -1,13 +1,13 @@
 // Two halves of a multiplex frame to its cells. 02, S-6.
 use block::buffers::bit_buffer;
 use blockcoder::code::code_bits;
+use channels::Scheme;
 use channels::blocks::msc_block;
+use channels::tables::scheme_refusal;
 use dispersal::bits::spare_zero;
 use dispersal::parts::unpack_parts;
-use settings::Settings;
 use settings::answers::bytes_for;
 use settings::answers::frame_bits;
-use settings::refusals::refusal;
 use settings::tables::n_mux;
 ghost use mathlib.Core.Path.{_≡_};
 ghost use Prim.Native.Nat.{_-_, _≤_};
@@ -31,19 +31,19 @@ fn halves_long(bits: usize, cut: usize, first: usize, second: usize) -> bool
     (first == bytes_for(cut)) & (second == bytes_for(bits - cut))
 }
 
-// 1 to 7, 9, 10 and 11, lowest number first.
-fn halves_refusal(s: Settings, cut: usize, first: &[u8], second: &[u8], numbers: usize) -> u8
+// 1 to 7, 23, 9, 10 and 11, in this order.
+fn halves_refusal(s: Scheme, cut: usize, first: &[u8], second: &[u8], numbers: usize) -> u8
     ensures { λ r. ⌜ r ≡ halvesRefusal s cut (now (first .entry)) (now (second .entry)) numbers ⌝ }
 {
-    let number = refusal(s);
+    let number = scheme_refusal(s);
     if number != 0 {
         return number;
     }
-    let bits = frame_bits(s);
+    let bits = frame_bits(s.settings);
     if !halves_long(bits, cut, first.len(), second.len()) {
         return 9;
     }
-    if numbers != 2 * n_mux(s.mode, s.occupancy) {
+    if numbers != 2 * n_mux(s.settings.mode, s.settings.occupancy) {
         return 10;
     }
     if !(spare_zero(first, cut) & spare_zero(second, bits - cut)) {
@@ -63,19 +63,19 @@ fn treat_halves(vspp: usize, cut: usize, first: &[u8], second: &[u8], bits: &mut
 }
 
 // Their bits go the way of every block's.
-fn code_accepted(s: Settings, cut: usize, first: &[u8], second: &[u8], out: &mut [i16])
+fn code_accepted(s: Scheme, cut: usize, first: &[u8], second: &[u8], out: &mut [i16])
     requires { ⌜ HalvesFit s cut (now first) (now second) (now out) ⌝ }
     ensures { λ r. ⌜ now (out .exit) ≡ cellsOf (mscBlock s) (joinedBits s cut (now (first .entry)) (now (second .entry))) ⌝ }
 {
     let k = msc_block(s);
     let mut bits = bit_buffer();
-    let n = frame_bits(s);
+    let n = frame_bits(s.settings);
     treat_halves(k.vspp, cut, first, second, &mut bits[0..n]);
     code_bits(k, &bits[0..n], out);
 }
 
 // The cells of a multiplex frame whose bits below `cut` are in the first half and whose others are in the second, each packed from the start of a byte.
-pub fn code_halves(s: Settings, cut: usize, first: &[u8], second: &[u8], out: &mut [i16]) -> u8
+pub fn code_halves(s: Scheme, cut: usize, first: &[u8], second: &[u8], out: &mut [i16]) -> u8
     ensures { λ r. ⌜ halvesYield r (now (out .exit)) ≡ halvesOf s cut (now (first .entry)) (now (second .entry)) (now (out .entry)) ⌝ }
 {
     let number = halves_refusal(s, cut, first, second, out.len());

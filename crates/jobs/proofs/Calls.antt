@@ -11,7 +11,8 @@ use lib.Dec.{eqb, leb}
 use borrow.Author.Tests.{eq-eqb, ne-eqb, eqb-true, leb-true, not-false}
 use Rattle.settings.specs.declared.Settings.{Settings}
 use Rattle.settings.specs.declared.Sizes.{Sizes}
-use Rattle.settings.specs.Sizes.{sizesOf}
+use Rattle.settings.specs.Sizes.{allSizes, sizesOf}
+use Rattle.channels.specs.Scheme.{schemeRefusal}
 use Rattle.superframe.specs.declared.State.{State}
 use Rattle.superframe.specs.Code.{CodeCall, codeOf}
 use Rattle.superframe.specs.Read.{ReadCall, readOf}
@@ -19,9 +20,11 @@ use Rattle.grid.specs.Calls.{gridSizes, placeOf, takeOf}
 use Rattle.grid.specs.Contracts.{cellsFrom}
 use Rattle.codecall.specs.Contracts.{codeCall}
 use Rattle.readcall.specs.Contracts.{readCall}
-use Rattle.settings.specs.Refusal.{first}
+use Rattle.settings.specs.Refusal.{first, refusal}
+use Rattle.settings.proofs.Buffers.{sizes-accepts}
 use Rattle.superframe.proofs.Calls.{first-zero, first-own}
 use Rattle.cellmemory.specs.Contracts.{lengthRefusal}
+use Rattle.cellmemory.proofs.Chains.{scheme-settings}
 use Rattle.cellmemory.proofs.Laid.{take-sets}
 use Rattle.console.specs.declared.Job.{Job}
 use Rattle.console.specs.declared.Job.the-variants.{Code, Read, Grid, Ungrid}
@@ -73,7 +76,7 @@ unfolding codeLent
 code-call z bytes fac sdc msc h ef es em =
     rw (past 27 (z .sdcbytes), ef, front-blank (pos 0) (z .sdcnumbers) 1692 sdc es (h .sdcnumbers), front-blank (pos 0) (z .mscnumbers) 36712 msc em (h .mscnumbers))
 
-pub code-called : (state : State) (z : Sizes) (memory : List ℤ) (bytes out : List ℕ) (c : CodeCall) (y : JobYield) → z ≡ sizesOf (state .settings) → c ≡ codeLent z bytes
+pub code-called : (state : State) (z : Sizes) (memory : List ℤ) (bytes out : List ℕ) (c : CodeCall) (y : JobYield) → z ≡ sizesOf (state .scheme .settings) → c ≡ codeLent z bytes
     → y ≡ codeWritten (codeOf state memory c) out → y ≡ jobCall Code state memory bytes out
 unfolding jobCall
 code-called state z memory bytes out c y e f h = h ∙ ap (λ c. codeWritten (codeOf state memory c) out) (f ∙ ap (λ z. codeLent z bytes) e)
@@ -85,22 +88,22 @@ unfolding readLent
 read-call z cells fac sdc msc h ef es em =
     rw (past 390 (z .sdcnumbers), ef, front-blank 0 (z .sdcbytes) 210 sdc es (h .sdcbytes), front-blank 0 (z .mscbytes) 13767 msc em (h .mscbytes))
 
-pub read-called : (state : State) (z : Sizes) (memory cells : List ℤ) (bytes out : List ℕ) (c : ReadCall) (y : JobYield) → z ≡ sizesOf (state .settings) → cells ≡ bytesCells bytes
+pub read-called : (state : State) (z : Sizes) (memory cells : List ℤ) (bytes out : List ℕ) (c : ReadCall) (y : JobYield) → z ≡ sizesOf (state .scheme .settings) → cells ≡ bytesCells bytes
     → c ≡ readLent z cells → y ≡ readAnswered (readOf state memory c) out → y ≡ jobCall Read state memory bytes out
 unfolding jobCall
 read-called state z memory cells bytes out c y e f g h = h ∙ rw (g, f, e)
 
-pub place-called : (state : State) (z : Sizes) (memory cells grid : List ℤ) (bytes out : List ℕ) (n : ℕ) (y : JobYield) → z ≡ sizesOf (state .settings) → cells ≡ bytesCells bytes
-    → grid ≡ replicate 62235 (pos 0) → n ≡ gridSizes (state .settings) .numbers
-    → y ≡ gridWritten (placeOf (state .settings) (cellsFrom (take 390 cells) (take (390 + z .sdcnumbers - 390) (drop 390 cells)) (drop (390 + z .sdcnumbers) cells)) (take (n - 0) grid)) state memory out
+pub place-called : (state : State) (z : Sizes) (memory cells grid : List ℤ) (bytes out : List ℕ) (n : ℕ) (y : JobYield) → z ≡ sizesOf (state .scheme .settings) → cells ≡ bytesCells bytes
+    → grid ≡ replicate 62235 (pos 0) → n ≡ gridSizes (state .scheme .settings) .numbers
+    → y ≡ gridWritten (placeOf (state .scheme .settings) (cellsFrom (take 390 cells) (take (390 + z .sdcnumbers - 390) (drop 390 cells)) (drop (390 + z .sdcnumbers) cells)) (take (n - 0) grid)) state memory out
     → y ≡ jobCall Grid state memory bytes out
 unfolding jobCall cellsIn
 place-called state z memory cells grid bytes out n y e f g k h =
-    h ∙ rw (past 390 (z .sdcnumbers), front-blank (pos 0) n 62235 grid g (rw k (grid-most (state .settings))), f, e, k)
+    h ∙ rw (past 390 (z .sdcnumbers), front-blank (pos 0) n 62235 grid g (rw k (grid-most (state .scheme .settings))), f, e, k)
 
-pub take-called : (state : State) (z : Sizes) (memory fac sdc msc grid : List ℤ) (bytes out : List ℕ) (y : JobYield) → Enough z → z ≡ sizesOf (state .settings) → grid ≡ bytesCells bytes
+pub take-called : (state : State) (z : Sizes) (memory fac sdc msc grid : List ℤ) (bytes out : List ℕ) (y : JobYield) → Enough z → z ≡ sizesOf (state .scheme .settings) → grid ≡ bytesCells bytes
     → fac ≡ replicate 390 (pos 0) → sdc ≡ replicate 1692 (pos 0) → msc ≡ replicate 36712 (pos 0)
-    → y ≡ cellsWritten (takeOf (state .settings) grid (cellsFrom fac (take (z .sdcnumbers - 0) sdc) (take (z .mscnumbers - 0) msc))) state memory out
+    → y ≡ cellsWritten (takeOf (state .scheme .settings) grid (cellsFrom fac (take (z .sdcnumbers - 0) sdc) (take (z .mscnumbers - 0) msc))) state memory out
     → y ≡ jobCall Ungrid state memory bytes out
 unfolding jobCall blankCells
 take-called state z memory fac sdc msc grid bytes out y h e f ef es em g =
@@ -112,7 +115,7 @@ pub code-room : (state : State) (z : Sizes) (bytes out : List ℕ) (fac sdc msc 
     → CodeRoom (27 + z .sdcbytes) bytes fac (take (z .sdcnumbers - 0) sdc) (take (z .mscnumbers - 0) msc) out
 unfolding inputLength outputLength blocksLength cellsLength
 code-room state z bytes out fac sdc msc p ef es em =
-    let h = enough (state .settings) z (p .sizes) (p .accepted) in
+    let h = enough (state .scheme .settings) z (p .sizes) (p .accepted) in
     record {
       first = omega arith;
       last = omega (arith, p .input);
@@ -132,7 +135,7 @@ pub read-room : (state : State) (z : Sizes) (bytes : List ℕ) (cells : List ℤ
     → ReadRoom (390 + z .sdcnumbers) cells fac (take (z .sdcbytes - 0) sdc) (take (z .mscbytes - 0) msc) out
 unfolding inputLength outputLength blocksLength cellsLength
 read-room state z bytes cells out fac sdc msc p e ef es em =
-    let h = enough (state .settings) z (p .sizes) (p .accepted) in
+    let h = enough (state .scheme .settings) z (p .sizes) (p .accepted) in
     record {
       first = omega arith;
       last = omega (arith, p .input, h .facnumbers, ap length e, bytes-cells-long bytes);
@@ -147,14 +150,14 @@ read-room state z bytes cells out fac sdc msc p e ef es em =
     }
 
 pub place-room : (state : State) (z : Sizes) (bytes : List ℕ) (cells grid : List ℤ) (n : ℕ) (out : List ℕ) → Lent Grid state z bytes out → cells ≡ bytesCells bytes
-    → grid ≡ replicate 62235 (pos 0) → n ≡ gridSizes (state .settings) .numbers → GridRoom (390 + z .sdcnumbers) cells (take (n - 0) grid) out
+    → grid ≡ replicate 62235 (pos 0) → n ≡ gridSizes (state .scheme .settings) .numbers → GridRoom (390 + z .sdcnumbers) cells (take (n - 0) grid) out
 unfolding inputLength outputLength cellsLength gridLength
 place-room state z bytes cells grid n out p e g k =
-    let h = enough (state .settings) z (p .sizes) (p .accepted) in
+    let h = enough (state .scheme .settings) z (p .sizes) (p .accepted) in
     record {
       first = omega arith;
       last = omega (arith, p .input, h .facnumbers, ap length e, bytes-cells-long bytes);
-      room = omega (arith, p .output, k, front-long (pos 0) n 62235 grid g (rw k (grid-most (state .settings))));
+      room = omega (arith, p .output, k, front-long (pos 0) n 62235 grid g (rw k (grid-most (state .scheme .settings))));
     }
 
 pub take-room : (state : State) (z : Sizes) (bytes out : List ℕ) (fac sdc msc : List ℤ) → Lent Ungrid state z bytes out
@@ -162,7 +165,7 @@ pub take-room : (state : State) (z : Sizes) (bytes out : List ℕ) (fac sdc msc 
     → 2 * length fac + 2 * length (take (z .sdcnumbers - 0) sdc) + 2 * length (take (z .mscnumbers - 0) msc) ≤ length out
 unfolding outputLength cellsLength
 take-room state z bytes out fac sdc msc p ef es em =
-    let h = enough (state .settings) z (p .sizes) (p .accepted) in
+    let h = enough (state .scheme .settings) z (p .sizes) (p .accepted) in
     omega (
       arith,
       p .output,
@@ -180,15 +183,20 @@ half-grid s g e = omega (arith, e)
 -- The bytes of numbers that a job takes.
 pub bytes-most : (job : Job) (state : State) (z : Sizes) (bytes out : List ℕ) → Lent job state z bytes out → length bytes ≤ 124470
 bytes-most job state z bytes out p =
-    omega (arith, p .input, input-most job z (gridLength (state .settings)) (enough (state .settings) z (p .sizes) (p .accepted)) (length-most (state .settings)))
+    omega (arith, p .input, input-most job z (gridLength (state .scheme .settings)) (enough (state .scheme .settings) z (p .sizes) (p .accepted)) (length-most (state .scheme .settings)))
+
+-- Allowed settings have sizes.
+sizes-number : (s : Settings) → refusal s ≡ 0 → sizesOf s .refusal ≡ 0
+unfolding allSizes
+sizes-number s h = rw (sizes-accepts s h)
 
 -- Number 0 says that the buffers are of the right lengths; any other is the answer.
-module _ (job : Job) (state : State) (z : Sizes) (memory : List ℤ) (bytes out : List ℕ) (g i o n : ℕ)
-    (ez : z ≡ sizesOf (state .settings)) (eg : g ≡ gridLength (state .settings)) (ei : i ≡ inputLength job z g) (eo : o ≡ outputLength job z g)
-    (en : n ≡ lengthRefusal z (length memory) (eqb (length bytes) i) (leb o (length out))) where
+module _ (job : Job) (state : State) (z : Sizes) (memory : List ℤ) (bytes out : List ℕ) (r g i o n : ℕ)
+    (er : r ≡ schemeRefusal (state .scheme)) (ez : z ≡ sizesOf (state .scheme .settings)) (eg : g ≡ gridLength (state .scheme .settings)) (ei : i ≡ inputLength job z g) (eo : o ≡ outputLength job z g)
+    (en : n ≡ lengthRefusal r z (length memory) (eqb (length bytes) i) (leb o (length out))) where
   number-is : n ≡ jobRefusal job state memory bytes out
   unfolding jobRefusal
-  number-is = en ∙ rw (ei, eo, eg, ez)
+  number-is = en ∙ rw (ei, eo, eg, ez, er)
 
   pub job-refused : (n ≡ 0 → ⊥) → refused n 0 state memory out ≡ jobOf job state memory bytes out
   unfolding jobOf
@@ -201,7 +209,7 @@ module _ (job : Job) (state : State) (z : Sizes) (memory : List ℤ) (bytes out 
   pub job-lent : n ≡ 0 → (kind : Job) → job ≡ kind → Lent kind state z bytes out
   unfolding lengthRefusal
   job-lent h kind e =
-      let a = first-own (z .refusal) _ (sym en ∙ h) in
+      let a = first-own r _ (sym en ∙ h) in
       let b = first-zero _ 8 _ (omega arith) (a .1) in
       let c = first-zero _ 9 _ (omega arith) (b .1) in
       let d = first-zero _ 10 0 (omega arith) (c .1) in
@@ -209,7 +217,7 @@ module _ (job : Job) (state : State) (z : Sizes) (memory : List ℤ) (bytes out 
       let l = leb-true o (length out) (not-false _ (d .0)) in
       record {
         sizes = ez;
-        accepted = a .0;
+        accepted = rw ez (sizes-number (state .scheme .settings) (scheme-settings (state .scheme) (sym er ∙ a .0)));
         input = k ∙ ei ∙ ap₂ (λ j v. inputLength j z v) e eg;
         output = omega (arith, l, eo ∙ ap₂ (λ j v. outputLength j z v) e eg);
       }

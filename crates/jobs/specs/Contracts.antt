@@ -33,13 +33,13 @@ pub record GridRoom (at : ℕ) (cells grid : List ℤ) (out : List ℕ) : Type 0
 
 -- The sizes of accepted settings, an input of a super frame's length, and an output with room.
 pub record Lent (job : Job) (state : State) (z : Sizes) (bytes out : List ℕ) : Type 0 where
-  pub sizes : z ≡ sizesOf (state .settings)
+  pub sizes : z ≡ sizesOf (state .scheme .settings)
   pub accepted : z .refusal ≡ 0
-  pub input : length bytes ≡ inputLength job z (gridLength (state .settings))
-  pub output : outputLength job z (gridLength (state .settings)) ≤ length out
+  pub input : length bytes ≡ inputLength job z (gridLength (state .scheme .settings))
+  pub output : outputLength job z (gridLength (state .scheme .settings)) ≤ length out
 
 pub record CellsLent (state : State) (z : Sizes) (cells : List ℤ) (out : List ℕ) : Type 0 where
-  pub sizes : z ≡ sizesOf (state .settings)
+  pub sizes : z ≡ sizesOf (state .scheme .settings)
   pub accepted : z .refusal ≡ 0
   pub input : length cells ≡ z .facnumbers + (z .sdcnumbers + z .mscnumbers)
   pub output : 27 + (z .sdcbytes + z .mscbytes) + 1 ≤ length out

@@ -8,6 +8,7 @@ use lib.IntN.{ℤ, pos}
 use lib.Dec.{eqb, leb}
 use Rattle.settings.specs.declared.Sizes.{Sizes}
 use Rattle.settings.specs.Sizes.{sizesOf}
+use Rattle.channels.specs.Scheme.{schemeRefusal}
 use Rattle.superframe.specs.declared.State.{State}
 use Rattle.superframe.specs.declared.Answer.{Answer}
 use Rattle.superframe.specs.declared.Answer.the-variants.{Finished, Refused as Answer·Refused}
@@ -128,23 +129,23 @@ cellsWritten y state memory out =
 
 -- The call of a job on buffers of the right lengths.
 unfoldable pub jobCall : Job → State → List ℤ → List ℕ → List ℕ → JobYield
-jobCall Code state memory bytes out = codeWritten (codeOf state memory (codeLent (sizesOf (state .settings)) bytes)) out
-jobCall Read state memory bytes out = readAnswered (readOf state memory (readLent (sizesOf (state .settings)) (bytesCells bytes))) out
+jobCall Code state memory bytes out = codeWritten (codeOf state memory (codeLent (sizesOf (state .scheme .settings)) bytes)) out
+jobCall Read state memory bytes out = readAnswered (readOf state memory (readLent (sizesOf (state .scheme .settings)) (bytesCells bytes))) out
 jobCall Grid state memory bytes out =
     gridWritten
-    (placeOf (state .settings) (cellsIn (sizesOf (state .settings)) (bytesCells bytes)) (replicate (gridSizes (state .settings) .numbers) (pos 0)))
+    (placeOf (state .scheme .settings) (cellsIn (sizesOf (state .scheme .settings)) (bytesCells bytes)) (replicate (gridSizes (state .scheme .settings) .numbers) (pos 0)))
     state
     memory
     out
 jobCall Ungrid state memory bytes out =
-    cellsWritten (takeOf (state .settings) (bytesCells bytes) (blankCells (sizesOf (state .settings)))) state memory out
+    cellsWritten (takeOf (state .scheme .settings) (bytesCells bytes) (blankCells (sizesOf (state .scheme .settings)))) state memory out
 
 -- 1 to 10: an input of a super frame's length, and an output with room.
 unfoldable pub jobRefusal : Job → State → List ℤ → List ℕ → List ℕ → ℕ
 jobRefusal job state memory bytes out =
-    let z = sizesOf (state .settings) in
-    let grid = gridLength (state .settings) in
-    lengthRefusal z (length memory) (eqb (length bytes) (inputLength job z grid)) (leb (outputLength job z grid) (length out))
+    let z = sizesOf (state .scheme .settings) in
+    let grid = gridLength (state .scheme .settings) in
+    lengthRefusal (schemeRefusal (state .scheme)) z (length memory) (eqb (length bytes) (inputLength job z grid)) (leb (outputLength job z grid) (length out))
 
 -- What a job yields for a super frame, for every input.
 unfoldable pub jobOf : Job → State → List ℤ → List ℕ → List ℕ → JobYield

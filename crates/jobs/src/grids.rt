@@ -46,14 +46,14 @@ fn place_with(state: State, cells: &[i16], at: usize, grid: &mut [i16], out: &mu
     requires { ⌜ GridRoom at (now cells) (now grid) (now out) ⌝ }
     ensures { λ r. ⌜ ((memory : List ℤ) → jobYield r memory (now (out .exit))
         ≡ gridWritten
-        (placeOf (state .settings)
+        (placeOf (state .scheme .settings)
         (cellsFrom (List·take 390 (now (cells .entry))) (List·take (at - 390) (drop 390 (now (cells .entry)))) (drop at (now (cells .entry))))
         (now (grid .entry)))
         state memory (now (out .entry))) ⌝ }
     ensures { λ r. ⌜ r .length ≤ length (now (out .entry)) ⌝ }
 {
     let number = place(
-        state.settings,
+        state.scheme.settings,
         &cells[0..390],
         &cells[390..at],
         &cells[at..],
@@ -72,7 +72,7 @@ pub fn place_bytes(state: State, z: Sizes, bytes: &[u8], out: &mut [u8]) -> Step
     let end = bytes.len() / 2;
     let mut grid = buffers::numbers();
     let at = 390 + z.sdcnumbers as usize;
-    let n = grid_length(state.settings) / 2;
+    let n = grid_length(state.scheme.settings) / 2;
     place_with(state, &cells[0..end], at, &mut grid[0..n], out)
 }
 
@@ -88,11 +88,11 @@ fn take_with(
     requires { ⌜ 2 * length (now fac) + 2 * length (now sdc) + 2 * length (now msc) ≤ length (now out) ⌝ }
     ensures { λ r. ⌜ ((memory : List ℤ) → jobYield r memory (now (out .exit))
         ≡ cellsWritten
-        (takeOf (state .settings) (now (grid .entry)) (cellsFrom (now (fac .entry)) (now (sdc .entry)) (now (msc .entry))))
+        (takeOf (state .scheme .settings) (now (grid .entry)) (cellsFrom (now (fac .entry)) (now (sdc .entry)) (now (msc .entry))))
         state memory (now (out .entry))) ⌝ }
     ensures { λ r. ⌜ r .length ≤ length (now (out .entry)) ⌝ }
 {
-    let number = take(state.settings, grid, fac, sdc, msc);
+    let number = take(state.scheme.settings, grid, fac, sdc, msc);
     write_cells(number, state, fac, sdc, msc, out)
 }
 

@@ -10,6 +10,7 @@ use crate::sizes::grid_length;
 use crate::sizes::input_length;
 use crate::sizes::output_length;
 use cellmemory::refusal::length_refusal;
+use channels::tables::scheme_refusal;
 use codecall::code::code;
 use console::Job;
 use console::Outcome;
@@ -220,9 +221,11 @@ pub fn step(job: Job, state: State, bytes: &[u8], memory: &mut [i16], out: &mut 
     ensures { λ r. ⌜ jobYield r (now (memory .exit)) (now (out .exit)) ≡ jobOf job state (now (memory .entry)) (now (bytes .entry)) (now (out .entry)) ⌝ }
     ensures { λ r. ⌜ r .length ≤ length (now (out .entry)) ⌝ }
 {
-    let z = answers::sizes(state.settings);
-    let grid = grid_length(state.settings);
+    let number = scheme_refusal(state.scheme);
+    let z = answers::sizes(state.scheme.settings);
+    let grid = grid_length(state.scheme.settings);
     let number = length_refusal(
+        number,
         z,
         memory.len(),
         bytes.len() == input_length(job, z, grid),

@@ -5,3 +5,4 @@ pub mod Counting
 pub mod Parts
 pub mod Bools
 pub mod Tests
+pub mod Rules

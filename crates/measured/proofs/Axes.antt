@@ -8,7 +8,7 @@ use lib.Dec.{T, eqb, ltb, leb, leb→le, ltb→lt}
 use lib.ListN.{length, getD}
 use lib.IntN.{ℤ, pos}
 use lib.Ieee.{Float}
-use Rattle.component.proofs.Tests.{both-left, both-right, each, at}
+use Rattle.lists.proofs.Rules.{both-left, both-right, each, at}
 use Rattle.lists.specs.Lists.{table}
 use Rattle.lists.specs.Same.{sameNumber}
 use Rattle.lists.proofs.Same.{sameNumber-true}

@@ -8,7 +8,7 @@ use lib.Dec.{T}
 use lib.ListN.{length, getD}
 use lib.IntN.{ℤ, pos}
 use lib.Ieee.{binary32, ofInt}
-use Rattle.component.proofs.Tests.{each, at}
+use Rattle.lists.proofs.Rules.{each, at}
 use Rattle.lists.specs.Lists.{table}
 use Rattle.lists.specs.Same.{sameNumber}
 use Rattle.lists.proofs.Bools.{never-both}

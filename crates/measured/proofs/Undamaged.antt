@@ -14,11 +14,11 @@ use Rattle.lists.proofs.Tables.{table-is}
 use Rattle.component.specs.Bits.{Bits}
 use Rattle.component.proofs.Bits.{bits-head, bits-rest}
 use Rattle.interleaver.proofs.Interleaving.{interleaved-length}
+use Rattle.patterns.proofs.Patterns.{standard-passes}
 use Rattle.settings.specs.declared.Settings.{Settings}
 use Rattle.settings.specs.Refusal.{first, refusal}
 use Rattle.settings.specs.Cells.{facCells}
 use Rattle.settings.specs.Formulas.{facBits}
-use Rattle.settings.proofs.Bounds.{accepted-of}
 use Rattle.block.specs.Mapping.{constellation, axis, labelAt, mapped}
 use Rattle.block.specs.Packing.{packed}
 use Rattle.block.specs.Points.{onAxis, arePoints}
@@ -27,9 +27,12 @@ use Rattle.block.specs.Block.{cellsOf, oneAxis, pointsOf as blockPoints}
 use Rattle.block.specs.Fits.{Labelling, BlockBits}
 use Rattle.block.proofs.Mapping.{levelCount, constellation-labels, getD-mapped, length-mapped}
 use Rattle.block.proofs.Blocks.{points-cells}
+use Rattle.channels.specs.declared.Scheme.{Scheme}
+use Rattle.channels.specs.Scheme.{schemeRefusal, standardScheme}
 use Rattle.channels.specs.Fac.{facBlock}
 use Rattle.channels.specs.Sdc.{sdcBlock}
 use Rattle.channels.specs.Msc.{mscBlock}
+use Rattle.channels.proofs.Schemes.{scheme-accepted}
 use Rattle.channels.proofs.Fac.{fac-bits, fac-fits}
 use Rattle.channels.proofs.Sdc.{sdc-fits}
 use Rattle.channels.proofs.Msc.{msc-fits}
@@ -125,12 +128,12 @@ decided channel s r n cells long are points bits p b =
     cells (bitsOf c (replicate n 0) (asFloats cells)) (sym (points-themselves c low n cells long are)) refl))
 
 -- the cells of a block are points of its channel's constellation
-pub coded-points : (channel : Channel) (s : Settings) → refusal s ≡ 0 → (bits : List ℕ) → BlockBits (channelBlock channel s) bits
-    → arePoints (constellation (constellationOf channel s)) (cellsOf (channelBlock channel s) bits) ≡ true
+pub coded-points : (channel : Channel) (s : Scheme) → schemeRefusal s ≡ 0 → (bits : List ℕ) → BlockBits (channelBlock channel s) bits
+    → arePoints (constellation (constellationOf channel (s .settings))) (cellsOf (channelBlock channel s) bits) ≡ true
 unfolding constellationOf channelBlock facBlock sdcBlock mscBlock blockPoints
-coded-points Fac s r bits B = points-cells fac-fits B
-coded-points Sdc s r bits B = points-cells (sdc-fits (accepted-of s r)) B
-coded-points Msc s r bits B = points-cells (msc-fits (accepted-of s r)) B
+coded-points Fac s r bits B = points-cells (fac-fits s (scheme-accepted s r .table)) B
+coded-points Sdc s r bits B = points-cells (sdc-fits (scheme-accepted s r)) B
+coded-points Msc s r bits B = points-cells (msc-fits (scheme-accepted s r)) B
 
 -- the values of bits are 0 or 1
 values-bits : {l : List ℕ} → Bits l → allValues l ≡ true
@@ -155,9 +158,9 @@ sent-found block B e bytes count f g =
     rw (sent-accepted block B e bytes count f g, found-again block B e, agrees-same (sent-bits block))
 
 -- the cells of an FAC block
-cells-mapped : (block : List ℕ) → length block ≡ 72 → cellsOf facBlock block ≡ mapped (constellation 0) 130 (facSent block ∷ [])
+cells-mapped : (s : Settings) (block : List ℕ) → length block ≡ 72 → cellsOf (facBlock (standardScheme s)) block ≡ mapped (constellation 0) 130 (facSent block ∷ [])
 unfolding cellsOf facBlock oneAxis blockPoints facCells
-cells-mapped block e = rw (fac-mapped block e)
+cells-mapped s block e = rw (fac-mapped s block e)
 
 -- a bit by its coordinate's place in 4-QAM's labelling
 labelled : (j b : ℕ) → b < 2 → placeOf (axis (constellation 0) j) (getD (axis (constellation 0) j) (b + 2 * 0) (pos 0)) / 2 ^ 0 % 2 ≡ b
@@ -168,25 +171,25 @@ labelled j b h =
     rw (e, L .found b h) (omega arith)
 
 -- the bits of its cells are the block's coded bits
-module _ (block : List ℕ) (B : Bits block) (e : length block ≡ 72) where
+module _ (s : Settings) (block : List ℕ) (B : Bits block) (e : length block ≡ 72) where
   cells : List ℤ
-  cells = cellsOf facBlock block
+  cells = cellsOf (facBlock (standardScheme s)) block
 
   cells-long : length cells ≡ 2 * 65
   unfolding cells
-  cells-long = rw (cells-mapped block e) (length-mapped (constellation 0) 130 (facSent block ∷ []))
+  cells-long = rw (cells-mapped s block e) (length-mapped (constellation 0) 130 (facSent block ∷ []))
 
-  own-bits : BlockBits facBlock block
+  own-bits : BlockBits (facBlock (standardScheme s)) block
   unfolding facBits
-  own-bits = record { bits = B; long = e ∙ sym fac-bits }
+  own-bits = record { bits = B; long = e ∙ sym (fac-bits (standardScheme s)) }
 
   cells-are : arePoints (constellation 0) cells ≡ true
-  unfolding cells facBlock blockPoints
-  cells-are = points-cells fac-fits own-bits
+  unfolding cells facBlock blockPoints standardScheme
+  cells-are = points-cells (fac-fits (standardScheme s) standard-passes) own-bits
 
   cell-is : (j : ℕ) → j < 130 → getD cells j (pos 0) ≡ getD (axis (constellation 0) j) (getD (facSent block) j 0 + 2 * 0) (pos 0)
   unfolding cells labelAt
-  cell-is j h = rw (cells-mapped block e) (getD-mapped (constellation 0) 130 (facSent block ∷ []) j h)
+  cell-is j h = rw (cells-mapped s block e) (getD-mapped (constellation 0) 130 (facSent block ∷ []) j h)
 
   bit-is : (j : ℕ) → j < 130 → bitAt 0 (replicate 65 0) (asFloats cells) (j / 1) (j % 1) ≡ getD (facSent block) j 0
   unfolding bitAt bitOn
@@ -203,7 +206,7 @@ module _ (block : List ℕ) (B : Bits block) (e : length block ≡ 72) where
   bits-sent =
       table-is (λ j. bitAt 0 (replicate 65 0) (asFloats cells) (j / 1) (j % 1)) 0 130 (facSent block) (sent-long block e) bit-is
 
-  pub fac-found : (s : Settings) (bytes count : List ℕ) → length bytes ≡ 9 → length count ≡ 1
-      → nearestOf (bitsOf (constellationOf Fac s) (replicate facCells 0) (asFloats (cellsOf facBlock block))) bytes count ≡ nearestYield 0 (packed block) (0 ∷ [])
+  pub fac-found : (bytes count : List ℕ) → length bytes ≡ 9 → length count ≡ 1
+      → nearestOf (bitsOf (constellationOf Fac s) (replicate facCells 0) (asFloats (cellsOf (facBlock (standardScheme s)) block))) bytes count ≡ nearestYield 0 (packed block) (0 ∷ [])
   unfolding constellationOf facCells cells
-  fac-found s bytes count f g = rw bits-sent (sent-found block B e bytes count f g)
+  fac-found bytes count f g = rw bits-sent (sent-found block B e bytes count f g)

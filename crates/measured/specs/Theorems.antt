@@ -17,6 +17,8 @@ use Rattle.block.specs.Packing.{packed}
 use Rattle.block.specs.Points.{arePoints}
 use Rattle.block.specs.Block.{cellsOf}
 use Rattle.block.specs.Fits.{BlockBits}
+use Rattle.channels.specs.declared.Scheme.{Scheme}
+use Rattle.channels.specs.Scheme.{schemeRefusal, standardScheme}
 use Rattle.channels.specs.Fac.{facBlock}
 use Rattle.channels.specs.Sdc.{sdcBlock}
 use Rattle.channels.specs.Msc.{mscBlock}
@@ -57,8 +59,8 @@ pub record BitsAgree : Type 0 where
       → (getD (pointsOf c kinds values) m (pos 0) ≡ pos 0) × (numberBits c (bitsOf c kinds values) m ≡ replicate (axisBits c) 2)
 
 -- The block of a channel.
-unfoldable pub channelBlock : Channel → Settings → Block
-channelBlock Fac s = facBlock
+unfoldable pub channelBlock : Channel → Scheme → Block
+channelBlock Fac s = facBlock s
 channelBlock Sdc s = sdcBlock s
 channelBlock Msc s = mscBlock s
 
@@ -74,11 +76,11 @@ pub record Undamaged : Type 0 where
       → (points : List ℤ) (bits : List ℕ) → length points ≡ 2 * n → length bits ≡ 2 * axisBits (constellationOf channel s) * n
       → decideOf channel s (replicate n 0) (asFloats cells) points bits
       ≡ decideYield 0 cells (bitsOf (constellationOf channel s) (replicate n 0) (asFloats cells))
-  -- The cells that a block's bits are coded to are such.
-  pub coded : (channel : Channel) (s : Settings) → refusal s ≡ 0 → (bits : List ℕ) → BlockBits (channelBlock channel s) bits
-      → arePoints (constellation (constellationOf channel s)) (cellsOf (channelBlock channel s) bits) ≡ true
-  -- For an FAC block's cells the bits given, fed to S-9's call, give the block with disagreement 0.
+  -- The cells that a block's bits are coded to are such, by whichever table.
+  pub coded : (channel : Channel) (s : Scheme) → schemeRefusal s ≡ 0 → (bits : List ℕ) → BlockBits (channelBlock channel s) bits
+      → arePoints (constellation (constellationOf channel (s .settings))) (cellsOf (channelBlock channel s) bits) ≡ true
+  -- For an FAC block's cells by the standard's table the bits given, fed to S-9's call, give the block with disagreement 0.
   pub fac : (s : Settings) → refusal s ≡ 0 → (block : List ℕ) → Bits block → length block ≡ facBits
       → (bytes count : List ℕ) → length bytes ≡ 9 → length count ≡ 1
-      → nearestOf (bitsOf (constellationOf Fac s) (replicate facCells 0) (asFloats (cellsOf facBlock block))) bytes count
+      → nearestOf (bitsOf (constellationOf Fac s) (replicate facCells 0) (asFloats (cellsOf (facBlock (standardScheme s)) block))) bytes count
       ≡ nearestYield 0 (packed block) (0 ∷ [])

@@ -10,7 +10,8 @@ use Rattle.lists.proofs.Parts.{from-start}
 use Rattle.component.specs.Register.{after}
 use Rattle.component.specs.Codeword.{encode, tailBits}
 use Rattle.component.specs.Decoding.{codedLength, segment}
-use Rattle.component.specs.Coding.{patternOf, Held, Encodes, Encoded}
+use Rattle.patterns.specs.Contracts.{patternOf, Held}
+use Rattle.component.specs.Coding.{Encodes, Encoded}
 use Rattle.multilevel.specs.Contracts.{added, codedWithTail, Room, AddsPart, CodesA, CodedA, CodesB, CodesLevel}
 use Rattle.component.proofs.Register.{after-low}
 use Rattle.component.proofs.Codeword.{encode-bits, codeword-bits, codeword-one, codeword-two, length-tail}

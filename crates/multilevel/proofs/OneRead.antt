@@ -8,9 +8,10 @@ use lib.ListN.{length, take, drop, length-append, length-drop}
 use lib.Seq.{length-take-le, take-all}
 use borrow.Author.Tests.{ne-eqb}
 use Rattle.lists.proofs.Parts.{from-start}
-use Rattle.component.specs.declared.code.Pattern.{Pattern}
+use Rattle.patterns.specs.declared.Pattern.{Pattern}
 use Rattle.component.specs.Decoding.{codedLength, decode}
-use Rattle.component.specs.Coding.{patternOf, Held, Decodes, Decoded}
+use Rattle.patterns.specs.Contracts.{patternOf, Held}
+use Rattle.component.specs.Coding.{Decodes, Decoded}
 use Rattle.interleaver.specs.Deinterleaving.{deinterleaved}
 use Rattle.multilevel.specs.Contracts.{Takes, TakesPart, ReadsPart, PartRead, ReadsLevel, LevelRead}
 use Rattle.block.specs.Reading.{taken, unmixed, sizeA, sizeB, inputA, inputB}

@@ -8,9 +8,10 @@ use lib.ListN.{length, getD, take, drop, length-take, length-drop, List·getD-eq
 use lib.Seq.{sets, sets-eq, length-sets, getD-take, getD-drop, take-at}
 use borrow.Author.Tests.{ne-eqb}
 use Rattle.component.specs.Codeword.{encode, tailBits}
-use Rattle.component.specs.declared.code.Pattern.{Pattern}
+use Rattle.patterns.specs.declared.Pattern.{Pattern}
 use Rattle.component.specs.Decoding.{codedLength, segment}
-use Rattle.component.specs.Coding.{patternOf, Held, Encodes, Encoded}
+use Rattle.patterns.specs.Contracts.{patternOf, Held}
+use Rattle.component.specs.Coding.{Encodes, Encoded}
 use Rattle.block.specs.declared.Level.{Level}
 use Rattle.interleaver.specs.Interleaving.{interleaved}
 use Rattle.interleaver.specs.Deinterleaving.{Cycles}

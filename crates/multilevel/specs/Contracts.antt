@@ -4,7 +4,7 @@ use mathlib.Core.Path.{_≡_}
 use mathlib.Core.Bool.{Bool, true, false, cond}
 use mathlib.Core.List.{List, [], _∷_}
 use lib.ListN.{length, getD, take, drop}
-use Rattle.component.specs.declared.code.Pattern.{Pattern}
+use Rattle.patterns.specs.declared.Pattern.{Pattern}
 use Rattle.component.specs.Bits.{Bits}
 use Rattle.block.specs.declared.Level.{Level}
 use Rattle.block.specs.declared.Block.{Block}
@@ -13,7 +13,7 @@ use Rattle.block.specs.Fits.{LevelFits, Mixes}
 use Rattle.component.specs.Register.{after}
 use Rattle.component.specs.Codeword.{encode, codeword, tailBits}
 use Rattle.component.specs.Decoding.{codedLength, segment, decode}
-use Rattle.component.specs.Coding.{patternOf, Held}
+use Rattle.patterns.specs.Contracts.{patternOf, Held}
 use Rattle.interleaver.specs.Deinterleaving.{Lends}
 use Rattle.lists.specs.Lists.{table}
 use lib.Seq.{sets}

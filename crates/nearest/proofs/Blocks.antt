@@ -1,5 +1,5 @@
 -- The FAC block as an instance of the search. Assumes nothing.
-use Prim.Native.Nat.{ℕ, zero, suc}
+use Prim.Native.Nat.{ℕ, zero, suc, _<_}
 use mathlib.Core.Path.{_≡_, refl, sym, ap, ap₂, _∙_}
 use mathlib.Core.List.{List, _∷_}
 use native.Mathlib.Omega.{arith}
@@ -10,9 +10,12 @@ use Rattle.dispersal.specs.Contracts.{Packs}
 use Rattle.lists.specs.Lists.{table}
 use Rattle.lists.proofs.Tables.{length-table}
 use Rattle.component.specs.Bits.{Bits}
-use Rattle.component.specs.Patterns.{pattern, R3/5}
-use Rattle.component.specs.Decoding.{patternAt}
-use Rattle.component.proofs.Patterns.{pattern-at}
+use Rattle.patterns.specs.declared.Pattern.{Pattern}
+use Rattle.patterns.specs.Patterns.{table65, pattern, R3/5}
+use Rattle.patterns.specs.Loaded.{Allowed}
+use Rattle.patterns.specs.Contracts.{patternOf, patternFrom}
+use Rattle.patterns.proofs.Loaded.{pattern-sound}
+use Rattle.patterns.proofs.Patterns.{standard-passes, pattern-from, held}
 use Rattle.component.proofs.Lengths.{fac-codeword}
 use Rattle.interleaver.specs.Deinterleaving.{Cycles, Lends, deinterleaved}
 use Rattle.settings.specs.Formulas.{facBits}
@@ -45,7 +48,7 @@ bits-flips = bits-table p 0 facBits p-bit
 -- an FAC block has 130 coded bits
 pub length-coded : (bits : List ℕ) → length bits ≡ 72 → length (facCoded bits) ≡ 130
 unfolding facCoded coded
-length-coded bits e = fac-codeword 0 (added facFlips bits) (length-added facFlips bits (e ∙ sym length-flips) ∙ length-flips)
+length-coded bits e = fac-codeword standard-passes 0 (added facFlips bits) (length-added facFlips bits (e ∙ sym length-flips) ∙ length-flips)
 
 -- the values in the coder's order find the block and its disagreement
 module _ (received : List ℕ) (l : length received ≡ 130) where
@@ -56,28 +59,34 @@ module _ (received : List ℕ) (l : length received ≡ 130) where
   unfolding facSent
   same-disagreement bits e = order-disagrees 21 received cycles (facCoded bits) (length-coded bits e ∙ sym l)
 
-  pub same-block : facNearest received ≡ nearest (length facFlips) (coded (pattern R3/5) (pattern R3/5) facFlips) (deinterleaved 0 21 received)
+  pub same-block : facNearest received ≡ nearest (length facFlips) (coded (pattern table65 R3/5) (pattern table65 R3/5) facFlips) (deinterleaved 0 21 received)
   unfolding facNearest nearest facBits facCoded
   same-block =
       rw length-flips
       (cheapest-same 72 (λ bits. disagreement received (facSent bits)) (λ bits. disagreement (deinterleaved 0 21 received) (facCoded bits))
       (λ bits B e. same-disagreement bits e))
 
+-- the standard's table has the FAC's rate
+pub standard-rate : {kept : List ℕ} → kept ≡ table65 → Allowed kept × (R3/5 < 13)
+standard-rate e = (rw e standard-passes, lit< tt)
+
 -- the FAC's search, and what it finds
-pub fac-searches : {flips bits : List ℕ} → flips ≡ facFlips → length bits ≡ 72 → SearchesWith 6 6 flips bits
-fac-searches ef lb =
-    rw ef
+pub fac-searches : {p : Pattern} {kept flips bits : List ℕ} → flips ≡ facFlips → kept ≡ table65 → p ≡ patternFrom (pattern kept R3/5) → length bits ≡ 72
+    → SearchesWith p p flips bits
+fac-searches ef et ep lb =
+    let h = held (pattern-sound standard-passes R3/5 (lit< tt)) in
+    rw (ef, ep, et)
     (record {
-      number = lit< tt;
-      numberTail = lit< tt;
+      held = h;
+      heldTail = h;
       bits = bits-flips;
       few = rw length-flips (omega arith);
       same = lb ∙ sym length-flips;
     })
 
-pub fac-found : {flips values bits : List ℕ} {count : ℕ} → flips ≡ facFlips
-    → Found (patternAt 6) (patternAt 6) flips values bits count → Found (pattern R3/5) (pattern R3/5) facFlips values bits count
-fac-found ef F = rw (ef, pattern-at R3/5 (lit< tt)) at F
+pub fac-found : {p : Pattern} {kept flips values bits : List ℕ} {count : ℕ} → flips ≡ facFlips → kept ≡ table65 → p ≡ patternFrom (pattern kept R3/5)
+    → Found (patternOf p) (patternOf p) flips values bits count → Found (pattern table65 R3/5) (pattern table65 R3/5) facFlips values bits count
+fac-found ef et ep F = rw (ef, ep, et, pattern-from) at F
 
 pub length-nearest : (received : List ℕ) → length (facNearest received) ≡ 72
 unfolding facNearest nearest facBits
@@ -88,7 +97,7 @@ unfolding facNearest nearest facBits
 bits-nearest received = cheapest-bits 72 (λ bits. disagreement received (facSent bits))
 
 pub found-block : {received values bits : List ℕ} {count : ℕ} → length received ≡ 130 → values ≡ deinterleaved 0 21 received
-    → Found (pattern R3/5) (pattern R3/5) facFlips values bits count → NearbyBits received bits count
+    → Found (pattern table65 R3/5) (pattern table65 R3/5) facFlips values bits count → NearbyBits received bits count
 unfolding facCoded
 found-block {received} {values} {bits} l ev F =
     let b : bits ≡ facNearest received = F .bits ∙ rw ev (sym (same-block received l)) in

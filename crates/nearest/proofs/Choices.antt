@@ -9,7 +9,7 @@ use lib.ListN.{length, drop}
 use lib.Dec.{leb, ltb}
 use Rattle.component.specs.Register.{next, parities}
 use Rattle.component.specs.Codeword.{tailBits}
-use Rattle.component.specs.Decoding.{Sound}
+use Rattle.patterns.specs.Patterns.{Sound}
 use Rattle.nearest.specs.Nearest.{disagreement, better, cheapest, nearest}
 use Rattle.nearest.specs.Coded.{added, coded}
 use Rattle.nearest.specs.Contracts.{along, through, best, way, pick, choice, chosen, restored}

@@ -9,7 +9,8 @@ use lib.Seq.{drop-drop, drop-at}
 use lib.Count.{ones}
 use Rattle.component.specs.Register.{next, parities, after}
 use Rattle.component.specs.Codeword.{kept, following, encode, tailBits}
-use Rattle.component.specs.Decoding.{codedLength, Sound}
+use Rattle.patterns.specs.Patterns.{Sound}
+use Rattle.component.specs.Decoding.{codedLength}
 use Rattle.component.proofs.Codeword.{following-low, length-column, length-tail, codeword-two}
 use Rattle.nearest.specs.Nearest.{differs, disagreement}
 use Rattle.nearest.specs.Coded.{added, coded}

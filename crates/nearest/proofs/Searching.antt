@@ -1,15 +1,13 @@
 -- The search with its buffers: values four a bit, choices, and the bits found. Assumes nothing.
-use Prim.Native.Nat.{ℕ, _+_, _-_, _*_, _/_, _≤_, _<_}
+use Prim.Native.Nat.{ℕ, _+_, _-_, _*_, _/_, _≤_}
 use mathlib.Core.Path.{_≡_, sym, ap, _∙_}
 use mathlib.Core.List.{List, _++_}
 use native.Mathlib.Omega.{arith}
 use lib.ListN.{length, take, drop, length-append}
 use Rattle.lists.proofs.Parts.{length-start, length-written, front-written}
-use Rattle.component.specs.Decoding.{patternAt}
-use Rattle.component.proofs.Patterns.{sound-at}
-use Rattle.component.specs.declared.code.Pattern.{Pattern}
-use Rattle.component.specs.Coding.{patternOf, patternFrom}
-use Rattle.component.proofs.Patterns.{pattern-from, held, lent}
+use Rattle.patterns.specs.declared.Pattern.{Pattern}
+use Rattle.patterns.specs.Contracts.{patternOf}
+use Rattle.patterns.proofs.Patterns.{lent}
 use Rattle.nearest.specs.Nearest.{nearest}
 use Rattle.nearest.specs.Coded.{coded}
 use Rattle.nearest.specs.Contracts.{restored, led, Restores, Chooses, Chosen, Follows, Searches, SearchesWith, Found, Long}
@@ -88,16 +86,14 @@ module _ {p t flips out : List ℕ} (R : Searches p t flips out) {buffer : List 
         ∙ sym (nearest-chosen (R .sound) (R .soundTail) flips received) in
         record { bits = b; counted = C .least ∙ rw b (sym (nearest-best (R .sound) (R .soundTail) flips received)) }
 
--- the patterns by their numbers
-pub searches-with : {k l : ℕ} {p t flips out : List ℕ} → p ≡ patternAt k → t ≡ patternAt l → SearchesWith k l flips out → Searches p t flips out
-searches-with {k} {l} ep et R =
-    rw (ep, et)
-    (record { sound = sound-at k (R .number); soundTail = sound-at l (R .numberTail); bits = R .bits; few = R .few; same = R .same })
+-- the patterns as the code lends them
+pub searches-with : (p t : Pattern) {flips out : List ℕ} → SearchesWith p t flips out
+    → Searches (take (p .width - 0) (p .columns)) (take (t .width - 0) (t .columns)) flips out
+searches-with p t R =
+    rw (lent p, lent t)
+    (record { sound = R .held .sound; soundTail = R .heldTail .sound; bits = R .bits; few = R .few; same = R .same })
 
-pub found-with : (k l : ℕ) {p t flips received out : List ℕ} {count : ℕ} → p ≡ patternAt k → t ≡ patternAt l → Found p t flips received out count
-    → Found (patternAt k) (patternAt l) flips received out count
-found-with k l ep et F = rw (ep, et) at F
-
--- A pattern of the table as the code lends it.
-pub lent-pattern : (p : Pattern) (k : ℕ) → p ≡ patternFrom (patternAt k) → k < 25 → (p .width ≤ length (p .columns)) × (take (p .width - 0) (p .columns) ≡ patternAt k)
-lent-pattern p k e h = (rw e (held (sound-at k h) .there), lent p ∙ ap patternOf e ∙ pattern-from (patternAt k))
+pub found-with : (p t : Pattern) {flips received out : List ℕ} {count : ℕ}
+    → Found (take (p .width - 0) (p .columns)) (take (t .width - 0) (t .columns)) flips received out count
+    → Found (patternOf p) (patternOf t) flips received out count
+found-with p t F = rw (lent p, lent t) at F

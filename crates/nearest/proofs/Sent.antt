@@ -9,16 +9,18 @@ use Rattle.lists.specs.Lists.{table}
 use Rattle.component.specs.Register.{after}
 use Rattle.component.specs.Codeword.{encode, codeword}
 use Rattle.interleaver.proofs.Interleaving.{interleaved-none}
+use Rattle.settings.specs.declared.Settings.{Settings}
 use Rattle.settings.specs.Rates.{facRate}
 use Rattle.settings.specs.Formulas.{facBits}
 use Rattle.block.specs.Dispersal.{p, dispersed, dispersedParts}
 use Rattle.block.specs.Levels.{codedA, codedB, mixed, stream, totalA, totalB, streams}
 use Rattle.block.specs.Block.{streamsOf}
 use Rattle.block.proofs.Dispersal.{length-dispersed}
+use Rattle.channels.specs.Scheme.{standardScheme}
 use Rattle.channels.specs.Fac.{facLevel, facBlock}
 use Rattle.nearest.specs.Nearest.{disagreement, better, cheapest, nearest}
-use Rattle.component.specs.Patterns.{columns, table65, pattern}
-use Rattle.component.specs.Coding.{padded, patternOf, patternFrom}
+use Rattle.patterns.specs.Patterns.{numerators, RX, pattern}
+use Rattle.patterns.specs.Contracts.{padded, patternOf, patternFrom}
 use Rattle.block.specs.Block.{levelsOf, six}
 use Rattle.nearest.specs.Coded.{added, coded, facFlips, facCoded, facSent}
 use Rattle.nearest.specs.Fac.{facNearest}
@@ -32,12 +34,12 @@ dispersed-added k [] = refl
 dispersed-added k (b ∷ bits) = ap (λ l. ((b + p k) % 2) ∷ l) (dispersed-added (suc k) bits)
 
 -- the FAC's one level has no part A
-pub fac-mapped : (bits : List ℕ) → length bits ≡ 72 → streamsOf facBlock (dispersedParts 0 bits) ≡ facSent bits ∷ []
-unfolding streamsOf streams stream codedA codedB mixed totalA totalB dispersedParts dispersed facBlock facLevel facSent facCoded coded facFlips facBits facRate codeword encode after levelsOf six patternOf patternFrom padded pattern table65 columns
-fac-mapped bits e =
+pub fac-mapped : (s : Settings) (bits : List ℕ) → length bits ≡ 72 → streamsOf (facBlock (standardScheme s)) (dispersedParts 0 bits) ≡ facSent bits ∷ []
+unfolding standardScheme streamsOf streams stream codedA codedB mixed totalA totalB dispersedParts dispersed facBlock facLevel facSent facCoded coded facFlips facBits facRate codeword encode after levelsOf six patternOf patternFrom padded pattern table RX numerators
+fac-mapped s bits e =
     let d : take 72 (dispersed 0 bits) ≡ added (table p 0 72) bits =
     take-all 72 (dispersed 0 bits) (rw (length-dispersed, e) (omega arith)) ∙ dispersed-added 0 bits ∙ ap (λ n. added (table p 0 n) bits) e in
-    ap (λ (l : List ℕ). stream facLevel [] l ∷ []) d ∙ ap (λ (l : List ℕ). (l ++ facSent bits) ∷ []) (interleaved-none 0 21)
+    ap (λ (l : List ℕ). stream (facLevel (standardScheme s)) [] l ∷ []) d ∙ ap (λ (l : List ℕ). (l ++ facSent bits) ∷ []) (interleaved-none 0 21)
 
 -- of equal costs the zeros are the cheapest
 zeros-cheapest : (n : ℕ) → cheapest n (λ bits. 0) ≡ replicate n 0

@@ -9,7 +9,8 @@ use lib.Seq.{sets, length-sets, drop-drop}
 use lib.Count.{ones, onesIn, ones-step, ones-le}
 use Rattle.lists.proofs.Parts.{length-start, length-second, both-written, sets-whole}
 use Rattle.component.specs.Codeword.{following}
-use Rattle.component.specs.Decoding.{codedLength, Sound}
+use Rattle.patterns.specs.Patterns.{Sound}
+use Rattle.component.specs.Decoding.{codedLength}
 use Rattle.component.proofs.Sets.{sets-append}
 use Rattle.component.proofs.Codeword.{following-low}
 use Rattle.nearest.specs.Contracts.{valueOr, spread, spreadAll, restored, SpreadsAll, Restores}

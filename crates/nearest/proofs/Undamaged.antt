@@ -7,13 +7,14 @@ use lib.Dec.{lit<}
 use lib.ListN.{length}
 use Rattle.component.specs.Bits.{Bits}
 use Rattle.component.specs.Register.{after}
-use Rattle.component.specs.Patterns.{pattern, R3/5}
+use Rattle.patterns.specs.Patterns.{table65, pattern, R3/5, Sound}
 use Rattle.component.specs.Codeword.{encode, tailBits}
-use Rattle.component.specs.Decoding.{decode, Sound}
+use Rattle.component.specs.Decoding.{decode}
 use Rattle.component.proofs.Bits.{bits-nil, bits-cons, bits-head, bits-rest}
 use Rattle.component.proofs.Codeword.{codeword-bits, codeword-two}
 use Rattle.component.proofs.Decoding.{decode-encode}
-use Rattle.component.proofs.Patterns.{pattern-sound}
+use Rattle.patterns.proofs.Loaded.{pattern-sound}
+use Rattle.patterns.proofs.Patterns.{standard-passes}
 use Rattle.interleaver.specs.Deinterleaving.{deinterleaved}
 use Rattle.interleaver.proofs.Interleaving.{interleaved-length, interleaved-all, deinterleaved-interleaved}
 use Rattle.settings.specs.Formulas.{facBits}
@@ -99,7 +100,7 @@ sent-back bits e =
 sent-once : (x y : List ℕ) → Bits x → Bits y → length x ≡ 72 → length y ≡ 72 → facSent x ≡ facSent y → x ≡ y
 unfolding facCoded
 sent-once x y B C ex ey e =
-    coded-once (pattern-sound R3/5 (lit< tt)) (pattern R3/5) facFlips x y B C (ex ∙ sym length-flips) (ey ∙ sym length-flips)
+    coded-once (pattern-sound standard-passes R3/5 (lit< tt)) (pattern table65 R3/5) facFlips x y B C (ex ∙ sym length-flips) (ey ∙ sym length-flips)
     (sym (sent-back x ex) ∙ ap (deinterleaved 0 21) e ∙ sent-back y ey)
 
 -- what was sent undamaged is found again

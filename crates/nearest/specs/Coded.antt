@@ -2,7 +2,7 @@
 use Prim.Native.Nat.{ℕ, _+_, _%_}
 use mathlib.Core.List.{List, [], _∷_}
 use Rattle.lists.specs.Lists.{table}
-use Rattle.component.specs.Patterns.{pattern, R3/5}
+use Rattle.patterns.specs.Patterns.{table65, pattern, R3/5}
 use Rattle.component.specs.Codeword.{codeword, tailBits}
 use Rattle.component.specs.Decoding.{segment}
 use Rattle.interleaver.specs.Interleaving.{interleaved}
@@ -20,12 +20,12 @@ unfoldable pub coded : List ℕ → List ℕ → List ℕ → List ℕ → List 
 coded pattern tail flips bits = codeword 0 (segment pattern (added flips bits) ∷ segment tail tailBits ∷ [])
 
 -- An FAC block in the coder's order: dispersed by p(0) .. p(71), and coded at rate 3/5. Its tail goes on with the 3/5 pattern: 72 bits are 24 whole
--- rounds, so that the tail begins at the first column.
+-- rounds, so that the tail begins at the first column. The patterns are the standard's, whichever table a run has (02, S-11).
 unfoldable pub facFlips : List ℕ
 facFlips = table p 0 facBits
 
 unfoldable pub facCoded : List ℕ → List ℕ
-facCoded block = coded (pattern R3/5) (pattern R3/5) facFlips block
+facCoded block = coded (pattern table65 R3/5) (pattern table65 R3/5) facFlips block
 
 -- The same in the order of the mapped cells: t = 21 for 4-QAM.
 unfoldable pub facSent : List ℕ → List ℕ

@@ -10,7 +10,10 @@ use Rattle.component.specs.Bits.{Bits}
 use Rattle.block.specs.Packing.{packed}
 use Rattle.component.specs.Register.{next, parities}
 use Rattle.component.specs.Codeword.{following, tailBits}
-use Rattle.component.specs.Decoding.{codedLength, Sound}
+use Rattle.patterns.specs.declared.Pattern.{Pattern}
+use Rattle.patterns.specs.Patterns.{Sound}
+use Rattle.patterns.specs.Contracts.{Held}
+use Rattle.component.specs.Decoding.{codedLength}
 use Rattle.nearest.specs.Nearest.{disagreement, nearest}
 use Rattle.nearest.specs.Coded.{coded, facSent}
 use Rattle.nearest.specs.Fac.{facNearest}
@@ -158,10 +161,10 @@ pub record Searches (pattern tail flips out : List ℕ) : Type 0 where
   pub few : length flips ≤ 1120
   pub same : length out ≡ length flips
 
--- search_with requires the numbers of two patterns, and the rest of that.
-pub record SearchesWith (k l : ℕ) (flips out : List ℕ) : Type 0 where
-  pub number : k < 25
-  pub numberTail : l < 25
+-- search_with requires two sound patterns that are held, and the rest of that.
+pub record SearchesWith (p t : Pattern) (flips out : List ℕ) : Type 0 where
+  pub held : Held p
+  pub heldTail : Held t
   pub bits : Bits flips
   pub few : length flips ≤ 1120
   pub same : length out ≡ length flips

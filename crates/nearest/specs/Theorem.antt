@@ -4,10 +4,12 @@ use mathlib.Core.Path.{_≡_}
 use mathlib.Core.List.{List, [], _∷_}
 use lib.ListN.{length, replicate}
 use Rattle.component.specs.Bits.{Bits}
+use Rattle.settings.specs.declared.Settings.{Settings}
 use Rattle.settings.specs.Cells.{facCells}
 use Rattle.settings.specs.Formulas.{facBits}
 use Rattle.block.specs.Dispersal.{dispersedParts}
 use Rattle.block.specs.Block.{streamsOf}
+use Rattle.channels.specs.Scheme.{standardScheme}
 use Rattle.channels.specs.Fac.{facBlock}
 use Rattle.nearest.specs.Nearest.{disagreement, nearest, Nearest}
 use Rattle.nearest.specs.Coded.{coded, facSent}
@@ -23,9 +25,9 @@ pub record NearestBlocks : Type 0 where
   -- The same of the FAC block that the call gives, over all 72-bit blocks.
   pub block : (received : List ℕ)
       → Nearest facBits facSent received (facNearest received) (disagreement received (facSent (facNearest received)))
-  -- The coded bits that it is compared by are those that the coder maps to the FAC's cells.
-  pub mapped : (bits : List ℕ) → length bits ≡ facBits
-      → streamsOf facBlock (dispersedParts (facBlock .vspp) bits) ≡ facSent bits ∷ []
+  -- The coded bits that it is compared by are those that the coder maps to the FAC's cells with the standard's table.
+  pub mapped : (s : Settings) (bits : List ℕ) → length bits ≡ facBits
+      → let fac = facBlock (standardScheme s) in streamsOf fac (dispersedParts (fac .vspp) bits) ≡ facSent bits ∷ []
   -- Received without damage, a block is found again, and nothing disagrees.
   pub undamaged : (bits : List ℕ) → Bits bits → length bits ≡ facBits
       → (facNearest (facSent bits) ≡ bits) × (disagreement (facSent bits) (facSent bits) ≡ 0)

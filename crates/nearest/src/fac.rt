@@ -3,12 +3,14 @@ use crate::search::search_with;
 use dispersal::bits::disperse;
 use dispersal::bits::pack;
 use interleaver::order::deinterleave;
+use patterns::table::pattern;
+use patterns::table::standard_table;
 use settings::tables::FAC_BYTES;
 use settings::tables::FAC_NUMBERS;
 use settings::tables::R3_5;
 ghost use mathlib.Core.Path.{_≡_};
 ghost use lib.ListN.{length};
-ghost use Rattle.component.specs.Patterns.{pattern, R3/5};
+ghost use Rattle.patterns.specs.Patterns.{table65, pattern, R3/5};
 ghost use Rattle.nearest.specs.Coded.{facFlips};
 ghost use Rattle.nearest.specs.Fac.{allValues, nearestRefusalBy, nearestYield, nearestOf};
 ghost use Rattle.nearest.specs.Contracts.{Found, Long, Receives, Nearby, NearbyBits};
@@ -60,13 +62,15 @@ fn flips() -> [u8; FAC_BITS]
     flips
 }
 
-// The search with the pattern of rate 3/5, with which the FAC's tail goes on.
+// The search with the standard's pattern of rate 3/5, with which the FAC's tail goes on.
 fn search_block(values: &[u8], bits: &mut [u8]) -> u16
     requires { ⌜ length (now bits) ≡ 72 ⌝ }
-    ensures { λ r. ⌜ Found (pattern R3/5) (pattern R3/5) facFlips (now (values .entry)) (now (bits .exit)) r ⌝ }
+    ensures { λ r. ⌜ Found (pattern table65 R3/5) (pattern table65 R3/5) facFlips (now (values .entry)) (now (bits .exit)) r ⌝ }
 {
     let flips = flips();
-    search_with(R3_5, R3_5, &flips, values, bits)
+    let table = standard_table();
+    let p = pattern(&table, R3_5);
+    search_with(p, p, &flips, values, bits)
 }
 
 fn value_buffer() -> [u8; FAC_NUMBERS]

@@ -2,14 +2,14 @@
 use crate::values::restore;
 use component::code::next;
 use component::code::parity;
-use component::code::pattern_at;
+use patterns::Pattern;
 ghost use mathlib.Core.Path.{_≡_};
 ghost use Prim.Native.Nat.{_+_, _/_, _^_, _%_, _≤_, _<_, min};
 ghost use mathlib.Core.List.{[]};
 ghost use lib.ListN.{length, getD, drop};
 ghost use Rattle.component.specs.Register.{parities};
 ghost use Rattle.component.specs.Codeword.{tailBits};
-ghost use Rattle.component.specs.Decoding.{patternAt};
+ghost use Rattle.patterns.specs.Contracts.{patternOf};
 ghost use Rattle.nearest.specs.Nearest.{differs, disagreement};
 ghost use Rattle.nearest.specs.Contracts.{along, pick, led, restored, Costs, Weighs, Steps, Stepped, Chooses, Chosen, Follows, Searches, SearchesWith, Found, Long};
 
@@ -219,16 +219,14 @@ pub fn search(pattern: &[u8], tail: &[u8], flips: &[u8], received: &[u8], out: &
     count
 }
 
-// The same with the patterns of numbers k and l.
-pub fn search_with(k: usize, l: usize, flips: &[u8], received: &[u8], out: &mut [u8]) -> u16
-    requires { ⌜ SearchesWith k l (now flips) (now out) ⌝ }
-    ensures { λ r. ⌜ Found (patternAt k) (patternAt l) (now (flips .entry)) (now (received .entry)) (now (out .exit)) r ⌝ }
+// The same with patterns as they are held.
+pub fn search_with(p: Pattern, t: Pattern, flips: &[u8], received: &[u8], out: &mut [u8]) -> u16
+    requires { ⌜ SearchesWith p t (now flips) (now out) ⌝ }
+    ensures { λ r. ⌜ Found (patternOf p) (patternOf t) (now (flips .entry)) (now (received .entry)) (now (out .exit)) r ⌝ }
 {
-    let first = pattern_at(k);
-    let pattern = first.columns;
-    let n = first.width;
-    let second = pattern_at(l);
-    let tail = second.columns;
-    let m = second.width;
+    let pattern = p.columns;
+    let n = p.width;
+    let tail = t.columns;
+    let m = t.width;
     search(&pattern[0..n], &tail[0..m], flips, received, out)
 }

@@ -1,3 +1,2 @@
-pub mod FaultTurns
+pub mod BlockTurns
 pub mod ReadParts
-pub mod ReadTurns

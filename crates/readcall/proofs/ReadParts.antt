@@ -13,11 +13,11 @@ use Rattle.lists.specs.Bytes.{bytesFor}
 use Rattle.lists.proofs.Tables.{length-table}
 use Rattle.lists.proofs.Bools.{and-left, and-right, every-append}
 use Rattle.settings.specs.Refusal.{first}
-use Rattle.settings.specs.Accepted.{Accepted}
 use Rattle.settings.specs.Cells.{facCells}
 use Rattle.settings.specs.Formulas.{roundUp}
 use Rattle.settings.specs.Sizes.{frameBytes, sdcBytes}
-use Rattle.settings.proofs.Bounds.{accepted-of}
+use Rattle.channels.specs.Scheme.{SchemeAccepted}
+use Rattle.channels.proofs.Schemes.{scheme-accepted}
 use Rattle.block.specs.declared.Block.{Block}
 use Rattle.lists.specs.Bools.{every, firstFault}
 use Rattle.block.specs.Reading.{given, bytesRead}
@@ -36,11 +36,12 @@ use Rattle.cellmemory.specs.Contracts.{StateFits, refusalThen}
 use Rattle.cellmemory.proofs.Chains.{then-stops, then-goes-on}
 use Rattle.cellmemory.proofs.Progress.{memory-most}
 use Rattle.readcall.specs.declared.Blocks.{Blocks}
-use Rattle.readcall.specs.declared.Fault.{Fault}
-use Rattle.readcall.specs.declared.Fault.the-variants.{Nowhere, At}
-use Rattle.readcall.specs.Contracts.{readCall, readYield, faultOf, pointTest, CellsLent, facsOf, framesOf, blocksOf, BlocksLent, BlocksRead, ReadPasses}
-use Rattle.readcall.proofs.FaultTurns.{fault-at, fault-nowhere, tests-are}
-use Rattle.readcall.proofs.ReadTurns.{frames-most}
+use Rattle.faults.specs.declared.Fault.{Fault}
+use Rattle.faults.specs.declared.Fault.the-variants.{Nowhere, At}
+use Rattle.faults.specs.Contracts.{faultOf, pointTest, CellsLent}
+use Rattle.readcall.specs.Contracts.{readCall, readYield, facsOf, framesOf, blocksOf, BlocksLent, BlocksRead, ReadPasses}
+use Rattle.faults.proofs.FaultTurns.{fault-at, fault-nowhere, tests-are}
+use Rattle.frames.proofs.FrameTurns.{frames-most}
 
 -- Tests that hold after others change nothing.
 every-trues : (l : List Bool) (n : ℕ) → every (l ++ replicate n true) ≡ every l
@@ -63,8 +64,8 @@ kept-given k n (f ∷ fs) h = rw (and-left (given k f) _ h, kept-given k n fs (a
 
 -- 1 to 10, and then 12.
 module _ (state : State) (memory faccells sdccells msccells : List ℤ) (fac sdc msc : List ℕ) (n : ℕ)
-    (g : n ≡ refusalThen (state .settings) memory (cellLengths (state .settings) faccells sdccells msccells) (byteLengths (state .settings) fac sdc msc) 0) where
-  order-is : refusalThen (state .settings) memory (cellLengths (state .settings) faccells sdccells msccells) (byteLengths (state .settings) fac sdc msc)
+    (g : n ≡ refusalThen (state .scheme) memory (cellLengths (state .scheme .settings) faccells sdccells msccells) (byteLengths (state .scheme .settings) fac sdc msc) 0) where
+  order-is : refusalThen (state .scheme) memory (cellLengths (state .scheme .settings) faccells sdccells msccells) (byteLengths (state .scheme .settings) fac sdc msc)
       (first (not (inOrder state memory)) 12 0)
       ≡ orderRefusal state memory (readCall faccells sdccells msccells fac sdc msc)
   unfolding orderRefusal refusalThen
@@ -98,21 +99,21 @@ module _ (state : State) (memory : List ℤ) (c : ReadCall) where
 
   -- A call that no number up to 12 refuses: its cells, and the lowest block at fault by the table of tests.
   module _ (r : ℕ) (e : r ≡ orderRefusal state memory c) (h : r ≡ 0) where
-    pub cells-lent : CellsLent (state .settings) (state .count) (c .faccells) (c .sdccells) (c .msccells)
+    pub cells-lent : CellsLent (state .scheme) (state .count) (c .faccells) (c .sdccells) (c .msccells)
     unfolding facCells
     cells-lent =
         let f = read-fits state memory c (sym e ∙ h) in
         record {
-          allowed = accepted-of _ (f .fits .settings);
+          allowed = scheme-accepted _ (f .fits .scheme) .settings;
           low = f .order .count;
           faclong = f .cells .faclong;
           sdclong = f .cells .sdclong;
           msclong = f .cells .msclong;
         }
 
-    module _ (f : Fault) (g : f ≡ faultOf (table (pointTest (state .settings) (state .count) (c .faccells) (c .sdccells) (c .msccells)) 0 8)) where
-      fault-is : f ≡ faultOf (pointTests (state .settings) (state .count) c)
-      fault-is = g ∙ ap faultOf (sym (tests-are (state .settings) (state .count) c))
+    module _ (f : Fault) (g : f ≡ faultOf (table (pointTest (state .scheme) (state .count) (c .faccells) (c .sdccells) (c .msccells)) 0 8)) where
+      fault-is : f ≡ faultOf (pointTests (state .scheme) (state .count) c)
+      fault-is = g ∙ ap faultOf (sym (tests-are (state .scheme) (state .count) c))
 
       pub refused-points : (b : ℕ) → f ≡ At b
           → readYield (record { answer = Refused 13 b; state = state }) memory (c .fac) (c .sdc) (c .msc) ≡ readOf state memory c
@@ -128,8 +129,8 @@ module _ (state : State) (memory : List ℤ) (c : ReadCall) (w : ReadPasses stat
   facts : ReadFits state memory c
   facts = read-fits state memory c (w .order)
 
-  allowed : Accepted (state .settings)
-  allowed = accepted-of _ (facts .fits .settings)
+  allowed : SchemeAccepted (state .scheme)
+  allowed = scheme-accepted _ (facts .fits .scheme)
 
   in-order : StateFits state memory
   unfolding memoryLength
@@ -140,10 +141,10 @@ module _ (state : State) (memory : List ℤ) (c : ReadCall) (w : ReadPasses stat
 
   pub sdc-most : length (c .sdc) ≤ 210
   unfolding sdcBytes bytesFor roundUp
-  sdc-most = omega (arith, facts .bytes .sdclong, allowed .sdcBitsMost)
+  sdc-most = omega (arith, facts .bytes .sdclong, allowed .settings .sdcBitsMost)
 
   pub msc-most : length (c .msc) ≤ 13767
-  msc-most = omega (arith, facts .bytes .msclong, frames-most allowed)
+  msc-most = omega (arith, facts .bytes .msclong, frames-most (allowed .settings))
 
   pub fac-room : length (c .fac) ≡ 27
   fac-room = facts .bytes .faclong
@@ -161,7 +162,7 @@ module _ (state : State) (memory : List ℤ) (c : ReadCall) (w : ReadPasses stat
       }
 
   abbrev tests : List Bool
-  tests = givenTests (state .settings) (progressOf state memory) c
+  tests = givenTests (state .scheme) (progressOf state memory) c
 
   abbrev frames : List (List ℤ)
   frames = framesOf state memory c
@@ -169,7 +170,7 @@ module _ (state : State) (memory : List ℤ) (c : ReadCall) (w : ReadPasses stat
   -- The marks of all places: the tests of 14, and no more that fail.
   marks-are : blocksOf state memory c .given ≡ tests ++ replicate (3 - length frames) true
   unfolding blocksOf placedTests givenTests parts
-  marks-are = rw (length-table, append-nil (map (given facBlock) (facsOf c)), append-assoc)
+  marks-are = rw (length-table, append-nil (map (given (facBlock (state .scheme))) (facsOf c)), append-assoc)
 
   -- Its blocks were read on a copy of memory and into other buffers.
   module _ (work : List ℤ) (fac sdc msc : List ℕ) (same : work ≡ memory) (r : Blocks) (work′ : List ℤ) (fac′ sdc′ msc′ : List ℕ)
@@ -193,23 +194,23 @@ module _ (state : State) (memory : List ℤ) (c : ReadCall) (w : ReadPasses stat
       all-given : every tests ≡ true
       all-given = sym (every-trues tests (3 - length frames)) ∙ fault-nowhere _ f lost-is l
 
-      facs-given : every (map (given facBlock) (facsOf c)) ≡ true
+      facs-given : every (map (given (facBlock (state .scheme))) (facsOf c)) ≡ true
       unfolding givenTests
       facs-given =
-          and-left (every (map (given facBlock) (facsOf c))) (every (given (sdcBlock (state .settings)) (c .sdccells) ∷ map (given (mscBlock (state .settings))) frames))
-          (sym (every-append (map (given facBlock) (facsOf c)) _) ∙ all-given)
+          and-left (every (map (given (facBlock (state .scheme))) (facsOf c))) (every (given (sdcBlock (state .scheme)) (c .sdccells) ∷ map (given (mscBlock (state .scheme))) frames))
+          (sym (every-append (map (given (facBlock (state .scheme))) (facsOf c)) _) ∙ all-given)
 
-      rest-given : (given (sdcBlock (state .settings)) (c .sdccells) && every (map (given (mscBlock (state .settings))) frames)) ≡ true
+      rest-given : (given (sdcBlock (state .scheme)) (c .sdccells) && every (map (given (mscBlock (state .scheme))) frames)) ≡ true
       unfolding givenTests every
       rest-given =
-          and-right (every (map (given facBlock) (facsOf c))) (every (given (sdcBlock (state .settings)) (c .sdccells) ∷ map (given (mscBlock (state .settings))) frames))
-          (sym (every-append (map (given facBlock) (facsOf c)) _) ∙ all-given)
+          and-right (every (map (given (facBlock (state .scheme))) (facsOf c))) (every (given (sdcBlock (state .scheme)) (c .sdccells) ∷ map (given (mscBlock (state .scheme))) frames))
+          (sym (every-append (map (given (facBlock (state .scheme))) (facsOf c)) _) ∙ all-given)
 
-      sdc-given : given (sdcBlock (state .settings)) (c .sdccells) ≡ true
-      sdc-given = and-left (given (sdcBlock (state .settings)) (c .sdccells)) (every (map (given (mscBlock (state .settings))) frames)) rest-given
+      sdc-given : given (sdcBlock (state .scheme)) (c .sdccells) ≡ true
+      sdc-given = and-left (given (sdcBlock (state .scheme)) (c .sdccells)) (every (map (given (mscBlock (state .scheme))) frames)) rest-given
 
-      frames-given : every (map (given (mscBlock (state .settings))) frames) ≡ true
-      frames-given = and-right (given (sdcBlock (state .settings)) (c .sdccells)) (every (map (given (mscBlock (state .settings))) frames)) rest-given
+      frames-given : every (map (given (mscBlock (state .scheme))) frames) ≡ true
+      frames-given = and-right (given (sdcBlock (state .scheme)) (c .sdccells)) (every (map (given (mscBlock (state .scheme))) frames)) rest-given
 
       pub accepted-blocks : (memory″ : List ℤ) (fac″ sdc″ msc″ : List ℕ) → memory″ ≡ work′ → fac″ ≡ fac′ → sdc″ ≡ sdc′ → msc″ ≡ msc′
           → readYield (record { answer = Finished (r .finished); state = r .after }) memory″ fac″ sdc″ msc″ ≡ readOf state memory c
@@ -221,11 +222,11 @@ module _ (state : State) (memory : List ℤ) (c : ReadCall) (w : ReadPasses stat
             b ∙ B .fac,
             d ∙ B .sdc,
             m ∙ rw same at (B .msc),
-            kept-given facBlock 9 (facsOf c) facs-given,
+            kept-given (facBlock (state .scheme)) 9 (facsOf c) facs-given,
             sdc-given,
-            kept-given (mscBlock (state .settings)) (frameBytes (state .settings)) frames frames-given,
+            kept-given (mscBlock (state .scheme)) (frameBytes (state .scheme .settings)) frames frames-given,
             length-table,
-            append-nil (joined (map (bytesRead facBlock) (facsOf c))),
+            append-nil (joined (map (bytesRead (facBlock (state .scheme))) (facsOf c))),
           )
           (sym (read-accepts state memory c (w .order) (w .points) all-given))
 

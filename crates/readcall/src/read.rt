@@ -1,15 +1,16 @@
 // The call Read. 01 "Buffers and state" and "Operations".
-use crate::Fault;
-use crate::faults::lost_fault;
-use crate::faults::point_fault;
 use crate::places::read_blocks;
 use block::buffers::MOST_MEMORY;
 use block::buffers::MOST_MSC_BYTES;
 use block::buffers::MOST_SDC_BYTES;
 use cellmemory::refusal;
+use channels::Scheme;
+use channels::tables::scheme_refusal;
+use faults::Fault;
+use faults::lowest::lost_fault;
+use faults::lowest::point_fault;
 use lists::bytes::copy as copy_bytes;
 use lists::numbers::copy as copy_numbers;
-use settings::Settings;
 use settings::answers;
 use settings::tables::FAC_BYTES;
 use superframe::Answer;
@@ -25,7 +26,7 @@ ghost use Rattle.readcall.specs.Contracts.{readCall, readYield, ReadPass
 
 // 1 to 10: the cells come in, and bytes go out.
 fn read_lengths(
-    s: Settings,
+    s: Scheme,
     faccells: &[i16],
     sdccells: &[i16],
     msccells: &[i16],
@@ -35,13 +36,14 @@ fn read_lengths(
     msc: &[u8],
 ) -> u8
     ensures { λ r. ⌜ r ≡ refusalThen s (now (memory .entry))
-        (cellLengths s (now (faccells .entry)) (now (sdccells .entry)) (now (msccells .entry)))
-        (byteLengths s (now (fac .entry)) (now (sdc .entry)) (now (msc .entry))) 0 ⌝ }
+        (cellLengths (s .settings) (now (faccells .entry)) (now (sdccells .entry)) (now (msccells .entry)))
+        (byteLengths (s .settings) (now (fac .entry)) (now (sdc .entry)) (now (msc .entry))) 0 ⌝ }
 {
-    let z = answers::sizes(s);
+    let number = scheme_refusal(s);
+    let z = answers::sizes(s.settings);
     let nine = refusal::cells_long(z, faccells.len(), sdccells.len(), msccells.len());
     let ten = refusal::bytes_long(z, fac.len(), sdc.len(), msc.len());
-    refusal::length_refusal(z, memory.len(), nine, ten)
+    refusal::length_refusal(number, z, memory.len(), nine, ten)
 }
 
 // 1 to 10, and 12.
@@ -59,7 +61,7 @@ fn order_refusal(
         (readCall (now (faccells .entry)) (now (sdccells .entry)) (now (msccells .entry)) (now (fac .entry)) (now (sdc .entry)) (now (msc .entry))) ⌝ }
 {
     let number = read_lengths(
-        state.settings,
+        state.scheme,
         faccells,
         sdccells,
         msccells,
@@ -177,7 +179,7 @@ pub fn read(
         };
     }
     let fault = point_fault(
-        state.settings,
+        state.scheme,
         state.count as usize,
         faccells,
         sdccells,

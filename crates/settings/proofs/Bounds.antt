@@ -9,7 +9,7 @@ use lib.Dec.{T, leb, leb→le}
 use lib.ListN.{length, getD, drop}
 use borrow.Author.Tests.{eq-eqb, ne-eqb, leb-true}
 use Rattle.lists.specs.Lists.{total}
-use Rattle.component.specs.Patterns.{RX, RY, numerators, denominators}
+use Rattle.patterns.specs.Patterns.{RX, RY, numerators, denominators}
 use Rattle.settings.specs.declared.Settings.{Settings}
 use Rattle.settings.specs.Rates.{rates, table67, table68, table69, table71, commonDenominator, vsppRate, sdcRates}
 use Rattle.settings.specs.Formulas.{hierarchical, width, bitsA, bitsB, partA, partB, partVspp, roundUp, cellsA, sdcBits}

@@ -8,7 +8,7 @@ use native.Mathlib.Omega.{arith}
 use lib.Dec.{T, leb, ltb, leb→le, le→leb}
 use Rattle.lists.specs.Lists.{table}
 use Rattle.lists.proofs.Tables.{getD-table}
-use Rattle.component.proofs.Tests.{both-left, both-right}
+use Rattle.lists.proofs.Rules.{both-left, both-right}
 use lib.Arith.{digits-lt, digits-div, digits-mod}
 use lib.ListN.{length, getD, List·getD-eq-default}
 use borrow.Author.Tests.{lt-ltb, le-ltb, ltb-true, ltb-false}

@@ -8,14 +8,14 @@ use native.Mathlib.Omega.{arith}
 use lib.Dec.{T, leb, eqb, leb→le, eqb→eq}
 use lib.ListN.{length, getD}
 use Rattle.lists.specs.Lists.{total}
-use Rattle.component.specs.Patterns.{RX, RY, numerators, denominators}
+use Rattle.patterns.specs.Patterns.{RX, RY, numerators, denominators}
 use Rattle.settings.specs.Rates.{rates, table67, table68, table69, table71, commonDenominator}
 use Rattle.settings.specs.Formulas.{hierarchical, width, bitsA, partA, roundUp, cellsA}
 use Rattle.settings.specs.Refusal.{topLevel}
 use Rattle.settings.specs.Shares.{share, shares}
 use Rattle.settings.specs.Accepted.{Level, Whole}
 use Rattle.settings.proofs.LookUps.{all, all-in}
-use Rattle.component.proofs.Tests.{both-left, both-right}
+use Rattle.lists.proofs.Rules.{both-left, both-right}
 use Rattle.settings.proofs.Parts.{level-at, RY-positive, shares-five}
 
 -- a over b rounded up, times b, is at least a; and no smaller number of b is.

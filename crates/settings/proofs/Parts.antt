@@ -11,14 +11,14 @@ use lib.ListN.{length, getD, drop, drop-of-length-le, List·getD-eq-default}
 use lib.Seq.{drop-cons}
 use borrow.Author.Tests.{ltb-true, ltb-false}
 use Rattle.lists.specs.Lists.{total}
-use Rattle.component.specs.Patterns.{RX, RY, numerators, denominators}
+use Rattle.patterns.specs.Patterns.{RX, RY, numerators, denominators}
 use Rattle.settings.specs.Rates.{rates, vsppRate, sdcRates}
 use Rattle.settings.specs.Formulas.{hierarchical, width, bitsB, partVspp, sdcBits}
 use Rattle.settings.specs.Refusal.{topLevel}
 use Rattle.settings.specs.Shares.{share, shares}
 use Rattle.settings.specs.Accepted.{Level}
 use Rattle.settings.proofs.LookUps.{all-at}
-use Rattle.component.proofs.Tests.{both-left, both-right}
+use Rattle.lists.proofs.Rules.{both-left, both-right}
 use Rattle.settings.proofs.Levels.{few-rates, no-sdc}
 
 -- the test passes at i, i + 1, .. : n numbers

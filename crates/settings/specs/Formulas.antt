@@ -4,7 +4,7 @@ use mathlib.Core.Bool.{Bool, cond, _||_}
 use mathlib.Core.List.{map}
 use lib.Dec.{eqb}
 use Rattle.lists.specs.Lists.{total}
-use Rattle.component.specs.Patterns.{RX, RY}
+use Rattle.patterns.specs.Patterns.{RX, RY}
 use Rattle.settings.specs.Rates.{rates, commonDenominator, vsppRate, sdcRates}
 
 -- MSC modes 1 and 2, HMmix and HMsym, have a very strongly protected part.

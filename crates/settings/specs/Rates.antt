@@ -2,7 +2,7 @@
 use Prim.Native.Nat.{ℕ}
 use mathlib.Core.List.{List, [], _∷_}
 use lib.ListN.{getD}
-use Rattle.component.specs.Patterns.{R1/4, R3/10, R1/3, R4/11, R1/2, R4/7, R3/5, R2/3, R8/11, R3/4, R4/5, R7/8, R8/9}
+use Rattle.patterns.specs.Patterns.{R1/4, R3/10, R1/3, R4/11, R1/2, R4/7, R3/5, R2/3, R8/11, R3/4, R4/5, R7/8, R8/9}
 
 -- Table 68: MSC with 64-QAM SM: R0, R1, R2 by protection level.
 unfoldable pub table68 : List (List ℕ)

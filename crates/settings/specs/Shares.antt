@@ -2,7 +2,7 @@
 use Prim.Native.Nat.{ℕ, _*_, _/_}
 use mathlib.Core.List.{List, map}
 use Rattle.lists.specs.Lists.{total}
-use Rattle.component.specs.Patterns.{RX, RY}
+use Rattle.patterns.specs.Patterns.{RX, RY}
 
 -- A level's input bits for whole rounds of its rate's pattern in so many coded bits: RX floor(coded / RY).
 unfoldable pub share : ℕ → ℕ → ℕ

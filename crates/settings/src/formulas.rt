@@ -1,5 +1,7 @@
 // The formulas of lengths, 001 clause 7.2.1.1.
 use crate::tables;
+use patterns::table::denominator;
+use patterns::table::numerator;
 ghost use mathlib.Core.Path.{_≡_};
 ghost use Prim.Native.Nat.{_*_, _-_, _≤_};
 ghost use Rattle.settings.specs.Accepted.{Level, Whole, Rounds};
@@ -20,7 +22,7 @@ pub fn coded(msc: u8, n: usize) -> usize
 pub fn share(coded: usize, rate: usize) -> usize
     ensures { λ r. ⌜ r ≡ share coded rate ⌝ }
 {
-    tables::numerator(rate) * (coded / tables::denominator(rate))
+    numerator(rate) * (coded / denominator(rate))
 }
 
 // The sum over the levels of the standard protected part.

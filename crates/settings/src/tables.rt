@@ -2,7 +2,6 @@
 ghost use mathlib.Core.Path.{_≡_};
 ghost use Prim.Native.Nat.{_≤_};
 ghost use lib.ListN.{length, getD};
-ghost use Rattle.component.specs.Patterns.{RX, RY};
 ghost use Rattle.settings.specs.Cells.{entry, muxTable, superTable, sdcTable};
 ghost use Rattle.settings.specs.Rates.{rates, commonDenominator, vsppRate};
 ghost use Rattle.settings.specs.Places.{placeIn};
@@ -110,11 +109,6 @@ pub const FAC_CELLS: usize = 65;
 pub const FAC_BYTES: usize = 9;
 
 pub const FAC_NUMBERS: usize = 130;
-
-// 001 table 65: RX and RY of the thirteen rates, smallest rate first.
-const NUMERATORS: [usize; 13] = [1, 3, 1, 4, 1, 4, 3, 2, 8, 3, 4, 7, 8];
-
-const DENOMINATORS: [usize; 13] = [4, 10, 3, 11, 2, 7, 5, 3, 11, 4, 5, 8, 9];
 
 // 001 tables 68, 71, 69 and 67: five places for each MSC mode and protection level, then those of every other pair.
 const RATES: [usize; 85] = [
@@ -279,26 +273,6 @@ pub fn n_sdc(mode: u8, occupancy: u8) -> usize
     ensures { λ r. ⌜ r ≡ entry sdcTable mode occupancy ⌝ }
 {
     N_SDC[pairing_place(mode, occupancy)]
-}
-
-// RX of a rate.
-pub fn numerator(rate: usize) -> usize
-    ensures { λ r. ⌜ r ≡ RX rate ⌝ }
-{
-    if 13 <= rate {
-        return 1;
-    }
-    NUMERATORS[rate]
-}
-
-// RY of a rate.
-pub fn denominator(rate: usize) -> usize
-    ensures { λ r. ⌜ r ≡ RY rate ⌝ }
-{
-    if 13 <= rate {
-        return 1;
-    }
-    DENOMINATORS[rate]
 }
 
 // The rate of the kth level of the standard protected part.

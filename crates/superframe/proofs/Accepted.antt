@@ -1,14 +1,13 @@
--- The coding of settings that are not refused: its blocks are recovered and its sizes fit. And demands 2 and 3.
+-- The coding of settings and a table that are not refused: its blocks are recovered and its sizes fit. And demands 2 and 3.
 use Prim.Native.Nat.{ℕ}
 use mathlib.Core.Path.{_≡_, _∙_}
 use native.Mathlib.Omega.{arith}
-use Rattle.settings.specs.declared.Settings.{Settings}
-use Rattle.settings.specs.Refusal.{refusal}
+use Rattle.channels.specs.declared.Scheme.{Scheme}
+use Rattle.channels.specs.Scheme.{schemeRefusal, SchemeAccepted}
 use Rattle.settings.specs.Formulas.{facBits}
 use Rattle.lists.specs.Bytes.{bytesFor}
 use Rattle.settings.specs.Sizes.{frameBytes, sdcBytes}
-use Rattle.settings.specs.Accepted.{Accepted}
-use Rattle.settings.proofs.Bounds.{accepted-of}
+use Rattle.channels.proofs.Schemes.{scheme-accepted}
 use Rattle.block.specs.Packing.{packed}
 use Rattle.block.specs.declared.Block.{Block}
 use Rattle.block.specs.Block.{bitCount, cellsFrom}
@@ -22,6 +21,7 @@ use Rattle.channels.specs.Msc.{mscBlock}
 use Rattle.channels.proofs.Fac.{fac-bits, fac-fits}
 use Rattle.channels.proofs.Sdc.{sdc-bits, sdc-fits}
 use Rattle.channels.proofs.Msc.{msc-bits, msc-fits}
+use Rattle.superframe.specs.Call.{facBytes}
 use Rattle.superframe.specs.Runs.{bitsOf}
 use Rattle.superframe.specs.SingleCalls.{SingleCalls}
 use Rattle.superframe.specs.WholeRuns.{WholeRuns}
@@ -42,29 +42,29 @@ recovers {k} F bytes e =
     }
 
 -- The bytes of each kind of block.
-fac-bytes : bytesFor (bitCount facBlock) ≡ 9
+fac-bytes : (s : Scheme) → bytesFor (bitCount (facBlock s)) ≡ facBytes
 unfolding bytesFor facBits
-fac-bytes = rw fac-bits
+fac-bytes s = rw (fac-bits s)
 
-sdc-bytes : (s : Settings) → bytesFor (bitCount (sdcBlock s)) ≡ sdcBytes s
+sdc-bytes : (s : Scheme) → bytesFor (bitCount (sdcBlock s)) ≡ sdcBytes (s .settings)
 unfolding sdcBytes
 sdc-bytes s = rw (sdc-bits s)
 
-msc-bytes : (s : Settings) → Accepted s → bytesFor (bitCount (mscBlock s)) ≡ frameBytes s
+msc-bytes : (s : Scheme) → SchemeAccepted s → bytesFor (bitCount (mscBlock s)) ≡ frameBytes (s .settings)
 unfolding frameBytes
 msc-bytes s a = rw (msc-bits a)
 
--- Settings that are not refused have a coding.
-pub coding : (s : Settings) → refusal s ≡ 0 → Coding s
+-- Settings and a table that are not refused have a coding.
+pub coding : (s : Scheme) → schemeRefusal s ≡ 0 → Coding s
 coding s h =
-    let a = accepted-of s h in
+    let a = scheme-accepted s h in
     record {
-      big = omega (arith, a .ranges .muxLeast);
-      room = a .ranges .threeFrames;
-      few = a .ranges .fillers;
-      fac = recovers fac-fits 9 fac-bytes;
-      sdc = recovers (sdc-fits a) (sdcBytes s) (sdc-bytes s);
-      msc = recovers (msc-fits a) (frameBytes s) (msc-bytes s a);
+      big = omega (arith, a .settings .ranges .muxLeast);
+      room = a .settings .ranges .threeFrames;
+      few = a .settings .ranges .fillers;
+      fac = recovers (fac-fits s (a .table)) facBytes (fac-bytes s);
+      sdc = recovers (sdc-fits a) (sdcBytes (s .settings)) (sdc-bytes s);
+      msc = recovers (msc-fits a) (frameBytes (s .settings)) (msc-bytes s a);
       sdcBits = sdc-bits s;
       mscBits = msc-bits a;
     }

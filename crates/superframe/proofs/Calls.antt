@@ -10,7 +10,9 @@ use lib.Dec.{eqb, ltb}
 use borrow.Author.Tests.{lt-ltb, ltb-true, eq-eqb, ne-eqb, eqb-true, not-false}
 use Rattle.lists.specs.Lists.{table}
 use Rattle.settings.specs.declared.Settings.{Settings}
-use Rattle.settings.specs.Refusal.{first, refusal}
+use Rattle.channels.specs.declared.Scheme.{Scheme}
+use Rattle.settings.specs.Refusal.{first}
+use Rattle.channels.specs.Scheme.{schemeRefusal}
 use Rattle.settings.specs.Lengths.{nMux}
 use Rattle.settings.specs.Sizes.{depth}
 use Rattle.lists.specs.Bools.{every, firstFault}
@@ -71,8 +73,8 @@ module _ (s : Settings) where
 pub ordered : (state : State) (memory : List ℤ) → inOrder state memory ≡ true → Ordered state memory
 unfolding inOrder
 ordered state memory h =
-    let D = depth (state .settings) in
-    let cells = every (table (memoryCell (state .settings) memory) 0 (D * nMux (state .settings))) in
+    let D = depth (state .scheme .settings) in
+    let cells = every (table (memoryCell (state .scheme) memory) 0 (D * nMux (state .scheme .settings))) in
     let r = and-right (ltb (state .position) D) _ h in
     record {
       position = ltb-true _ _ (and-left _ (ltb (state .count) D && cells) h);
@@ -85,21 +87,21 @@ unfolding inOrder
 in-order state memory h = both (lt-ltb _ _ (h .position)) (both (lt-ltb _ _ (h .count)) (h .cells))
 
 -- Reset: 0 exactly if the settings are allowed and memory has their length.
-module _ (old : State) (s : Settings) (memory : List ℤ) where
+module _ (old : State) (s : Scheme) (memory : List ℤ) where
   pub reset-fits : resetRefusal s memory ≡ 0 → Fits s memory
   unfolding resetRefusal
   reset-fits h =
-      let a = first-own (refusal s) _ h in
-      let b = first-zero (not (eqb (length memory) (memoryLength s))) 8 0 (omega arith) (a .1) in
-      record { settings = a .0; long = eqb-true _ _ (not-false _ (b .0)) }
+      let a = first-own (schemeRefusal s) _ h in
+      let b = first-zero (not (eqb (length memory) (memoryLength (s .settings)))) 8 0 (omega arith) (a .1) in
+      record { scheme = a .0; long = eqb-true _ _ (not-false _ (b .0)) }
 
   pub fits-reset : Fits s memory → resetRefusal s memory ≡ 0
   unfolding resetRefusal first
-  fits-reset h = rw (h .settings, eq-eqb _ _ (h .long))
+  fits-reset h = rw (h .scheme, eq-eqb _ _ (h .long))
 
   -- What an accepted and what a refused Reset yields.
   pub reset-accepts : resetRefusal s memory ≡ 0
-      → resetOf old s memory ≡ record { done = record { refusal = 0; state = startState s }; memory = startMemory s }
+      → resetOf old s memory ≡ record { done = record { refusal = 0; state = startState s }; memory = startMemory (s .settings) }
   unfolding resetOf
   reset-accepts h = rw (eq-eqb (resetRefusal s memory) 0 h)
 
@@ -113,17 +115,17 @@ module _ (state : State) (memory : List ℤ) (c : CodeCall) where
   pub code-fits : codeRefusal state memory c ≡ 0 → CodeFits state memory c
   unfolding codeRefusal
   code-fits h =
-      let s = state .settings in
-      let a = first-own (refusal s) _ h in
-      let b = first-zero (not (eqb (length memory) (memoryLength s))) 8 _ (omega arith) (a .1) in
-      let d = first-zero (not (byteLengths s (c .fac) (c .sdc) (c .msc))) 9 _ (omega arith) (b .1) in
-      let e = first-zero (not (cellLengths s (c .faccells) (c .sdccells) (c .msccells))) 10 _ (omega arith) (d .1) in
-      let f = first-zero (not (sparesZero s (c .sdc) (c .msc))) 11 _ (omega arith) (e .1) in
+      let s = state .scheme in
+      let a = first-own (schemeRefusal s) _ h in
+      let b = first-zero (not (eqb (length memory) (memoryLength (s .settings)))) 8 _ (omega arith) (a .1) in
+      let d = first-zero (not (byteLengths (s .settings) (c .fac) (c .sdc) (c .msc))) 9 _ (omega arith) (b .1) in
+      let e = first-zero (not (cellLengths (s .settings) (c .faccells) (c .sdccells) (c .msccells))) 10 _ (omega arith) (d .1) in
+      let f = first-zero (not (sparesZero (s .settings) (c .sdc) (c .msc))) 11 _ (omega arith) (e .1) in
       let g = first-zero (not (inOrder state memory)) 12 0 (omega arith) (f .1) in
       record {
-        fits = record { settings = a .0; long = eqb-true _ _ (not-false _ (b .0)) };
-        bytes = bytes-fit s _ _ _ (not-false _ (d .0));
-        cells = cells-fit s _ _ _ (not-false _ (e .0));
+        fits = record { scheme = a .0; long = eqb-true _ _ (not-false _ (b .0)) };
+        bytes = bytes-fit (s .settings) _ _ _ (not-false _ (d .0));
+        cells = cells-fit (s .settings) _ _ _ (not-false _ (e .0));
         spares = not-false _ (f .0);
         order = ordered state memory (not-false _ (g .0));
       }
@@ -131,8 +133,8 @@ module _ (state : State) (memory : List ℤ) (c : CodeCall) where
   pub fits-code : CodeFits state memory c → codeRefusal state memory c ≡ 0
   unfolding codeRefusal first
   fits-code h =
-      let s = state .settings in
-      rw (h .fits .settings, eq-eqb _ _ (h .fits .long), fit-bytes s _ _ _ (h .bytes), fit-cells s _ _ _ (h .cells), h .spares, in-order state memory (h .order))
+      let s = state .scheme in
+      rw (h .fits .scheme, eq-eqb _ _ (h .fits .long), fit-bytes (s .settings) _ _ _ (h .bytes), fit-cells (s .settings) _ _ _ (h .cells), h .spares, in-order state memory (h .order))
 
   -- What an accepted and what a refused call yields.
   pub code-accepts : codeRefusal state memory c ≡ 0 → codeOf state memory c ≡ codeAccepted state memory c
@@ -148,50 +150,50 @@ module _ (state : State) (memory : List ℤ) (c : ReadCall) where
   pub read-fits : orderRefusal state memory c ≡ 0 → ReadFits state memory c
   unfolding orderRefusal
   read-fits h =
-      let s = state .settings in
-      let a = first-own (refusal s) _ h in
-      let b = first-zero (not (eqb (length memory) (memoryLength s))) 8 _ (omega arith) (a .1) in
-      let d = first-zero (not (cellLengths s (c .faccells) (c .sdccells) (c .msccells))) 9 _ (omega arith) (b .1) in
-      let e = first-zero (not (byteLengths s (c .fac) (c .sdc) (c .msc))) 10 _ (omega arith) (d .1) in
+      let s = state .scheme in
+      let a = first-own (schemeRefusal s) _ h in
+      let b = first-zero (not (eqb (length memory) (memoryLength (s .settings)))) 8 _ (omega arith) (a .1) in
+      let d = first-zero (not (cellLengths (s .settings) (c .faccells) (c .sdccells) (c .msccells))) 9 _ (omega arith) (b .1) in
+      let e = first-zero (not (byteLengths (s .settings) (c .fac) (c .sdc) (c .msc))) 10 _ (omega arith) (d .1) in
       let g = first-zero (not (inOrder state memory)) 12 0 (omega arith) (e .1) in
       record {
-        fits = record { settings = a .0; long = eqb-true _ _ (not-false _ (b .0)) };
-        cells = cells-fit s _ _ _ (not-false _ (d .0));
-        bytes = bytes-fit s _ _ _ (not-false _ (e .0));
+        fits = record { scheme = a .0; long = eqb-true _ _ (not-false _ (b .0)) };
+        cells = cells-fit (s .settings) _ _ _ (not-false _ (d .0));
+        bytes = bytes-fit (s .settings) _ _ _ (not-false _ (e .0));
         order = ordered state memory (not-false _ (g .0));
       }
 
   pub fits-read : ReadFits state memory c → orderRefusal state memory c ≡ 0
   unfolding orderRefusal first
   fits-read h =
-      let s = state .settings in
-      rw (h .fits .settings, eq-eqb _ _ (h .fits .long), fit-cells s _ _ _ (h .cells), fit-bytes s _ _ _ (h .bytes), in-order state memory (h .order))
+      let s = state .scheme in
+      rw (h .fits .scheme, eq-eqb _ _ (h .fits .long), fit-cells (s .settings) _ _ _ (h .cells), fit-bytes (s .settings) _ _ _ (h .bytes), in-order state memory (h .order))
 
   -- The answer, case by case.
   pub answer-order : (r : ℕ) → orderRefusal state memory c ≡ r → 0 < r → answerOf state memory c ≡ Refused r 0
   unfolding answerOf
   answer-order r h p = rw (h, lt-ltb 0 r p)
 
-  pub answer-points : orderRefusal state memory c ≡ 0 → every (pointTests (state .settings) (state .count) c) ≡ false
-      → answerOf state memory c ≡ Refused 13 (firstFault (pointTests (state .settings) (state .count) c))
+  pub answer-points : orderRefusal state memory c ≡ 0 → every (pointTests (state .scheme) (state .count) c) ≡ false
+      → answerOf state memory c ≡ Refused 13 (firstFault (pointTests (state .scheme) (state .count) c))
   unfolding answerOf
   answer-points h p = rw (h, p)
 
-  pub answer-blocks : orderRefusal state memory c ≡ 0 → every (pointTests (state .settings) (state .count) c) ≡ true
-      → every (givenTests (state .settings) (progressOf state memory) c) ≡ false
-      → answerOf state memory c ≡ Refused 14 (firstFault (givenTests (state .settings) (progressOf state memory) c))
+  pub answer-blocks : orderRefusal state memory c ≡ 0 → every (pointTests (state .scheme) (state .count) c) ≡ true
+      → every (givenTests (state .scheme) (progressOf state memory) c) ≡ false
+      → answerOf state memory c ≡ Refused 14 (firstFault (givenTests (state .scheme) (progressOf state memory) c))
   unfolding answerOf
   answer-blocks h p g = rw (h, p, g)
 
-  pub answer-finished : orderRefusal state memory c ≡ 0 → every (pointTests (state .settings) (state .count) c) ≡ true
-      → every (givenTests (state .settings) (progressOf state memory) c) ≡ true
-      → answerOf state memory c ≡ Finished (length (finishedFrames (state .settings) (progressOf state memory) (rowsOf (state .settings) (c .msccells))))
+  pub answer-finished : orderRefusal state memory c ≡ 0 → every (pointTests (state .scheme) (state .count) c) ≡ true
+      → every (givenTests (state .scheme) (progressOf state memory) c) ≡ true
+      → answerOf state memory c ≡ Finished (length (finishedFrames (state .scheme .settings) (progressOf state memory) (rowsOf (state .scheme .settings) (c .msccells))))
   unfolding answerOf
   answer-finished h p g = rw (h, p, g)
 
   -- What an accepted and what a refused call yields.
-  pub read-accepts : orderRefusal state memory c ≡ 0 → every (pointTests (state .settings) (state .count) c) ≡ true
-      → every (givenTests (state .settings) (progressOf state memory) c) ≡ true
+  pub read-accepts : orderRefusal state memory c ≡ 0 → every (pointTests (state .scheme) (state .count) c) ≡ true
+      → every (givenTests (state .scheme) (progressOf state memory) c) ≡ true
       → readOf state memory c ≡ readAccepted state memory c
   unfolding readOf answerNumber
   read-accepts h p g = rw (answer-finished h p g)

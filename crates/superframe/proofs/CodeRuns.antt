@@ -12,8 +12,9 @@ use lib.IntN.{ℤ}
 use borrow.Author.Tests.{ne-eqb, eq-eqb}
 use Rattle.lists.specs.Lists.{table}
 use Rattle.lists.proofs.Tables.{length-table, table-at, table-ext, table-from}
-use Rattle.settings.specs.declared.Settings.{Settings}
-use Rattle.settings.specs.Refusal.{first, refusal}
+use Rattle.channels.specs.declared.Scheme.{Scheme}
+use Rattle.settings.specs.Refusal.{first}
+use Rattle.channels.specs.Scheme.{schemeRefusal}
 use Rattle.settings.specs.Sizes.{frameBytes}
 use Rattle.block.specs.declared.Block.{Block}
 use Rattle.block.specs.Block.{cellsOf, cellsFrom}
@@ -23,7 +24,7 @@ use Rattle.channels.specs.Sdc.{sdcBlock}
 use Rattle.channels.specs.Msc.{mscBlock}
 use Rattle.superframe.specs.Interleaving.{Progress, afterFrames, sentRows, fillers}
 use Rattle.superframe.specs.declared.State.{State}
-use Rattle.superframe.specs.Call.{part, parts, joined, memoryLength}
+use Rattle.superframe.specs.Call.{part, parts, joined, facBytes, memoryLength}
 use Rattle.superframe.specs.Code.{CodeCall, codeRefusal, codeAccepted, codeRefused, codeOf, progressOf, stateOf, frameCells, byteLengths, cellLengths, sparesZero}
 use Rattle.superframe.specs.Contracts.{Fits, Ordered}
 use Rattle.superframe.specs.Runs.{Bits, noBits, bitsOf, codes, brought, sent, refusals}
@@ -39,20 +40,20 @@ use Rattle.superframe.proofs.Coder.{storedAge, coder-rows, coder-after}
 use Rattle.superframe.proofs.Calls.{code-accepts, code-refuses, in-order}
 
 -- What an accepted call brings, before what the calls after it bring.
-unfoldable pub bringing : Settings → CodeCall → Bits → Bits
+unfoldable pub bringing : Scheme → CodeCall → Bits → Bits
 bringing s c rest =
     record {
-      fac = map (bitsOf facBlock) (parts 9 (c .fac)) ++ rest .fac;
+      fac = map (bitsOf (facBlock s)) (parts facBytes (c .fac)) ++ rest .fac;
       sdc = bitsOf (sdcBlock s) (c .sdc) ∷ rest .sdc;
-      frames = map (bitsOf (mscBlock s)) (parts (frameBytes s) (c .msc)) ++ rest .frames;
+      frames = map (bitsOf (mscBlock s)) (parts (frameBytes (s .settings)) (c .msc)) ++ rest .frames;
     }
 
 -- Memory and state after an accepted call.
-unfoldable pub coded : Settings → Progress → CodeCall → Progress
-coded s q c = afterFrames s q (frameCells s (c .msc))
+unfoldable pub coded : Scheme → Progress → CodeCall → Progress
+coded s q c = afterFrames (s .settings) q (frameCells s (c .msc))
 
 -- An accepted call, and a refused one, in a list of calls.
-module _ (s : Settings) (q : Progress) (c : CodeCall) (cs : List CodeCall) where
+module _ (s : Scheme) (q : Progress) (c : CodeCall) (cs : List CodeCall) where
   module _ (h : codeRefusal (stateOf s q) (q .memory) c ≡ 0) where
     pub brought-accepted : brought (stateOf s q) (q .memory) (c ∷ cs) ≡ bringing s c (brought (stateOf s (coded s q c)) (coded s q c .memory) cs)
     unfolding brought codes bringing codeAccepted coded stateOf progressOf
@@ -71,7 +72,7 @@ module _ (s : Settings) (q : Progress) (c : CodeCall) (cs : List CodeCall) where
     brought-refused = rw (not-coded, refused)
 
 -- What holds of no calls, and of a call before others, accepted or refused, if it holds of the others, holds of every list of calls.
-calls-all : (s : Settings) (P : List CodeCall → Progress → Type 0)
+calls-all : (s : Scheme) (P : List CodeCall → Progress → Type 0)
     → ((q : Progress) → P [] q)
     → ((c : CodeCall) (cs : List CodeCall) (q : Progress) → codeRefusal (stateOf s q) (q .memory) c ≡ 0 → P cs (coded s q c) → P (c ∷ cs) q)
     → ((c : CodeCall) (cs : List CodeCall) (q : Progress) → 0 < codeRefusal (stateOf s q) (q .memory) c → P cs q → P (c ∷ cs) q)
@@ -125,8 +126,8 @@ module _ (k : Block) (n : ℕ) (bytes : List ℕ) (l ys : List (List ℕ)) (a : 
       ∙ table-ext _ _ 0 3 (λ i x y. from-bits k (part n bytes i) ∙ ap (cellsOf k) (sym (three-bits i (omega arith))))
 
 -- A call that is accepted stands ahead; after it stand the bits that the calls after it bring.
-module _ (s : Settings) (B : Bits) (m : ℕ) (call : CodeCall) (rest : Bits) (A : Ahead B m (bringing s call rest)) where
-  fac-ahead : drop (3 * m) (B .fac) ≡ map (bitsOf facBlock) (parts 9 (call .fac)) ++ rest .fac
+module _ (s : Scheme) (B : Bits) (m : ℕ) (call : CodeCall) (rest : Bits) (A : Ahead B m (bringing s call rest)) where
+  fac-ahead : drop (3 * m) (B .fac) ≡ map (bitsOf (facBlock s)) (parts facBytes (call .fac)) ++ rest .fac
   unfolding bringing
   fac-ahead = A .fac
 
@@ -134,7 +135,7 @@ module _ (s : Settings) (B : Bits) (m : ℕ) (call : CodeCall) (rest : Bits) (A 
   unfolding bringing
   sdc-ahead = A .sdc
 
-  frames-ahead : drop (3 * m) (B .frames) ≡ map (bitsOf (mscBlock s)) (parts (frameBytes s) (call .msc)) ++ rest .frames
+  frames-ahead : drop (3 * m) (B .frames) ≡ map (bitsOf (mscBlock s)) (parts (frameBytes (s .settings)) (call .msc)) ++ rest .frames
   unfolding bringing
   frames-ahead = A .frames
 
@@ -143,46 +144,46 @@ module _ (s : Settings) (B : Bits) (m : ℕ) (call : CodeCall) (rest : Bits) (A 
       let e : 3 * suc m ≡ 3 * m + 3 = omega arith in
       let g : suc m ≡ m + 1 = omega arith in
       record {
-        fac = rw e (three-after facBlock 9 (call .fac) (B .fac) (rest .fac) (3 * m) fac-ahead);
+        fac = rw e (three-after (facBlock s) facBytes (call .fac) (B .fac) (rest .fac) (3 * m) fac-ahead);
         sdc = rw g (past-front (B .sdc) (bitsOf (sdcBlock s) (call .sdc) ∷ []) (rest .sdc) m 1 sdc-ahead refl);
-        frames = rw e (three-after (mscBlock s) (frameBytes s) (call .msc) (B .frames) (rest .frames) (3 * m) frames-ahead);
+        frames = rw e (three-after (mscBlock s) (frameBytes (s .settings)) (call .msc) (B .frames) (rest .frames) (3 * m) frames-ahead);
       }
 
   -- There are three frames more.
   pub more-frames : 3 * suc m ≤ length (B .frames)
   more-frames =
       let e = ap length frames-ahead in
-      omega (arith, rw length-drop at e, three-more (mscBlock s) (frameBytes s) (call .msc) (rest .frames))
+      omega (arith, rw length-drop at e, three-more (mscBlock s) (frameBytes (s .settings)) (call .msc) (rest .frames))
 
   -- Its frames are frames 3m to 3m + 2.
   pub frames-of : frameCells s (call .msc) ≡ table (frameAt s (B .frames)) (3 * m) 3
   unfolding frameCells frameAt
   frames-of =
-      three-cells (mscBlock s) (frameBytes s) (call .msc) (B .frames) (rest .frames) (3 * m) frames-ahead
+      three-cells (mscBlock s) (frameBytes (s .settings)) (call .msc) (B .frames) (rest .frames) (3 * m) frames-ahead
       ∙ sym (table-from (frameAt s (B .frames)) (3 * m) 3)
 
   -- With memory as the frames before leave it, its cells are the standard's super frame m, and memory goes on.
   module _ (c : Coding s) (q : Progress) (K : Keeps s (frameAt s (B .frames)) storedAge (3 * m) q) where
     pub frame-of : record {
-      fac = joined (map (cellsFrom facBlock) (parts 9 (call .fac)));
+      fac = joined (map (cellsFrom (facBlock s)) (parts facBytes (call .fac)));
       sdc = cellsFrom (sdcBlock s) (call .sdc);
-      msc = sentRows s q (frameCells s (call .msc)) ++ fillers s;
+      msc = sentRows (s .settings) q (frameCells s (call .msc)) ++ fillers (s .settings);
     } ≡ superFrame s B m
     unfolding superFrame
     frame-of = λ i. record { fac = fac-of i; sdc = sdc-of i; msc = msc-of i }
       where
-        fac-of : joined (map (cellsFrom facBlock) (parts 9 (call .fac))) ≡ joined (table (λ i. cellsOf facBlock (getD (B .fac) (3 * m + i) [])) 0 3)
-        fac-of = ap joined (three-cells facBlock 9 (call .fac) (B .fac) (rest .fac) (3 * m) fac-ahead)
+        fac-of : joined (map (cellsFrom (facBlock s)) (parts facBytes (call .fac))) ≡ joined (table (λ i. cellsOf (facBlock s) (getD (B .fac) (3 * m + i) [])) 0 3)
+        fac-of = ap joined (three-cells (facBlock s) facBytes (call .fac) (B .fac) (rest .fac) (3 * m) fac-ahead)
 
         sdc-of : cellsFrom (sdcBlock s) (call .sdc) ≡ cellsOf (sdcBlock s) (getD (B .sdc) m [])
         sdc-of =
             from-bits (sdcBlock s) (call .sdc)
             ∙ ap (cellsOf (sdcBlock s)) (sym (rw add-zero at (at-front (B .sdc) (bitsOf (sdcBlock s) (call .sdc) ∷ []) (rest .sdc) m 0 [] sdc-ahead (omega arith))))
 
-        msc-of : sentRows s q (frameCells s (call .msc)) ++ fillers s ≡ joined (table (λ i. standardRow s (B .frames) (3 * m + i)) 0 3) ++ fillers s
+        msc-of : sentRows (s .settings) q (frameCells s (call .msc)) ++ fillers (s .settings) ≡ joined (table (λ i. standardRow s (B .frames) (3 * m + i)) 0 3) ++ fillers (s .settings)
         msc-of =
-            ap (λ l. l ++ fillers s)
-            (ap (sentRows s q) frames-of ∙ coder-rows s c (B .frames) 3 (3 * m) q K ∙ ap joined (table-from (standardRow s (B .frames)) (3 * m) 3))
+            ap (λ l. l ++ fillers (s .settings))
+            (ap (sentRows (s .settings) q) frames-of ∙ coder-rows s c (B .frames) 3 (3 * m) q K ∙ ap joined (table-from (standardRow s (B .frames)) (3 * m) 3))
 
     pub coded-keeps : Keeps s (frameAt s (B .frames)) storedAge (3 * suc m) (coded s q call)
     unfolding coded
@@ -191,10 +192,10 @@ module _ (s : Settings) (B : Bits) (m : ℕ) (call : CodeCall) (rest : Bits) (A 
         rw (e, frames-of) (coder-after s c (B .frames) 3 (3 * m) q K)
 
 -- Whole super frames of bits: three FAC blocks and three multiplex frames for each SDC block.
-pub record Whole (s : Settings) (B : Bits) : Type 0 where
+pub record Whole (s : Scheme) (B : Bits) : Type 0 where
   pub fac : length (B .fac) ≡ 3 * length (B .sdc)
   pub frames : length (B .frames) ≡ 3 * length (B .sdc)
-  pub facBits : AllBits facBlock (B .fac)
+  pub facBits : AllBits (facBlock s) (B .fac)
   pub sdcBits : AllBits (sdcBlock s) (B .sdc)
   pub frameBits : AllBits (mscBlock s) (B .frames)
 
@@ -207,23 +208,23 @@ all-unpacked : (k : Block) (l : List (List ℕ)) → AllBits k (map (bitsOf k) l
 all-unpacked k [] = none
 all-unpacked k (x ∷ l) = more (bits-of k x) (all-unpacked k l)
 
-bringing-whole : (s : Settings) (c : CodeCall) (B : Bits) → Whole s B → Whole s (bringing s c B)
+bringing-whole : (s : Scheme) (c : CodeCall) (B : Bits) → Whole s B → Whole s (bringing s c B)
 unfolding bringing
 bringing-whole s c B w =
     record {
-      fac = three-more facBlock 9 (c .fac) (B .fac) ∙ omega (arith, w .fac);
-      frames = three-more (mscBlock s) (frameBytes s) (c .msc) (B .frames) ∙ omega (arith, w .frames);
-      facBits = all-append (all-unpacked facBlock (parts 9 (c .fac))) (w .facBits);
+      fac = three-more (facBlock s) facBytes (c .fac) (B .fac) ∙ omega (arith, w .fac);
+      frames = three-more (mscBlock s) (frameBytes (s .settings)) (c .msc) (B .frames) ∙ omega (arith, w .frames);
+      facBits = all-append (all-unpacked (facBlock s) (parts facBytes (c .fac))) (w .facBits);
       sdcBits = more (bits-of (sdcBlock s) (c .sdc)) (w .sdcBits);
-      frameBits = all-append (all-unpacked (mscBlock s) (parts (frameBytes s) (c .msc))) (w .frameBits);
+      frameBits = all-append (all-unpacked (mscBlock s) (parts (frameBytes (s .settings)) (c .msc))) (w .frameBits);
     }
 
 -- A list of calls brings whole super frames of bits.
-none-whole : (s : Settings) (q : Progress) → Whole s (brought (stateOf s q) (q .memory) [])
+none-whole : (s : Scheme) (q : Progress) → Whole s (brought (stateOf s q) (q .memory) [])
 unfolding brought noBits
 none-whole s q = record { fac = refl; frames = refl; facBits = none; sdcBits = none; frameBits = none }
 
-pub brought-whole : (s : Settings) (calls : List CodeCall) (q : Progress) → Whole s (brought (stateOf s q) (q .memory) calls)
+pub brought-whole : (s : Scheme) (calls : List CodeCall) (q : Progress) → Whole s (brought (stateOf s q) (q .memory) calls)
 brought-whole s =
     calls-all s (λ cs q. Whole s (brought (stateOf s q) (q .memory) cs)) (none-whole s)
     (λ c cs q h next. rw (brought-accepted s q c cs h) (bringing-whole s c _ next))
@@ -237,21 +238,21 @@ of-a-run true true false = refl
 of-a-run true false d = refl
 of-a-run false b d = refl
 
-run-refusal : (state : State) (memory : List ℤ) (c : CodeCall) → Fits (state .settings) memory → Ordered state memory → runNumber (codeRefusal state memory c) ≡ true
+run-refusal : (state : State) (memory : List ℤ) (c : CodeCall) → Fits (state .scheme) memory → Ordered state memory → runNumber (codeRefusal state memory c) ≡ true
 unfolding codeRefusal first
 run-refusal state memory c f o =
-    let s = state .settings in
-    rw (f .settings, eq-eqb _ _ (f .long), in-order state memory o)
-    (of-a-run (byteLengths s (c .fac) (c .sdc) (c .msc)) (cellLengths s (c .faccells) (c .sdccells) (c .msccells)) (sparesZero s (c .sdc) (c .msc)))
+    let s = state .scheme in
+    rw (f .scheme, eq-eqb _ _ (f .long), in-order state memory o)
+    (of-a-run (byteLengths (s .settings) (c .fac) (c .sdc) (c .msc)) (cellLengths (s .settings) (c .faccells) (c .sdccells) (c .msccells)) (sparesZero (s .settings) (c .sdc) (c .msc)))
 
 -- A list of calls from super frame m on, whose memory keeps the frames before: its cells are the standard's super frames, and it is refused by 9, 10 or 11 only.
-module _ (s : Settings) (c : Coding s) (allowed : refusal s ≡ 0) (B : Bits) (w : Whole s B) where
+module _ (s : Scheme) (c : Coding s) (allowed : schemeRefusal s ≡ 0) (B : Bits) (w : Whole s B) where
   keeps-run : (m : ℕ) (q : Progress) → Keeps s (frameAt s (B .frames)) storedAge (3 * m) q → 3 * m ≤ length (B .frames) → (call : CodeCall)
       → runNumber (codeRefusal (stateOf s q) (q .memory) call) ≡ true
   unfolding stateOf memoryLength
   keeps-run m q K low call =
       run-refusal (stateOf s q) (q .memory) call
-      (record { settings = allowed; long = K .long })
+      (record { scheme = allowed; long = K .long })
       (keeps-ordered s c (frameAt s (B .frames)) storedAge (λ d i. refl) (3 * m) q K (λ i h. frame-good s c (B .frames) i (all-at (w .frameBits) i (omega arith))))
 
   abbrev Coded : List CodeCall → Progress → Type 0

@@ -8,6 +8,7 @@ use lib.ListN.{length, getD}
 use lib.IntN.{ℤ, pos}
 use lib.Dec.{eqb}
 use Rattle.settings.specs.declared.Settings.{Settings}
+use Rattle.channels.specs.declared.Scheme.{Scheme}
 use Rattle.settings.specs.Cells.{facCells}
 use Rattle.settings.specs.Lengths.{nMux, nSfa, nSdc, lSdc}
 use Rattle.settings.specs.Sizes.{depth, frameBits, frameBytes, sdcBytes}
@@ -19,6 +20,7 @@ use Rattle.block.specs.Reading.{given, bytesRead}
 use Rattle.channels.specs.Fac.{facBlock}
 use Rattle.channels.specs.Sdc.{sdcBlock}
 use Rattle.channels.specs.Msc.{mscBlock}
+use Rattle.superframe.specs.Call.{facBytes}
 use Rattle.superframe.specs.Memory.{slotSize}
 use Rattle.superframe.specs.Runs.{bitsOf}
 use Rattle.block.specs.Fits.{BlockBits}
@@ -48,27 +50,27 @@ pub record Recovers (k : Block) (bytes : ℕ) : Type 0 where
   pub reads : ReadsBytes k
   pub long : (cells : List ℤ) → length (bytesRead k cells) ≡ bytes
 
--- A settings' coding: frames long enough to be interleaved, room for three of them and at most two fillers, and three kinds of block that are recovered.
-pub record Coding (s : Settings) : Type 0 where
-  pub big : 5 ≤ nMux s
-  pub room : 3 * nMux s ≤ nSfa s
-  pub few : nSfa s ≤ 3 * nMux s + 2
-  pub fac : Recovers facBlock 9
-  pub sdc : Recovers (sdcBlock s) (sdcBytes s)
-  pub msc : Recovers (mscBlock s) (frameBytes s)
-  pub sdcBits : bitCount (sdcBlock s) ≡ lSdc s
-  pub mscBits : bitCount (mscBlock s) ≡ frameBits s
+-- A scheme's coding: frames long enough to be interleaved, room for three of them and at most two fillers, and three kinds of block that are recovered.
+pub record Coding (s : Scheme) : Type 0 where
+  pub big : 5 ≤ nMux (s .settings)
+  pub room : 3 * nMux (s .settings) ≤ nSfa (s .settings)
+  pub few : nSfa (s .settings) ≤ 3 * nMux (s .settings) + 2
+  pub fac : Recovers (facBlock s) facBytes
+  pub sdc : Recovers (sdcBlock s) (sdcBytes (s .settings))
+  pub msc : Recovers (mscBlock s) (frameBytes (s .settings))
+  pub sdcBits : bitCount (sdcBlock s) ≡ lSdc (s .settings)
+  pub mscBits : bitCount (mscBlock s) ≡ frameBits (s .settings)
 
 -- The cells of each kind of block are as many as it says.
-pub fac-long : (x : List ℕ) → length (cellsOf facBlock x) ≡ 2 * facCells
+pub fac-long : (s : Scheme) (x : List ℕ) → length (cellsOf (facBlock s) x) ≡ 2 * facCells
 unfolding facBlock
-fac-long x = length-cells facBlock x
+fac-long s x = length-cells (facBlock s) x
 
-pub sdc-long : (s : Settings) (x : List ℕ) → length (cellsOf (sdcBlock s) x) ≡ 2 * nSdc s
+pub sdc-long : (s : Scheme) (x : List ℕ) → length (cellsOf (sdcBlock s) x) ≡ 2 * nSdc (s .settings)
 unfolding sdcBlock
 sdc-long s x = length-cells (sdcBlock s) x
 
-pub msc-long : (s : Settings) (x : List ℕ) → length (cellsOf (mscBlock s) x) ≡ slotSize s
+pub msc-long : (s : Scheme) (x : List ℕ) → length (cellsOf (mscBlock s) x) ≡ slotSize (s .settings)
 unfolding mscBlock slotSize
 msc-long s x = length-cells (mscBlock s) x
 

@@ -14,6 +14,7 @@ use Rattle.lists.proofs.Counting.{below-or}
 use Rattle.lists.proofs.Parts.{getD-any}
 use Rattle.lists.proofs.Tables.{length-table}
 use Rattle.settings.specs.declared.Settings.{Settings}
+use Rattle.channels.specs.declared.Scheme.{Scheme}
 use Rattle.settings.specs.Cells.{facCells}
 use Rattle.settings.specs.Lengths.{nMux, nSdc}
 use Rattle.settings.specs.Sizes.{depth}
@@ -85,30 +86,30 @@ part-long n l h (suc (suc zero)) b = rw (length-take, length-drop) (omega arith)
 part-long n l h (suc (suc (suc i))) b = absurd (omega arith)
 
 -- A row fails by a cell that is not ignored and is no point.
-rows-fail : (s : Settings) (count : ℕ) (row : List ℤ) → rowPoints s count row ≡ false
-    → (j : ℕ) × (j < nMux s) × (delay (depth s) (2 * j) ≤ count) × (cellIsPoint (pointsOf (mscBlock s)) row j ≡ false)
+rows-fail : (s : Scheme) (count : ℕ) (row : List ℤ) → rowPoints s count row ≡ false
+    → (j : ℕ) × (j < nMux (s .settings)) × (delay (depth (s .settings)) (2 * j) ≤ count) × (cellIsPoint (pointsOf (mscBlock s)) row j ≡ false)
 unfolding rowPoints rowCell cellIsPoint
 rows-fail s count row h =
-    let r = fails-at (rowCell s count row) 0 (nMux s) h in
+    let r = fails-at (rowCell s count row) 0 (nMux (s .settings)) h in
     let b = r .2 in
-    let o = or-false (not (leb (delay (depth s) (2 * r .0)) count)) _ (r .3) in
+    let o = or-false (not (leb (delay (depth (s .settings)) (2 * r .0)) count)) _ (r .3) in
     (r .0, omega arith, leb-true _ _ (not-false _ (o .0)), o .1)
 
-fail-rows : (s : Settings) (count : ℕ) (row : List ℤ) (j : ℕ) → j < nMux s → delay (depth s) (2 * j) ≤ count → cellIsPoint (pointsOf (mscBlock s)) row j ≡ false → rowPoints s count row ≡ false
+fail-rows : (s : Scheme) (count : ℕ) (row : List ℤ) (j : ℕ) → j < nMux (s .settings) → delay (depth (s .settings)) (2 * j) ≤ count → cellIsPoint (pointsOf (mscBlock s)) row j ≡ false → rowPoints s count row ≡ false
 unfolding rowPoints rowCell cellIsPoint
 fail-rows s count row j h d f =
-    unless-true _ (λ x. never-both (rowCell s count row j) (table-every (rowCell s count row) (nMux s) x j h) (rw (le-leb (delay (depth s) (2 * j)) count d, f)))
+    unless-true _ (λ x. never-both (rowCell s count row j) (table-every (rowCell s count row) (nMux (s .settings)) x j h) (rw (le-leb (delay (depth (s .settings)) (2 * j)) count d, f)))
 
 -- 13 by block.
-module _ (s : Settings) (count : ℕ) (c : ReadCall) (fits : CellsFit s (c .faccells) (c .sdccells) (c .msccells)) where
-  test-fac : (b : ℕ) → b < 3 → getD (pointTests s count c) b true ≡ arePoints (pointsOf facBlock) (part (2 * facCells) (c .faccells) b)
+module _ (s : Scheme) (count : ℕ) (c : ReadCall) (fits : CellsFit (s .settings) (c .faccells) (c .sdccells) (c .msccells)) where
+  test-fac : (b : ℕ) → b < 3 → getD (pointTests s count c) b true ≡ arePoints (pointsOf (facBlock s)) (part (2 * facCells) (c .faccells) b)
   unfolding pointTests parts table
   test-fac zero h = refl
   test-fac (suc zero) h = refl
   test-fac (suc (suc zero)) h = refl
   test-fac (suc (suc (suc b))) h = absurd (omega arith)
 
-  test-row : (i : ℕ) → i < 3 → getD (pointTests s count c) (4 + i) true ≡ rowPoints s (countAt s count i) (part (slotSize s) (c .msccells) i)
+  test-row : (i : ℕ) → i < 3 → getD (pointTests s count c) (4 + i) true ≡ rowPoints s (countAt (s .settings) count i) (part (slotSize (s .settings)) (c .msccells) i)
   unfolding pointTests parts table
   test-row zero h = refl
   test-row (suc zero) h = refl
@@ -124,30 +125,30 @@ module _ (s : Settings) (count : ℕ) (c : ReadCall) (fits : CellsFit s (c .facc
     where
       go : (b < 3) ⊎ (3 ≤ b) → (b < 4) ⊎ (4 ≤ b) → (b < 7) ⊎ (7 ≤ b) → (b < 8) ⊎ (8 ≤ b) → NoPoint s count c b
       go (inl x) y z w =
-          let r = cells-fail (pointsOf facBlock) (part (2 * facCells) (c .faccells) b) facCells (fac-room b x) (sym (test-fac b x) ∙ h) in
+          let r = cells-fail (pointsOf (facBlock s)) (part (2 * facCells) (c .faccells) b) facCells (fac-room b x) (sym (test-fac b x) ∙ h) in
           inFac (r .0) x (r .1) (r .2)
       go (inr x) (inl y) z w =
           let e : b ≡ 3 = omega arith in
-          let r = cells-fail (pointsOf (sdcBlock s)) (c .sdccells) (nSdc s) (fits .sdclong) (rw e at h) in
+          let r = cells-fail (pointsOf (sdcBlock s)) (c .sdccells) (nSdc (s .settings)) (fits .sdclong) (rw e at h) in
           inSdc (r .0) e (r .1) (r .2)
       go (inr x) (inr y) (inl z) w =
           let i = b - 4 in
           let e : b ≡ 4 + i = omega arith in
           let l : i < 3 = omega arith in
           let g : getD (pointTests s count c) (4 + i) true ≡ false = rw (← e) h in
-          let r = rows-fail s (countAt s count i) (part (slotSize s) (c .msccells) i) (sym (test-row i l) ∙ g) in
+          let r = rows-fail s (countAt (s .settings) count i) (part (slotSize (s .settings)) (c .msccells) i) (sym (test-row i l) ∙ g) in
           inRow i (r .0) e l (r .1) (r .2) (r .3)
       go (inr x) (inr y) (inr z) (inl w) =
           let e : b ≡ 7 = omega arith in
-          inFillers e (λ p. never-both _ (rw p (sameNumbers-refl (fillers s))) (rw e at h))
+          inFillers e (λ p. never-both _ (rw p (sameNumbers-refl (fillers (s .settings)))) (rw e at h))
       go (inr x) (inr y) (inr z) (inr w) = absurd (never-both _ (List·getD-eq-default (pointTests s count c) true {n = b} w) h)
 
   point-fails : (b : ℕ) → NoPoint s count c b → getD (pointTests s count c) b true ≡ false
   unfolding pointTests parts table
-  point-fails b (inFac j l h f) = test-fac b l ∙ fail-cells (pointsOf facBlock) (part (2 * facCells) (c .faccells) b) facCells (fac-room b l) j h f
-  point-fails b (inSdc j e h f) = rw e (fail-cells (pointsOf (sdcBlock s)) (c .sdccells) (nSdc s) (fits .sdclong) j h f)
-  point-fails b (inRow i j e l h d f) = rw e (test-row i l ∙ fail-rows s (countAt s count i) (part (slotSize s) (c .msccells) i) j h d f)
-  point-fails b (inFillers e f) = rw e (unless-true _ (λ x. f (sameNumbers-true (fillersOf s (c .msccells)) (fillers s) x)))
+  point-fails b (inFac j l h f) = test-fac b l ∙ fail-cells (pointsOf (facBlock s)) (part (2 * facCells) (c .faccells) b) facCells (fac-room b l) j h f
+  point-fails b (inSdc j e h f) = rw e (fail-cells (pointsOf (sdcBlock s)) (c .sdccells) (nSdc (s .settings)) (fits .sdclong) j h f)
+  point-fails b (inRow i j e l h d f) = rw e (test-row i l ∙ fail-rows s (countAt (s .settings) count i) (part (slotSize (s .settings)) (c .msccells) i) j h d f)
+  point-fails b (inFillers e f) = rw e (unless-true _ (λ x. f (sameNumbers-true (fillersOf (s .settings) (c .msccells)) (fillers (s .settings)) x)))
 
   -- A test of 13 fails exactly if its block has a cell not ignored that is no point, or a wrong filler.
   pub points-mean : (b : ℕ) → (getD (pointTests s count c) b true ≡ false) ↔ NoPoint s count c b
@@ -166,8 +167,8 @@ pub getD-map : {A B : Type 0} (f : A → B) (l : List A) (i : ℕ) (d : A) (z : 
 getD-map f l i d z h = getD-any (map f l) i z (f d) (rw length-map h) ∙ List·getD-map f l i d
 
 -- 14 by block.
-module _ (s : Settings) (C : Coding s) (q : Progress) (c : ReadCall) where
-  pub given-fac : (b : ℕ) → b < 3 → getD (givenTests s q c) b true ≡ given facBlock (part (2 * facCells) (c .faccells) b)
+module _ (s : Scheme) (C : Coding s) (q : Progress) (c : ReadCall) where
+  pub given-fac : (b : ℕ) → b < 3 → getD (givenTests s q c) b true ≡ given (facBlock s) (part (2 * facCells) (c .faccells) b)
   unfolding givenTests parts table
   given-fac zero h = refl
   given-fac (suc zero) h = refl
@@ -178,23 +179,23 @@ module _ (s : Settings) (C : Coding s) (q : Progress) (c : ReadCall) where
   unfolding givenTests parts table
   given-sdc = refl
 
-  given-rest : (i : ℕ) → getD (givenTests s q c) (4 + i) true ≡ getD (map (given (mscBlock s)) (finishedFrames s q (rowsOf s (c .msccells)))) i true
+  given-rest : (i : ℕ) → getD (givenTests s q c) (4 + i) true ≡ getD (map (given (mscBlock s)) (finishedFrames (s .settings) q (rowsOf (s .settings) (c .msccells)))) i true
   unfolding givenTests parts table
   given-rest i = let e : 4 + i ≡ suc (suc (suc (suc i))) = omega arith in rw e
 
-  pub given-frame : (i : ℕ) → i < length (finishedFrames s q (rowsOf s (c .msccells)))
-      → getD (givenTests s q c) (4 + i) true ≡ given (mscBlock s) (getD (finishedFrames s q (rowsOf s (c .msccells))) i [])
-  given-frame i h = given-rest i ∙ getD-map (given (mscBlock s)) (finishedFrames s q (rowsOf s (c .msccells))) i [] true h
+  pub given-frame : (i : ℕ) → i < length (finishedFrames (s .settings) q (rowsOf (s .settings) (c .msccells)))
+      → getD (givenTests s q c) (4 + i) true ≡ given (mscBlock s) (getD (finishedFrames (s .settings) q (rowsOf (s .settings) (c .msccells))) i [])
+  given-frame i h = given-rest i ∙ getD-map (given (mscBlock s)) (finishedFrames (s .settings) q (rowsOf (s .settings) (c .msccells))) i [] true h
 
-  given-out : (i : ℕ) → length (finishedFrames s q (rowsOf s (c .msccells))) ≤ i → getD (givenTests s q c) (4 + i) true ≡ true
+  given-out : (i : ℕ) → length (finishedFrames (s .settings) q (rowsOf (s .settings) (c .msccells))) ≤ i → getD (givenTests s q c) (4 + i) true ≡ true
   given-out i h =
-      given-rest i ∙ List·getD-eq-default (map (given (mscBlock s)) (finishedFrames s q (rowsOf s (c .msccells)))) true {n = i} (rw length-map h)
+      given-rest i ∙ List·getD-eq-default (map (given (mscBlock s)) (finishedFrames (s .settings) q (rowsOf (s .settings) (c .msccells)))) true {n = i} (rw length-map h)
 
-  fails-given : (b : ℕ) → getD (givenTests s q c) b true ≡ false → NotGiven s (finishedFrames s q (rowsOf s (c .msccells))) c b
-  fails-given b h = go (below-or b 3) (below-or b 4) (below-or (b - 4) (length (finishedFrames s q (rowsOf s (c .msccells)))))
+  fails-given : (b : ℕ) → getD (givenTests s q c) b true ≡ false → NotGiven s (finishedFrames (s .settings) q (rowsOf (s .settings) (c .msccells))) c b
+  fails-given b h = go (below-or b 3) (below-or b 4) (below-or (b - 4) (length (finishedFrames (s .settings) q (rowsOf (s .settings) (c .msccells)))))
     where
-      go : (b < 3) ⊎ (3 ≤ b) → (b < 4) ⊎ (4 ≤ b) → (b - 4 < length (finishedFrames s q (rowsOf s (c .msccells)))) ⊎ (length (finishedFrames s q (rowsOf s (c .msccells))) ≤ b - 4)
-          → NotGiven s (finishedFrames s q (rowsOf s (c .msccells))) c b
+      go : (b < 3) ⊎ (3 ≤ b) → (b < 4) ⊎ (4 ≤ b) → (b - 4 < length (finishedFrames (s .settings) q (rowsOf (s .settings) (c .msccells)))) ⊎ (length (finishedFrames (s .settings) q (rowsOf (s .settings) (c .msccells))) ≤ b - 4)
+          → NotGiven s (finishedFrames (s .settings) q (rowsOf (s .settings) (c .msccells))) c b
       go (inl x) y z = ofFac x (given-means (C .fac) _ .0 (sym (given-fac b x) ∙ h))
       go (inr x) (inl y) z = let e : b ≡ 3 = omega arith in ofSdc e (given-means (C .sdc) _ .0 (sym given-sdc ∙ rw e at h))
       go (inr x) (inr y) (inl z) =
@@ -206,13 +207,13 @@ module _ (s : Settings) (C : Coding s) (q : Progress) (c : ReadCall) where
           let g : getD (givenTests s q c) (4 + (b - 4)) true ≡ false = rw (← e) h in
           absurd (never-both _ (given-out (b - 4) z) g)
 
-  given-fails : (b : ℕ) → NotGiven s (finishedFrames s q (rowsOf s (c .msccells))) c b → getD (givenTests s q c) b true ≡ false
+  given-fails : (b : ℕ) → NotGiven s (finishedFrames (s .settings) q (rowsOf (s .settings) (c .msccells))) c b → getD (givenTests s q c) b true ≡ false
   given-fails b (ofFac h f) = given-fac b h ∙ given-means (C .fac) _ .1 f
   given-fails b (ofSdc e f) = rw e (given-sdc ∙ given-means (C .sdc) _ .1 f)
   given-fails b (ofFrame i e h f) = rw e (given-frame i h ∙ given-means (C .msc) _ .1 f)
 
   -- A test of 14 fails exactly if no bits give its block.
-  pub blocks-mean : (b : ℕ) → (getD (givenTests s q c) b true ≡ false) ↔ NotGiven s (finishedFrames s q (rowsOf s (c .msccells))) c b
+  pub blocks-mean : (b : ℕ) → (getD (givenTests s q c) b true ≡ false) ↔ NotGiven s (finishedFrames (s .settings) q (rowsOf (s .settings) (c .msccells))) c b
   blocks-mean b = (fails-given b, given-fails b)
 
 -- A row finishes a frame if D - 1 frames were seen before it; so rows finish count + rows - (D - 1) frames.
@@ -240,9 +241,9 @@ unfolding rowsOf parts
 three-rows s cells = length-table _ 0 3
 
 -- Three rows finish count + 3 - (D - 1) frames.
-pub count-is : (state : State) (memory : List ℤ) (c : ReadCall) → state .count < depth (state .settings)
-    → length (finishedOf state memory c) ≡ state .count + 3 - (depth (state .settings) - 1)
+pub count-is : (state : State) (memory : List ℤ) (c : ReadCall) → state .count < depth (state .scheme .settings)
+    → length (finishedOf state memory c) ≡ state .count + 3 - (depth (state .scheme .settings) - 1)
 unfolding finishedOf progressOf
 count-is state memory c h =
-    finished-count (state .settings) (rowsOf (state .settings) (c .msccells)) (progressOf state memory) (omega arith)
-    ∙ ap (λ n. state .count + n - (depth (state .settings) - 1)) (three-rows (state .settings) (c .msccells))
+    finished-count (state .scheme .settings) (rowsOf (state .scheme .settings) (c .msccells)) (progressOf state memory) (omega arith)
+    ∙ ap (λ n. state .count + n - (depth (state .scheme .settings) - 1)) (three-rows (state .scheme .settings) (c .msccells))

@@ -12,6 +12,7 @@ use borrow.Author.Tests.{le-leb, lt-leb}
 use Rattle.lists.specs.Lists.{table}
 use Rattle.lists.proofs.Counting.{below-or}
 use Rattle.settings.specs.declared.Settings.{Settings}
+use Rattle.channels.specs.declared.Scheme.{Scheme}
 use Rattle.settings.specs.Lengths.{nMux}
 use Rattle.settings.specs.Sizes.{depth}
 use Rattle.block.specs.Block.{cellsOf, pointsOf}
@@ -41,14 +42,14 @@ past G zero = []
 past G (suc f) = G f ∷ past G f
 
 -- The frame of an age: 0 for the newest before frame f; a start frame before the first.
-unfoldable pub aged : Settings → (ℕ → List ℤ) → ℕ → ℕ → List ℤ
-aged s G f d = getD (past G f) d (startFrame s)
+unfoldable pub aged : Scheme → (ℕ → List ℤ) → ℕ → ℕ → List ℤ
+aged s G f d = getD (past G f) d (startFrame (s .settings))
 
-pub start-long : (s : Settings) → length (startFrame s) ≡ slotSize s
+pub start-long : (s : Scheme) → length (startFrame (s .settings)) ≡ slotSize (s .settings)
 unfolding startFrame
-start-long s = length-replicate (slotSize s) (pos 0)
+start-long s = length-replicate (slotSize (s .settings)) (pos 0)
 
-module _ (s : Settings) (G : ℕ → List ℤ) where
+module _ (s : Scheme) (G : ℕ → List ℤ) where
   -- One frame later each frame is one older.
   pub aged-zero : (f : ℕ) → aged s G (suc f) 0 ≡ G f
   unfolding aged past
@@ -65,35 +66,35 @@ module _ (s : Settings) (G : ℕ → List ℤ) where
   aged-run zero (suc d) h = absurd (omega arith)
   aged-run (suc f) (suc d) h = rw suc-sub-suc (aged-run f d (omega arith))
 
-  pub aged-start : (f d : ℕ) → f ≤ d → aged s G f d ≡ startFrame s
+  pub aged-start : (f d : ℕ) → f ≤ d → aged s G f d ≡ startFrame (s .settings)
   unfolding aged past
   aged-start zero d h = refl
   aged-start (suc f) zero h = absurd (omega arith)
   aged-start (suc f) (suc d) h = aged-start f d (omega arith)
 
   -- What holds of a start frame and of every frame before frame f holds of every age.
-  pub aged-all : (P : List ℤ → Type 0) → P (startFrame s) → (f : ℕ) → ((i : ℕ) → i < f → P (G i)) → (d : ℕ) → P (aged s G f d)
+  pub aged-all : (P : List ℤ → Type 0) → P (startFrame (s .settings)) → (f : ℕ) → ((i : ℕ) → i < f → P (G i)) → (d : ℕ) → P (aged s G f d)
   unfolding aged past
   aged-all P start zero each d = start
   aged-all P start (suc f) each zero = each f (omega arith)
   aged-all P start (suc f) each (suc d) = aged-all P start f (λ i h. each i (omega arith)) d
 
 -- Rows R carry frames G: each frame has the numbers of a slot, and number k of row f is of the frame sent that many rows before, where there is one.
-pub record Carries (s : Settings) (G R : ℕ → List ℤ) : Type 0 where
-  pub long : (f : ℕ) → length (G f) ≡ slotSize s
-  pub number : (f k : ℕ) → k < slotSize s → delay (depth s) k ≤ f
-      → getD (R f) k (pos 0) ≡ getD (G (f - delay (depth s) k)) (sentPlace (nMux s) k) (pos 0)
+pub record Carries (s : Scheme) (G R : ℕ → List ℤ) : Type 0 where
+  pub long : (f : ℕ) → length (G f) ≡ slotSize (s .settings)
+  pub number : (f k : ℕ) → k < slotSize (s .settings) → delay (depth (s .settings)) k ≤ f
+      → getD (R f) k (pos 0) ≡ getD (G (f - delay (depth (s .settings)) k)) (sentPlace (nMux (s .settings)) k) (pos 0)
 
 -- The cells of frame f of a run's bits.
-unfoldable pub frameAt : Settings → List (List ℕ) → ℕ → List ℤ
+unfoldable pub frameAt : Scheme → List (List ℕ) → ℕ → List ℤ
 frameAt s F f = cellsOf (mscBlock s) (getD F f [])
 
-pub frame-long : (s : Settings) (F : List (List ℕ)) (f : ℕ) → length (frameAt s F f) ≡ slotSize s
+pub frame-long : (s : Scheme) (F : List (List ℕ)) (f : ℕ) → length (frameAt s F f) ≡ slotSize (s .settings)
 unfolding frameAt
 frame-long s F f = msc-long s (getD F f [])
 
 -- The standard's sent cells by age; so the standard's rows carry a run's frames.
-pub earlier-aged : (s : Settings) (F : List (List ℕ)) (f d : ℕ) → earlierCells s F f d ≡ aged s (frameAt s F) (suc f) d
+pub earlier-aged : (s : Scheme) (F : List (List ℕ)) (f d : ℕ) → earlierCells s F f d ≡ aged s (frameAt s F) (suc f) d
 unfolding earlierCells frameAt
 earlier-aged s F f d =
     elim (below-or f d) [
@@ -101,107 +102,107 @@ earlier-aged s F f d =
       | inr h ↦ rw (le-leb d f h) (sym (aged-run s (frameAt s F) f d h))
     ]
 
-pub standard-carries : (s : Settings) (F : List (List ℕ)) → Carries s (frameAt s F) (standardRow s F)
+pub standard-carries : (s : Scheme) (F : List (List ℕ)) → Carries s (frameAt s F) (standardRow s F)
 unfolding standardRow earlierCells frameAt
 standard-carries s F =
     record {
       long = frame-long s F;
       number = λ f k h d.
-          getD-table (pos 0) (λ k. getD (earlierCells s F f (delay (depth s) k)) (sentPlace (nMux s) k) (pos 0)) (slotSize s) k h
-          ∙ rw (le-leb (delay (depth s) k) f d);
+          getD-table (pos 0) (λ k. getD (earlierCells s F f (delay (depth (s .settings)) k)) (sentPlace (nMux (s .settings)) k) (pos 0)) (slotSize (s .settings)) k h
+          ∙ rw (le-leb (delay (depth (s .settings)) k) f d);
     }
 
 -- What memory keeps before frame f, if the number at sent place k of the slot written d + 1 frames before the position is of the frame of age a d k.
-pub record Keeps (s : Settings) (G : ℕ → List ℤ) (a : ℕ → ℕ → ℕ) (f : ℕ) (q : Progress) : Type 0 where
-  pub long : length (q .memory) ≡ depth s * slotSize s
-  pub low : q .position < depth s
-  pub counted : q .count ≡ min f (depth s - 1)
-  pub number : (d k : ℕ) → d < depth s → k < slotSize s
-      → numberIn (slotSize s) (q .memory) (slotBefore (depth s) (q .position) (suc d)) (sentPlace (nMux s) k)
-      ≡ getD (aged s G f (a d k)) (sentPlace (nMux s) k) (pos 0)
+pub record Keeps (s : Scheme) (G : ℕ → List ℤ) (a : ℕ → ℕ → ℕ) (f : ℕ) (q : Progress) : Type 0 where
+  pub long : length (q .memory) ≡ depth (s .settings) * slotSize (s .settings)
+  pub low : q .position < depth (s .settings)
+  pub counted : q .count ≡ min f (depth (s .settings) - 1)
+  pub number : (d k : ℕ) → d < depth (s .settings) → k < slotSize (s .settings)
+      → numberIn (slotSize (s .settings)) (q .memory) (slotBefore (depth (s .settings)) (q .position) (suc d)) (sentPlace (nMux (s .settings)) k)
+      ≡ getD (aged s G f (a d k)) (sentPlace (nMux (s .settings)) k) (pos 0)
 
 -- A start frame in every slot.
-start-table : (s : Settings) → startMemory s ≡ joined (table (λ i. startFrame s) 0 (depth s))
+start-table : (s : Scheme) → startMemory (s .settings) ≡ joined (table (λ i. startFrame (s .settings)) 0 (depth (s .settings)))
 unfolding startMemory
-start-table s = ap joined (replicate-table (startFrame s) 0 (depth s))
+start-table s = ap joined (replicate-table (startFrame (s .settings)) 0 (depth (s .settings)))
 
-pub start-memory : (s : Settings) → length (startMemory s) ≡ depth s * slotSize s
-start-memory s = ap length (start-table s) ∙ length-joined (slotSize s) (λ i. startFrame s) 0 (depth s) (λ i x y. start-long s)
+pub start-memory : (s : Scheme) → length (startMemory (s .settings)) ≡ depth (s .settings) * slotSize (s .settings)
+start-memory s = ap length (start-table s) ∙ length-joined (slotSize (s .settings)) (λ i. startFrame (s .settings)) 0 (depth (s .settings)) (λ i x y. start-long s)
 
-pub start-number : (s : Settings) (slot r : ℕ) → slot < depth s → r < slotSize s → numberIn (slotSize s) (startMemory s) slot r ≡ getD (startFrame s) r (pos 0)
+pub start-number : (s : Scheme) (slot r : ℕ) → slot < depth (s .settings) → r < slotSize (s .settings) → numberIn (slotSize (s .settings)) (startMemory (s .settings)) slot r ≡ getD (startFrame (s .settings)) r (pos 0)
 unfolding slotOf part
 start-number s slot r h b =
-    let e = part-joined (slotSize s) (λ i. startFrame s) 0 (depth s) (λ i x y. start-long s) [] slot h in
-    let m : slotOf (slotSize s) (startMemory s) slot ≡ startFrame s = rw (start-table s, mul-comm slot (slotSize s)) (rw append-nil at e) in
-    sym (getD-slot (slotSize s) (depth s) (startMemory s) (start-memory s) slot r b) ∙ ap (λ l. getD l r (pos 0)) m
+    let e = part-joined (slotSize (s .settings)) (λ i. startFrame (s .settings)) 0 (depth (s .settings)) (λ i x y. start-long s) [] slot h in
+    let m : slotOf (slotSize (s .settings)) (startMemory (s .settings)) slot ≡ startFrame (s .settings) = rw (start-table s, mul-comm slot (slotSize (s .settings))) (rw append-nil at e) in
+    sym (getD-slot (slotSize (s .settings)) (depth (s .settings)) (startMemory (s .settings)) (start-memory s) slot r b) ∙ ap (λ l. getD l r (pos 0)) m
 
 -- After a reset no frame has been seen, and memory keeps start frames.
-pub keeps-start : (s : Settings) (c : Coding s) (G : ℕ → List ℤ) (a : ℕ → ℕ → ℕ) → Keeps s G a 0 (record { memory = startMemory s; position = 0; count = 0 })
+pub keeps-start : (s : Scheme) (c : Coding s) (G : ℕ → List ℤ) (a : ℕ → ℕ → ℕ) → Keeps s G a 0 (record { memory = startMemory (s .settings); position = 0; count = 0 })
 unfolding slotSize
 keeps-start s c G a =
     record {
       long = start-memory s;
-      low = depth-low s;
+      low = depth-low (s .settings);
       counted = omega arith;
       number = λ d k h b.
-          start-number s _ _ (slot-low (depth s) 0 (depth-low s) (suc d)) (sent-low (nMux s) (c .big) k)
-          ∙ ap (λ l. getD l (sentPlace (nMux s) k) (pos 0)) (sym (aged-start s G 0 (a d k) (omega arith)));
+          start-number s _ _ (slot-low (depth (s .settings)) 0 (depth-low (s .settings)) (suc d)) (sent-low (nMux (s .settings)) (c .big) k)
+          ∙ ap (λ l. getD l (sentPlace (nMux (s .settings)) k) (pos 0)) (sym (aged-start s G 0 (a d k) (omega arith)));
     }
 
 -- A frame that memory may hold: each of its cells is (0, 0) or an MSC point.
-unfoldable pub goodCell : Settings → ℤ → ℤ → Bool
+unfoldable pub goodCell : Scheme → ℤ → ℤ → Bool
 goodCell s re im = isStart re im || isPoint (pointsOf (mscBlock s)) re im
 
-pub record Good (s : Settings) (l : List ℤ) : Type 0 where
-  pub cell : (j : ℕ) → j < nMux s → goodCell s (getD l (2 * j) (pos 0)) (getD l (2 * j + 1) (pos 0)) ≡ true
+pub record Good (s : Scheme) (l : List ℤ) : Type 0 where
+  pub cell : (j : ℕ) → j < nMux (s .settings) → goodCell s (getD l (2 * j) (pos 0)) (getD l (2 * j + 1) (pos 0)) ≡ true
 
-pub start-good : (s : Settings) → Good s (startFrame s)
+pub start-good : (s : Scheme) → Good s (startFrame (s .settings))
 unfolding startFrame slotSize goodCell isStart sameNumber
 start-good s =
-    record { cell = λ j h. rw (getD-replicate (2 * nMux s) (2 * j) (pos 0) (pos 0) (omega arith), getD-replicate (2 * nMux s) (2 * j + 1) (pos 0) (pos 0) (omega arith)) }
+    record { cell = λ j h. rw (getD-replicate (2 * nMux (s .settings)) (2 * j) (pos 0) (pos 0) (omega arith), getD-replicate (2 * nMux (s .settings)) (2 * j + 1) (pos 0) (pos 0) (omega arith)) }
 
 -- A slot's numbers are twice its cells.
 pub twice : (s : Settings) (j : ℕ) → j < nMux s → 2 * j + 1 < slotSize s
 unfolding slotSize
 twice s j h = omega arith
 
-pub good-point : (s : Settings) (re im : ℤ) → isPoint (pointsOf (mscBlock s)) re im ≡ true → goodCell s re im ≡ true
+pub good-point : (s : Scheme) (re im : ℤ) → isPoint (pointsOf (mscBlock s)) re im ≡ true → goodCell s re im ≡ true
 unfolding goodCell
 good-point s re im h = or-right (isStart re im) (isPoint (pointsOf (mscBlock s)) re im) h
 
-pub frame-point : (s : Settings) → Coding s → (F : List (List ℕ)) (i : ℕ) → BlockBits (mscBlock s) (getD F i []) → (j : ℕ) → j < nMux s
+pub frame-point : (s : Scheme) → Coding s → (F : List (List ℕ)) (i : ℕ) → BlockBits (mscBlock s) (getD F i []) → (j : ℕ) → j < nMux (s .settings)
     → isPoint (pointsOf (mscBlock s)) (getD (frameAt s F i) (2 * j) (pos 0)) (getD (frameAt s F i) (2 * j + 1) (pos 0)) ≡ true
 unfolding frameAt
 frame-point s c F i b j h =
-    point-at (pointsOf (mscBlock s)) (cellsOf (mscBlock s) (getD F i [])) (c .msc .points _ b) j (rw (msc-long s (getD F i [])) (twice s j h))
+    point-at (pointsOf (mscBlock s)) (cellsOf (mscBlock s) (getD F i [])) (c .msc .points _ b) j (rw (msc-long s (getD F i [])) (twice (s .settings) j h))
 
-pub frame-good : (s : Settings) → Coding s → (F : List (List ℕ)) (i : ℕ) → BlockBits (mscBlock s) (getD F i []) → Good s (frameAt s F i)
+pub frame-good : (s : Scheme) → Coding s → (F : List (List ℕ)) (i : ℕ) → BlockBits (mscBlock s) (getD F i []) → Good s (frameAt s F i)
 frame-good s c F i b = record { cell = λ j h. good-point s _ _ (frame-point s c F i b j h) }
 
 -- Where all frames are good, memory is in order: each of its cells is (0, 0) or an MSC point.
-module _ (s : Settings) (c : Coding s) (G : ℕ → List ℤ) (a : ℕ → ℕ → ℕ) (same : (d i : ℕ) → a d (2 * i + 1) ≡ a d (2 * i)) where
+module _ (s : Scheme) (c : Coding s) (G : ℕ → List ℤ) (a : ℕ → ℕ → ℕ) (same : (d i : ℕ) → a d (2 * i + 1) ≡ a d (2 * i)) where
   pub keeps-cell : (f : ℕ) (q : Progress) → Keeps s G a f q → ((i : ℕ) → i < f → Good s (G i))
-      → (slot j : ℕ) → slot < depth s → j < nMux s
-      → goodCell s (numberIn (slotSize s) (q .memory) slot (2 * j)) (numberIn (slotSize s) (q .memory) slot (2 * j + 1)) ≡ true
+      → (slot j : ℕ) → slot < depth (s .settings) → j < nMux (s .settings)
+      → goodCell s (numberIn (slotSize (s .settings)) (q .memory) slot (2 * j)) (numberIn (slotSize (s .settings)) (q .memory) slot (2 * j + 1)) ≡ true
   keeps-cell f q K ok slot j h b =
-      let w = cell-sent (nMux s) (c .big) j b in
+      let w = cell-sent (nMux (s .settings)) (c .big) j b in
       let i = w .index in
-      let v = slot-cover (depth s) (q .position) (K .low) slot h in
-      let r : sentPlace (nMux s) (2 * i) ≡ 2 * j = sent-real (nMux s) i ∙ ap (λ x. 2 * x) (w .value) in
-      let m : sentPlace (nMux s) (2 * i + 1) ≡ 2 * j + 1 = sent-imaginary (nMux s) i ∙ ap (λ x. 2 * x + 1) (w .value) in
-      let t = twice s i (w .low) in
+      let v = slot-cover (depth (s .settings)) (q .position) (K .low) slot h in
+      let r : sentPlace (nMux (s .settings)) (2 * i) ≡ 2 * j = sent-real (nMux (s .settings)) i ∙ ap (λ x. 2 * x) (w .value) in
+      let m : sentPlace (nMux (s .settings)) (2 * i + 1) ≡ 2 * j + 1 = sent-imaginary (nMux (s .settings)) i ∙ ap (λ x. 2 * x + 1) (w .value) in
+      let t = twice (s .settings) i (w .low) in
       let re = rw (v .2, r) at (K .number (v .0) (2 * i) (v .1) (omega arith)) in
       let im = rw (v .2, m, same (v .0) i) at (K .number (v .0) (2 * i + 1) (v .1) t) in
       rw (re, im) (aged-all s G (Good s) (start-good s) f ok (a (v .0) (2 * i)) .cell j b)
 
   pub keeps-in-order : (f : ℕ) (q : Progress) → Keeps s G a f q → ((i : ℕ) → i < f → Good s (G i))
-      → every (table (memoryCell s (q .memory)) 0 (depth s * nMux s)) ≡ true
+      → every (table (memoryCell s (q .memory)) 0 (depth (s .settings) * nMux (s .settings))) ≡ true
   unfolding memoryCell goodCell numberIn slotSize
-  keeps-in-order f q K ok = every-table (memoryCell s (q .memory)) 0 (depth s * nMux s) (λ i x y. at i (rw zero-add at y))
+  keeps-in-order f q K ok = every-table (memoryCell s (q .memory)) 0 (depth (s .settings) * nMux (s .settings)) (λ i x y. at i (rw zero-add at y))
     where
-      at : (i : ℕ) → i < depth s * nMux s → memoryCell s (q .memory) i ≡ true
+      at : (i : ℕ) → i < depth (s .settings) * nMux (s .settings) → memoryCell s (q .memory) i ≡ true
       at i h =
-          let n = nMux s in
+          let n = nMux (s .settings) in
           let p = c .big in
           let e : i / n * n + i % n ≡ i = div-add-mod' i n in
           let re : i / n * (2 * n) + 2 * (i % n) ≡ 2 * i = omega arith in
@@ -214,6 +215,6 @@ module _ (s : Settings) (c : Coding s) (G : ℕ → List ℤ) (a : ℕ → ℕ �
   keeps-ordered f q K ok =
       record {
         position = K .low;
-        count = omega (arith, K .counted, depth-low s);
+        count = omega (arith, K .counted, depth-low (s .settings));
         cells = keeps-in-order f q K ok;
       }

@@ -12,8 +12,8 @@ use Rattle.interleaver.specs.Interleaving.{place}
 use Rattle.lists.proofs.Tables.{length-table, table-ext, table-from, map-table}
 use Rattle.interleaver.proofs.Places.{place-low}
 use Rattle.lists.proofs.Counting.{below-or}
-use Rattle.settings.specs.declared.Settings.{Settings}
-use Rattle.settings.specs.Refusal.{refusal}
+use Rattle.channels.specs.declared.Scheme.{Scheme}
+use Rattle.channels.specs.Scheme.{schemeRefusal}
 use Rattle.settings.specs.Cells.{facCells}
 use Rattle.settings.specs.Lengths.{nMux}
 use Rattle.settings.specs.Sizes.{depth, frameBytes}
@@ -28,7 +28,7 @@ use Rattle.channels.specs.Sdc.{sdcBlock}
 use Rattle.channels.specs.Msc.{mscBlock}
 use Rattle.superframe.specs.Memory.{slotSize}
 use Rattle.superframe.specs.Interleaving.{Progress, delay, afterRows, finishedFrames, fillers}
-use Rattle.superframe.specs.Call.{part, parts, joined, memoryLength}
+use Rattle.superframe.specs.Call.{part, parts, joined, facBytes, memoryLength}
 use Rattle.superframe.specs.Code.{progressOf, stateOf}
 use Rattle.superframe.specs.Read.{ReadCall, answerNumber, answerFrames, rowsOf, fillersOf, rowCell, rowPoints, countAt, pointTests, givenTests, orderRefusal, handedOut, readAccepted, readOf}
 use Rattle.superframe.specs.Contracts.{BytesFit}
@@ -47,54 +47,54 @@ use Rattle.superframe.proofs.Calls.{fits-read, read-accepts}
 use Rattle.superframe.proofs.CodeRuns.{Whole}
 
 -- The cells of a row that are not ignored are points.
-module _ (s : Settings) (c : Coding s) (F : List (List ℕ)) (f : ℕ) (ok : (i : ℕ) → i ≤ f → BlockBits (mscBlock s) (getD F i [])) where
-  row-cell : (count i : ℕ) → count ≤ f → i < nMux s → rowCell s count (standardRow s F f) i ≡ true
+module _ (s : Scheme) (c : Coding s) (F : List (List ℕ)) (f : ℕ) (ok : (i : ℕ) → i ≤ f → BlockBits (mscBlock s) (getD F i [])) where
+  row-cell : (count i : ℕ) → count ≤ f → i < nMux (s .settings) → rowCell s count (standardRow s F f) i ≡ true
   unfolding rowCell
   row-cell count i h b =
-      elim (below-or count (delay (depth s) (2 * i))) [
-        | inl x ↦ rw (lt-leb (delay (depth s) (2 * i)) count x)
+      elim (below-or count (delay (depth (s .settings)) (2 * i))) [
+        | inl x ↦ rw (lt-leb (delay (depth (s .settings)) (2 * i)) count x)
         | inr x ↦
-            let t = twice s i b in
+            let t = twice (s .settings) i b in
             let row = standard-carries s F .number f in
             rw (
-              le-leb (delay (depth s) (2 * i)) count x,
+              le-leb (delay (depth (s .settings)) (2 * i)) count x,
               row (2 * i) (omega arith) (omega arith),
-              row (2 * i + 1) t (rw (delay-cell (depth s) i) (omega arith)),
-              delay-cell (depth s) i,
-              sent-real (nMux s) i,
-              sent-imaginary (nMux s) i,
+              row (2 * i + 1) t (rw (delay-cell (depth (s .settings)) i) (omega arith)),
+              delay-cell (depth (s .settings)) i,
+              sent-real (nMux (s .settings)) i,
+              sent-imaginary (nMux (s .settings)) i,
             )
-            (frame-point s c F _ (ok _ (omega arith)) (place 5 (nMux s) i) (place-low 5 (nMux s) (record { low = c .big; factor = refl }) i))
+            (frame-point s c F _ (ok _ (omega arith)) (place 5 (nMux (s .settings)) i) (place-low 5 (nMux (s .settings)) (record { low = c .big; factor = refl }) i))
       ]
 
   row-points : (count : ℕ) → count ≤ f → rowPoints s count (standardRow s F f) ≡ true
   unfolding rowPoints
-  row-points count h = every-table _ 0 (nMux s) (λ i x y. row-cell count i h (omega arith))
+  row-points count h = every-table _ 0 (nMux (s .settings)) (λ i x y. row-cell count i h (omega arith))
 
 -- A Read call that lends a super frame's cells, with buffers for bytes.
 unfoldable pub feeding : SuperFrame → List ℕ → List ℕ → List ℕ → ReadCall
 feeding f fac sdc msc = record { faccells = f .fac; sdccells = f .sdc; msccells = f .msc; fac = fac; sdc = sdc; msc = msc }
 
 -- Memory and state after it.
-unfoldable pub readOn : Settings → Progress → Bits → ℕ → Progress
-readOn s q B m = afterRows s q (table (standardRow s (B .frames)) (3 * m) 3)
+unfoldable pub readOn : Scheme → Progress → Bits → ℕ → Progress
+readOn s q B m = afterRows (s .settings) q (table (standardRow s (B .frames)) (3 * m) 3)
 
 -- What it hands out, before what the calls after it hand out.
-unfoldable pub handing : Settings → Bits → ℕ → Bits → Bits
+unfoldable pub handing : Scheme → Bits → ℕ → Bits → Bits
 handing s B m rest =
     record {
       fac = table (λ i. getD (B .fac) i []) (3 * m) 3 ++ rest .fac;
       sdc = getD (B .sdc) m [] ∷ rest .sdc;
-      frames = table (λ i. getD (B .frames) i []) (3 * m - (depth s - 1)) (3 * m + 3 - (depth s - 1) - (3 * m - (depth s - 1))) ++ rest .frames;
+      frames = table (λ i. getD (B .frames) i []) (3 * m - (depth (s .settings) - 1)) (3 * m + 3 - (depth (s .settings) - 1) - (3 * m - (depth (s .settings) - 1))) ++ rest .frames;
     }
 
 -- What it does in a list of calls: it is accepted, and memory then keeps the numbers before the next super frame.
-pub record Reading (s : Settings) (B : Bits) (m : ℕ) (q : Progress) (r : ReadCall) : Type 0 where
+pub record Reading (s : Scheme) (B : Bits) (m : ℕ) (q : Progress) (r : ReadCall) : Type 0 where
   pub accepted : reads (stateOf s q) (q .memory) r ≡ true
   pub state : readOf (stateOf s q) (q .memory) r .reading .state ≡ stateOf s (readOn s q B m)
   pub memory : readOf (stateOf s q) (q .memory) r .memory ≡ readOn s q B m .memory
   pub out : (rest : List ReadCall) → handed (stateOf s q) (q .memory) (r ∷ rest) ≡ handing s B m (handed (stateOf s (readOn s q B m)) (readOn s q B m .memory) rest)
-  pub keeps : Keeps s (frameAt s (B .frames)) (sentAge (depth s)) (3 * suc m) (readOn s q B m)
+  pub keeps : Keeps s (frameAt s (B .frames)) (sentAge (depth (s .settings))) (3 * suc m) (readOn s q B m)
 
 -- Of three blocks' bits: the bytes read from their cells are put together, cut, and unpacked to the bits again.
 module _ (k : Block) (n : ℕ) (r : Recovers k n) (l : List (List ℕ)) (all : AllBits k l) where
@@ -123,8 +123,8 @@ all-in a e = omega arith
 within : (a e i : ℕ) → i < (a - e) + (a + 3 - e - (a - e)) → i < a + 3
 within a e i h = omega arith
 
-module _ (s : Settings) (c : Coding s) (B : Bits) (w : Whole s B) (m : ℕ) (low : m < length (B .sdc)) where
-  fac-at : (i : ℕ) → i < 3 → BlockBits facBlock (getD (B .fac) (3 * m + i) [])
+module _ (s : Scheme) (c : Coding s) (B : Bits) (w : Whole s B) (m : ℕ) (low : m < length (B .sdc)) where
+  fac-at : (i : ℕ) → i < 3 → BlockBits (facBlock s) (getD (B .fac) (3 * m + i) [])
   fac-at i h = all-at (w .facBits) (3 * m + i) (omega (arith, w .fac))
 
   sdc-at : BlockBits (sdcBlock s) (getD (B .sdc) m [])
@@ -134,39 +134,39 @@ module _ (s : Settings) (c : Coding s) (B : Bits) (w : Whole s B) (m : ℕ) (low
   frame-at i h = all-at (w .frameBits) i (omega (arith, w .frames))
 
   -- None of its cells that a reader at a count does not ignore, and none of its fillers, falls under 13.
-  fac-points : every (map (arePoints (pointsOf facBlock)) (parts (2 * facCells) (superFrame s B m .fac))) ≡ true
+  fac-points : every (map (arePoints (pointsOf (facBlock s))) (parts (2 * facCells) (superFrame s B m .fac))) ≡ true
   fac-points =
-      rw (fac-parts s B m, map-table (arePoints (pointsOf facBlock)) (λ i. cellsOf facBlock (getD (B .fac) (3 * m + i) [])) 0 3)
+      rw (fac-parts s B m, map-table (arePoints (pointsOf (facBlock s))) (λ i. cellsOf (facBlock s) (getD (B .fac) (3 * m + i) [])) 0 3)
       (every-table _ 0 3 (λ i x y. c .fac .points _ (fac-at i (omega arith))))
 
   sdc-points : arePoints (pointsOf (sdcBlock s)) (superFrame s B m .sdc) ≡ true
   sdc-points = rw (sdc-part s B m) (c .sdc .points _ sdc-at)
 
-  rows-points : (count : ℕ) → count ≤ 3 * m → every (table (λ i. rowPoints s (countAt s count i) (part (slotSize s) (superFrame s B m .msc) i)) 0 3) ≡ true
+  rows-points : (count : ℕ) → count ≤ 3 * m → every (table (λ i. rowPoints s (countAt (s .settings) count i) (part (slotSize (s .settings)) (superFrame s B m .msc) i)) 0 3) ≡ true
   unfolding countAt
   rows-points count low = every-table _ 0 3 (λ i x y. row i (omega arith))
     where
-      row : (i : ℕ) → i < 3 → rowPoints s (countAt s count i) (part (slotSize s) (superFrame s B m .msc) i) ≡ true
-      row i h = rw (row-part s B m i h) (row-points s c (B .frames) (3 * m + i) (λ j x. frame-at j (omega arith)) (countAt s count i) (omega arith))
+      row : (i : ℕ) → i < 3 → rowPoints s (countAt (s .settings) count i) (part (slotSize (s .settings)) (superFrame s B m .msc) i) ≡ true
+      row i h = rw (row-part s B m i h) (row-points s c (B .frames) (3 * m + i) (λ j x. frame-at j (omega arith)) (countAt (s .settings) count i) (omega arith))
 
-  fillers-points : sameNumbers (fillersOf s (superFrame s B m .msc)) (fillers s) ≡ true
-  fillers-points = rw (fillers-are s B m) (sameNumbers-refl (fillers s))
+  fillers-points : sameNumbers (fillersOf (s .settings) (superFrame s B m .msc)) (fillers (s .settings)) ≡ true
+  fillers-points = rw (fillers-are s B m) (sameNumbers-refl (fillers (s .settings)))
 
   pub sent-points : (count : ℕ) → count ≤ 3 * m → (fac sdc msc : List ℕ) → every (pointTests s count (feeding (superFrame s B m) fac sdc msc)) ≡ true
   unfolding pointTests feeding every
   sent-points count low fac sdc msc = rw (every-append, every-append, fac-points, sdc-points, rows-points count low, fillers-points)
 
-  module _ (allowed : refusal s ≡ 0) (q : Progress) (K : Keeps s (frameAt s (B .frames)) (sentAge (depth s)) (3 * m) q) (fac sdc msc : List ℕ) (bytes : BytesFit s fac sdc msc) where
+  module _ (allowed : schemeRefusal s ≡ 0) (q : Progress) (K : Keeps s (frameAt s (B .frames)) (sentAge (depth (s .settings))) (3 * m) q) (fac sdc msc : List ℕ) (bytes : BytesFit (s .settings) fac sdc msc) where
     -- No number up to 12 refuses the call.
     fed-order : orderRefusal (stateOf s q) (q .memory) (feeding (superFrame s B m) fac sdc msc) ≡ 0
     unfolding stateOf feeding memoryLength
     fed-order =
         fits-read (stateOf s q) (q .memory) (feeding (superFrame s B m) fac sdc msc)
         (record {
-          fits = record { settings = allowed; long = K .long };
+          fits = record { scheme = allowed; long = K .long };
           cells = cells-long s B m c;
           bytes = bytes;
-          order = keeps-ordered s c (frameAt s (B .frames)) (sentAge (depth s)) (sentAge-cell (depth s)) (3 * m) q K (λ i h. frame-good s c (B .frames) i (frame-at i (omega arith)));
+          order = keeps-ordered s c (frameAt s (B .frames)) (sentAge (depth (s .settings))) (sentAge-cell (depth (s .settings))) (3 * m) q K (λ i h. frame-good s c (B .frames) i (frame-at i (omega arith)));
         })
 
     -- Nor does 13.
@@ -174,22 +174,22 @@ module _ (s : Settings) (c : Coding s) (B : Bits) (w : Whole s B) (m : ℕ) (low
     fed-points = sent-points (q .count) (omega (arith, K .counted)) fac sdc msc
 
     -- Nor does 14.
-    fed-finished : finishedFrames s q (rowsOf s (superFrame s B m .msc)) ≡ table (frameAt s (B .frames)) (3 * m - (depth s - 1)) (3 * m + 3 - (depth s - 1) - (3 * m - (depth s - 1)))
-    fed-finished = ap (finishedFrames s q) (rows-are s B m) ∙ reader-finished s c (frameAt s (B .frames)) (standardRow s (B .frames)) (standard-carries s (B .frames)) 3 (3 * m) q K
+    fed-finished : finishedFrames (s .settings) q (rowsOf (s .settings) (superFrame s B m .msc)) ≡ table (frameAt s (B .frames)) (3 * m - (depth (s .settings) - 1)) (3 * m + 3 - (depth (s .settings) - 1) - (3 * m - (depth (s .settings) - 1)))
+    fed-finished = ap (finishedFrames (s .settings) q) (rows-are s B m) ∙ reader-finished s c (frameAt s (B .frames)) (standardRow s (B .frames)) (standard-carries s (B .frames)) 3 (3 * m) q K
 
-    fac-given : every (map (given facBlock) (parts (2 * facCells) (superFrame s B m .fac))) ≡ true
+    fac-given : every (map (given (facBlock s)) (parts (2 * facCells) (superFrame s B m .fac))) ≡ true
     fac-given =
-        rw (fac-parts s B m, map-table (given facBlock) (λ i. cellsOf facBlock (getD (B .fac) (3 * m + i) [])) 0 3)
+        rw (fac-parts s B m, map-table (given (facBlock s)) (λ i. cellsOf (facBlock s) (getD (B .fac) (3 * m + i) [])) 0 3)
         (every-table _ 0 3 (λ i x y. c .fac .gives _ (fac-at i (omega arith))))
 
     sdc-given : given (sdcBlock s) (superFrame s B m .sdc) ≡ true
     sdc-given = rw (sdc-part s B m) (c .sdc .gives _ sdc-at)
 
-    frames-given : every (map (given (mscBlock s)) (finishedFrames s q (rowsOf s (superFrame s B m .msc)))) ≡ true
+    frames-given : every (map (given (mscBlock s)) (finishedFrames (s .settings) q (rowsOf (s .settings) (superFrame s B m .msc)))) ≡ true
     unfolding frameAt
     frames-given =
-        rw (fed-finished, map-table (given (mscBlock s)) (frameAt s (B .frames)) (3 * m - (depth s - 1)) (3 * m + 3 - (depth s - 1) - (3 * m - (depth s - 1))))
-        (every-table _ (3 * m - (depth s - 1)) _ (λ i x y. c .msc .gives _ (frame-at i (within (3 * m) (depth s - 1) i y))))
+        rw (fed-finished, map-table (given (mscBlock s)) (frameAt s (B .frames)) (3 * m - (depth (s .settings) - 1)) (3 * m + 3 - (depth (s .settings) - 1) - (3 * m - (depth (s .settings) - 1))))
+        (every-table _ (3 * m - (depth (s .settings) - 1)) _ (λ i x y. c .msc .gives _ (frame-at i (within (3 * m) (depth (s .settings) - 1) i y))))
 
     fed-given : every (givenTests s q (feeding (superFrame s B m) fac sdc msc)) ≡ true
     unfolding givenTests feeding every
@@ -201,26 +201,26 @@ module _ (s : Settings) (c : Coding s) (B : Bits) (w : Whole s B) (m : ℕ) (low
     fed-accepted = read-accepts (stateOf s q) (q .memory) (feeding (superFrame s B m) fac sdc msc) fed-order fed-points fed-given
 
     -- And it hands out its FAC blocks' bits, its SDC block's and those of the frames that it finishes.
-    fac-out : map (bitsOf facBlock) (parts 9 (joined (map (bytesRead facBlock) (parts (2 * facCells) (superFrame s B m .fac))))) ≡ table (λ i. getD (B .fac) i []) (3 * m) 3
+    fac-out : map (bitsOf (facBlock s)) (parts facBytes (joined (map (bytesRead (facBlock s)) (parts (2 * facCells) (superFrame s B m .fac))))) ≡ table (λ i. getD (B .fac) i []) (3 * m) 3
     fac-out =
-        let e = back-parts facBlock 9 (c .fac) (B .fac) (w .facBits) (3 * m) 3 (omega (arith, w .fac)) (omega arith) [] in
+        let e = back-parts (facBlock s) facBytes (c .fac) (B .fac) (w .facBits) (3 * m) 3 (omega (arith, w .fac)) (omega arith) [] in
         rw (
           fac-parts s B m,
-          map-table (bytesRead facBlock) (λ i. cellsOf facBlock (getD (B .fac) (3 * m + i) [])) 0 3,
-          ← table-from (λ i. bytesRead facBlock (cellsOf facBlock (getD (B .fac) i []))) (3 * m) 3,
+          map-table (bytesRead (facBlock s)) (λ i. cellsOf (facBlock s) (getD (B .fac) (3 * m + i) [])) 0 3,
+          ← table-from (λ i. bytesRead (facBlock s) (cellsOf (facBlock s) (getD (B .fac) i []))) (3 * m) 3,
         )
         (rw (append-nil, take-three) at e)
 
     sdc-out : bitsOf (sdcBlock s) (bytesRead (sdcBlock s) (superFrame s B m .sdc)) ≡ getD (B .sdc) m []
     sdc-out = rw (sdc-part s B m) (c .sdc .back _ sdc-at)
 
-    frames-out : map (bitsOf (mscBlock s)) (take (length (finishedFrames s q (rowsOf s (superFrame s B m .msc)))) (parts (frameBytes s) (handedOut s (finishedFrames s q (rowsOf s (superFrame s B m .msc))))))
-        ≡ table (λ i. getD (B .frames) i []) (3 * m - (depth s - 1)) (3 * m + 3 - (depth s - 1) - (3 * m - (depth s - 1)))
+    frames-out : map (bitsOf (mscBlock s)) (take (length (finishedFrames (s .settings) q (rowsOf (s .settings) (superFrame s B m .msc)))) (parts (frameBytes (s .settings)) (handedOut s (finishedFrames (s .settings) q (rowsOf (s .settings) (superFrame s B m .msc))))))
+        ≡ table (λ i. getD (B .frames) i []) (3 * m - (depth (s .settings) - 1)) (3 * m + 3 - (depth (s .settings) - 1) - (3 * m - (depth (s .settings) - 1)))
     unfolding handedOut frameAt
     frames-out =
-        rw (fed-finished, length-table, map-table (bytesRead (mscBlock s)) (frameAt s (B .frames)) (3 * m - (depth s - 1)) (3 * m + 3 - (depth s - 1) - (3 * m - (depth s - 1))))
-        (back-parts (mscBlock s) (frameBytes s) (c .msc) (B .frames) (w .frameBits) (3 * m - (depth s - 1)) (3 * m + 3 - (depth s - 1) - (3 * m - (depth s - 1)))
-        (let e = all-in (3 * m) (depth s - 1) in omega (arith, w .frames)) (at-most (3 * m) (depth s - 1)) _)
+        rw (fed-finished, length-table, map-table (bytesRead (mscBlock s)) (frameAt s (B .frames)) (3 * m - (depth (s .settings) - 1)) (3 * m + 3 - (depth (s .settings) - 1) - (3 * m - (depth (s .settings) - 1))))
+        (back-parts (mscBlock s) (frameBytes (s .settings)) (c .msc) (B .frames) (w .frameBits) (3 * m - (depth (s .settings) - 1)) (3 * m + 3 - (depth (s .settings) - 1) - (3 * m - (depth (s .settings) - 1)))
+        (let e = all-in (3 * m) (depth (s .settings) - 1) in omega (arith, w .frames)) (at-most (3 * m) (depth (s .settings) - 1)) _)
 
     pub fed-reading : Reading s B m q (feeding (superFrame s B m) fac sdc msc)
     unfolding reads handed readAccepted answerNumber answerFrames progressOf stateOf feeding handing readOn

@@ -10,10 +10,11 @@ use lib.ListN.{length, getD, replicate, length-replicate}
 use lib.IntN.{ℤ}
 use lib.Dec.{eqb}
 use Rattle.lists.specs.Lists.{table}
-use Rattle.settings.specs.declared.Settings.{Settings}
-use Rattle.settings.specs.Refusal.{refusal}
+use Rattle.channels.specs.declared.Scheme.{Scheme}
+use Rattle.channels.specs.Scheme.{schemeRefusal}
 use Rattle.settings.specs.Sizes.{depth, frameBytes, sdcBytes}
 use Rattle.superframe.specs.declared.State.{State}
+use Rattle.superframe.specs.Call.{facBytes}
 use Rattle.superframe.specs.Interleaving.{Progress}
 use Rattle.superframe.specs.Code.{stateOf}
 use Rattle.superframe.specs.Read.{ReadCall, answerNumber, answerOf, readAccepted, readRefused, readOf}
@@ -38,15 +39,15 @@ module _ (state : State) (memory : List ℤ) (c : ReadCall) (h : reads state mem
       go true e = absurd (let z : _≡_ {A = Bool} true false = rw e at h in let y : _≡_ {A = ℕ} 0 1 = cc in omega arith)
 
 -- The bits of j super frames from m on that a reader hands out: the frames are those from D - 1 before.
-unfoldable pub between : Settings → Bits → ℕ → ℕ → Bits
+unfoldable pub between : Scheme → Bits → ℕ → ℕ → Bits
 between s B m j =
     record {
       fac = table (λ i. getD (B .fac) i []) (3 * m) (3 * j);
       sdc = table (λ i. getD (B .sdc) i []) m j;
-      frames = table (λ i. getD (B .frames) i []) (3 * m - (depth s - 1)) (3 * (m + j) - (depth s - 1) - (3 * m - (depth s - 1)));
+      frames = table (λ i. getD (B .frames) i []) (3 * m - (depth (s .settings) - 1)) (3 * (m + j) - (depth (s .settings) - 1) - (3 * m - (depth (s .settings) - 1)));
     }
 
-pub between-none : (s : Settings) (B : Bits) (m : ℕ) → noBits ≡ between s B m 0
+pub between-none : (s : Scheme) (B : Bits) (m : ℕ) → noBits ≡ between s B m 0
 unfolding between noBits table
 between-none s B m = rw (add-zero, sub-self)
 
@@ -63,7 +64,7 @@ adds x y z h k = omega arith
 rises : (x y e : ℕ) → x ≤ y → x - e ≤ y - e
 rises x y e h = omega arith
 
-pub between-more : (s : Settings) (B : Bits) (m j : ℕ) → handing s B m (between s B (suc m) j) ≡ between s B m (suc j)
+pub between-more : (s : Scheme) (B : Bits) (m j : ℕ) → handing s B m (between s B (suc m) j) ≡ between s B m (suc j)
 unfolding between handing table
 between-more s B m j = λ i. record { fac = facs i; sdc = table (λ i. getD (B .sdc) i []) m (suc j); frames = framed i }
   where
@@ -76,17 +77,17 @@ between-more s B m j = λ i. record { fac = facs i; sdc = table (λ i. getD (B .
     all : 3 * (suc m + j) ≡ 3 * (m + suc j)
     all = omega arith
 
-    framed : table (λ i. getD (B .frames) i []) (3 * m - (depth s - 1)) (3 * m + 3 - (depth s - 1) - (3 * m - (depth s - 1)))
-        ++ table (λ i. getD (B .frames) i []) (3 * suc m - (depth s - 1)) (3 * (suc m + j) - (depth s - 1) - (3 * suc m - (depth s - 1)))
-        ≡ table (λ i. getD (B .frames) i []) (3 * m - (depth s - 1)) (3 * (m + suc j) - (depth s - 1) - (3 * m - (depth s - 1)))
+    framed : table (λ i. getD (B .frames) i []) (3 * m - (depth (s .settings) - 1)) (3 * m + 3 - (depth (s .settings) - 1) - (3 * m - (depth (s .settings) - 1)))
+        ++ table (λ i. getD (B .frames) i []) (3 * suc m - (depth (s .settings) - 1)) (3 * (suc m + j) - (depth (s .settings) - 1) - (3 * suc m - (depth (s .settings) - 1)))
+        ≡ table (λ i. getD (B .frames) i []) (3 * m - (depth (s .settings) - 1)) (3 * (m + suc j) - (depth (s .settings) - 1) - (3 * m - (depth (s .settings) - 1)))
     framed =
         rw (one, all)
-        (joins _ (3 * m - (depth s - 1)) (3 * suc m - (depth s - 1) - (3 * m - (depth s - 1))) (3 * suc m - (depth s - 1)) _ _
-        (meets _ _ (rises (3 * m) (3 * suc m) (depth s - 1) (omega arith)))
-        (adds _ _ _ (rises (3 * m) (3 * suc m) (depth s - 1) (omega arith)) (rises (3 * suc m) (3 * (m + suc j)) (depth s - 1) (omega arith))))
+        (joins _ (3 * m - (depth (s .settings) - 1)) (3 * suc m - (depth (s .settings) - 1) - (3 * m - (depth (s .settings) - 1))) (3 * suc m - (depth (s .settings) - 1)) _ _
+        (meets _ _ (rises (3 * m) (3 * suc m) (depth (s .settings) - 1) (omega arith)))
+        (adds _ _ _ (rises (3 * m) (3 * suc m) (depth (s .settings) - 1) (omega arith)) (rises (3 * suc m) (3 * (m + suc j)) (depth (s .settings) - 1) (omega arith))))
 
 -- A call that feeds lends super frame m.
-feeds-first : (s : Settings) (B : Bits) (m n : ℕ) (r : ReadCall) → Feeds s (table (superFrame s B) m n) r
+feeds-first : (s : Scheme) (B : Bits) (m n : ℕ) (r : ReadCall) → Feeds s (table (superFrame s B) m n) r
     → (0 < n) × (r ≡ feeding (superFrame s B m) (r .fac) (r .sdc) (r .msc))
 unfolding table feeding
 feeds-first s B m zero r F = absurd (let u = F .unread in let z : _≡_ {A = ℕ} 0 1 = cc in omega arith)
@@ -104,13 +105,13 @@ feeds-first s B m (suc n) r F =
       },
     )
 
-module _ (s : Settings) (c : Coding s) (allowed : refusal s ≡ 0) (B : Bits) (w : Whole s B) where
-  pub feeds-reading : (m n : ℕ) (q : Progress) (r : ReadCall) → m + n ≤ length (B .sdc) → Keeps s (frameAt s (B .frames)) (sentAge (depth s)) (3 * m) q
+module _ (s : Scheme) (c : Coding s) (allowed : schemeRefusal s ≡ 0) (B : Bits) (w : Whole s B) where
+  pub feeds-reading : (m n : ℕ) (q : Progress) (r : ReadCall) → m + n ≤ length (B .sdc) → Keeps s (frameAt s (B .frames)) (sentAge (depth (s .settings))) (3 * m) q
       → Feeds s (table (superFrame s B) m n) r → Reading s B m q r
   feeds-reading m n q r h K F =
       let f = feeds-first s B m n r F in
       subst (Reading s B m q) (sym (f .1))
-      (fed-reading s c B w m (omega (arith, f .0)) allowed q K (r .fac) (r .sdc) (r .msc) (bytes-fit s (r .fac) (r .sdc) (r .msc) (F .room)))
+      (fed-reading s c B w m (omega (arith, f .0)) allowed q K (r .fac) (r .sdc) (r .msc) (bytes-fit (s .settings) (r .fac) (r .sdc) (r .msc) (F .room)))
 
   -- A list of calls that is fed from super frame m on: those that feed are accepted, no more than there are super frames, and what is handed out is what was brought.
   abbrev pub Back : ℕ → ℕ → Progress → List ReadCall → Type 0
@@ -131,7 +132,7 @@ module _ (s : Settings) (c : Coding s) (allowed : refusal s ≡ 0) (B : Bits) (w
 
   -- An accepted call before such a list.
   back-reads : (m n : ℕ) (q : Progress) (r : ReadCall) (rest : List ReadCall) → Reading s B m q r
-      → (Feeds (stateOf s q .settings) (table (superFrame s B) m (suc n)) r → reads (stateOf s q) (q .memory) r ≡ true)
+      → (Feeds (stateOf s q .scheme) (table (superFrame s B) m (suc n)) r → reads (stateOf s q) (q .memory) r ≡ true)
       → Back (suc m) n (readOn s q B m) rest → Back m (suc n) q (r ∷ rest)
   unfolding readCount
   back-reads m n q r rest R first (a, few, out) = (
@@ -142,17 +143,17 @@ module _ (s : Settings) (c : Coding s) (allowed : refusal s ≡ 0) (B : Bits) (w
 
   -- A refused one.
   back-refuses : (m n : ℕ) (q : Progress) (r : ReadCall) (rest : List ReadCall) → reads (stateOf s q) (q .memory) r ≡ false
-      → (Feeds (stateOf s q .settings) (table (superFrame s B) m n) r → reads (stateOf s q) (q .memory) r ≡ true)
+      → (Feeds (stateOf s q .scheme) (table (superFrame s B) m n) r → reads (stateOf s q) (q .memory) r ≡ true)
       → Back m n q rest → Back m n q (r ∷ rest)
   unfolding unreadAfter readCount handed readRefused
   back-refuses m n q r rest h first (a, few, out) =
       let k = kept (stateOf s q) (q .memory) r h in ((first, rw (h, k) a), rw (h, k) few, rw (h, k) out)
 
   -- A call that feeds or is refused, before a list of which that is known from each super frame on.
-  back-call : (m n : ℕ) (q : Progress) (r : ReadCall) (rest : List ReadCall) → m + n ≡ length (B .sdc) → Keeps s (frameAt s (B .frames)) (sentAge (depth s)) (3 * m) q
-      → ((m n : ℕ) (q : Progress) → m + n ≡ length (B .sdc) → Keeps s (frameAt s (B .frames)) (sentAge (depth s)) (3 * m) q
+  back-call : (m n : ℕ) (q : Progress) (r : ReadCall) (rest : List ReadCall) → m + n ≡ length (B .sdc) → Keeps s (frameAt s (B .frames)) (sentAge (depth (s .settings))) (3 * m) q
+      → ((m n : ℕ) (q : Progress) → m + n ≡ length (B .sdc) → Keeps s (frameAt s (B .frames)) (sentAge (depth (s .settings))) (3 * m) q
       → Fed (table (superFrame s B) m n) (stateOf s q) (q .memory) rest → Back m n q rest)
-      → Feeds (stateOf s q .settings) (table (superFrame s B) m n) r ⊎ (reads (stateOf s q) (q .memory) r ≡ false)
+      → Feeds (stateOf s q .scheme) (table (superFrame s B) m n) r ⊎ (reads (stateOf s q) (q .memory) r ≡ false)
       → Fed (unreadAfter (table (superFrame s B) m n) (stateOf s q) (q .memory) r) (readOf (stateOf s q) (q .memory) r .reading .state) (readOf (stateOf s q) (q .memory) r .memory) rest
       → Back m n q (r ∷ rest)
   unfolding stateOf unreadAfter readRefused
@@ -165,18 +166,18 @@ module _ (s : Settings) (c : Coding s) (allowed : refusal s ≡ 0) (B : Bits) (w
       back-reads m n q r rest R (λ g. R .accepted)
       (ih (suc m) n (readOn s q B m) (omega arith) (R .keeps) (subst₃ (λ x y z. Fed x y z rest) (taken-one m n q r (R .accepted)) (R .state) (R .memory) F))
 
-  pub reads-back : (calls : List ReadCall) (m n : ℕ) (q : Progress) → m + n ≡ length (B .sdc) → Keeps s (frameAt s (B .frames)) (sentAge (depth s)) (3 * m) q
+  pub reads-back : (calls : List ReadCall) (m n : ℕ) (q : Progress) → m + n ≡ length (B .sdc) → Keeps s (frameAt s (B .frames)) (sentAge (depth (s .settings))) (3 * m) q
       → Fed (table (superFrame s B) m n) (stateOf s q) (q .memory) calls → Back m n q calls
   reads-back [] m n q h K F = back-none m n q
   reads-back (r ∷ rest) m n q h K (one, F) = back-call m n q r rest h K (reads-back rest) one F
 
 -- Calls that lend one super frame after the other, with buffers of the right length.
-unfoldable pub feedAll : Settings → List SuperFrame → List ReadCall
-feedAll s frames = map (λ f. feeding f (replicate 27 0) (replicate (sdcBytes s) 0) (replicate (3 * frameBytes s) 0)) frames
+unfoldable pub feedAll : Scheme → List SuperFrame → List ReadCall
+feedAll s frames = map (λ f. feeding f (replicate (3 * facBytes) 0) (replicate (sdcBytes (s .settings)) 0) (replicate (3 * frameBytes (s .settings)) 0)) frames
 
 -- Such calls feed, and all are accepted.
-module _ (s : Settings) (c : Coding s) (allowed : refusal s ≡ 0) (B : Bits) (w : Whole s B) where
-  feeds-next : (m n : ℕ) → Feeds s (table (superFrame s B) m (suc n)) (feeding (superFrame s B m) (replicate 27 0) (replicate (sdcBytes s) 0) (replicate (3 * frameBytes s) 0))
+module _ (s : Scheme) (c : Coding s) (allowed : schemeRefusal s ≡ 0) (B : Bits) (w : Whole s B) where
+  feeds-next : (m n : ℕ) → Feeds s (table (superFrame s B) m (suc n)) (feeding (superFrame s B m) (replicate (3 * facBytes) 0) (replicate (sdcBytes (s .settings)) 0) (replicate (3 * frameBytes (s .settings)) 0))
   unfolding feeding table
   feeds-next m n =
       record {
@@ -186,10 +187,10 @@ module _ (s : Settings) (c : Coding s) (allowed : refusal s ≡ 0) (B : Bits) (w
         fac = refl;
         sdc = refl;
         msc = refl;
-        room = fit-bytes s _ _ _ (record { faclong = length-replicate {A = ℕ} 27 0; sdclong = length-replicate {A = ℕ} (sdcBytes s) 0; msclong = length-replicate {A = ℕ} (3 * frameBytes s) 0 });
+        room = fit-bytes (s .settings) _ _ _ (record { faclong = length-replicate {A = ℕ} (3 * facBytes) 0; sdclong = length-replicate {A = ℕ} (sdcBytes (s .settings)) 0; msclong = length-replicate {A = ℕ} (3 * frameBytes (s .settings)) 0 });
       }
 
-  pub feeds-all : (n m : ℕ) (q : Progress) → m + n ≡ length (B .sdc) → Keeps s (frameAt s (B .frames)) (sentAge (depth s)) (3 * m) q
+  pub feeds-all : (n m : ℕ) (q : Progress) → m + n ≡ length (B .sdc) → Keeps s (frameAt s (B .frames)) (sentAge (depth (s .settings))) (3 * m) q
       → Fed (table (superFrame s B) m n) (stateOf s q) (q .memory) (feedAll s (table (superFrame s B) m n))
       × (readCount (stateOf s q) (q .memory) (feedAll s (table (superFrame s B) m n)) ≡ n)
   unfolding feedAll table readCount stateOf

@@ -8,8 +8,8 @@ use native.Mathlib.Omega.{arith}
 use lib.ListN.{length}
 use lib.IntN.{ℤ}
 use Rattle.lists.specs.Lists.{table}
-use Rattle.settings.specs.declared.Settings.{Settings}
-use Rattle.settings.specs.Refusal.{refusal}
+use Rattle.channels.specs.declared.Scheme.{Scheme}
+use Rattle.channels.specs.Scheme.{schemeRefusal}
 use Rattle.lists.specs.Bools.{every}
 use Rattle.superframe.specs.Interleaving.{Progress}
 use Rattle.superframe.specs.Reset.{resetRefusal, startState, startMemory}
@@ -24,60 +24,60 @@ use Rattle.superframe.proofs.Calls.{reset-fits, reset-accepts, reset-re
 use Rattle.superframe.proofs.CodeRuns.{Whole, Ahead, brought-whole, all-coded}
 
 -- Memory, position and count after an accepted Reset.
-unfoldable pub startOf : Settings → Progress
-startOf s = record { memory = startMemory s; position = 0; count = 0 }
+unfoldable pub startOf : Scheme → Progress
+startOf s = record { memory = startMemory (s .settings); position = 0; count = 0 }
 
 module _ (b : Begun) where
-  begun-zero : resetRefusal (b .settings) (b .lent) ≡ 0
+  begun-zero : resetRefusal (b .scheme) (b .lent) ≡ 0
   begun-zero =
-      elim (ℕ-discrete (resetRefusal (b .settings) (b .lent)) 0) [
+      elim (ℕ-discrete (resetRefusal (b .scheme) (b .lent)) 0) [
         | yes h ↦ h
-        | no h ↦ sym (ap (λ y. y .done .refusal) (reset-refuses (b .old) (b .settings) (b .lent) _ refl (omega arith))) ∙ b .accepted
+        | no h ↦ sym (ap (λ y. y .done .refusal) (reset-refuses (b .old) (b .scheme) (b .lent) _ refl (omega arith))) ∙ b .accepted
       ]
 
-  pub begun-allowed : refusal (b .settings) ≡ 0
-  begun-allowed = reset-fits (b .old) (b .settings) (b .lent) begun-zero .settings
+  pub begun-allowed : schemeRefusal (b .scheme) ≡ 0
+  begun-allowed = reset-fits (b .old) (b .scheme) (b .lent) begun-zero .scheme
 
-  pub begun-state : stateAt b ≡ stateOf (b .settings) (startOf (b .settings))
+  pub begun-state : stateAt b ≡ stateOf (b .scheme) (startOf (b .scheme))
   unfolding stateAt stateOf startOf startState
-  begun-state = ap (λ y. y .done .state) (reset-accepts (b .old) (b .settings) (b .lent) begun-zero)
+  begun-state = ap (λ y. y .done .state) (reset-accepts (b .old) (b .scheme) (b .lent) begun-zero)
 
-  pub begun-memory : memoryAt b ≡ startOf (b .settings) .memory
+  pub begun-memory : memoryAt b ≡ startOf (b .scheme) .memory
   unfolding memoryAt startOf
-  begun-memory = ap (λ y. y .memory) (reset-accepts (b .old) (b .settings) (b .lent) begun-zero)
+  begun-memory = ap (λ y. y .memory) (reset-accepts (b .old) (b .scheme) (b .lent) begun-zero)
 
 -- No super frame has been read: all bits are ahead.
 all-ahead : (B : Bits) → Ahead B 0 B
 all-ahead B = record { fac = refl; sdc = refl; frames = refl }
 
-module _ (coding : (s : Settings) → refusal s ≡ 0 → Coding s) where
+module _ (coding : (s : Scheme) → schemeRefusal s ≡ 0 → Coding s) where
   -- The coding of a run's settings.
-  pub coded-by : (b : Begun) → Coding (b .settings)
-  coded-by b = coding (b .settings) (begun-allowed b)
+  pub coded-by : (b : Begun) → Coding (b .scheme)
+  coded-by b = coding (b .scheme) (begun-allowed b)
 
-  pub begun-keeps : (b : Begun) (G : ℕ → List ℤ) (a : ℕ → ℕ → ℕ) → Keeps (b .settings) G a 0 (startOf (b .settings))
+  pub begun-keeps : (b : Begun) (G : ℕ → List ℤ) (a : ℕ → ℕ → ℕ) → Keeps (b .scheme) G a 0 (startOf (b .scheme))
   unfolding startOf
-  begun-keeps b G a = keeps-start (b .settings) (coded-by b) G a
+  begun-keeps b G a = keeps-start (b .scheme) (coded-by b) G a
 
   module _ (run : Run) where
-    bits-are : bits run ≡ brought (stateOf (run .begun .settings) (startOf (run .begun .settings))) (startOf (run .begun .settings) .memory) (run .calls)
+    bits-are : bits run ≡ brought (stateOf (run .begun .scheme) (startOf (run .begun .scheme))) (startOf (run .begun .scheme) .memory) (run .calls)
     unfolding bits
     bits-are = ap₂ (λ st me. brought st me (run .calls)) (begun-state (run .begun)) (begun-memory (run .begun))
 
     -- A run brings whole super frames of bits.
-    pub bits-whole : Whole (run .begun .settings) (bits run)
-    bits-whole = rw bits-are (brought-whole (run .begun .settings) (run .calls) (startOf (run .begun .settings)))
+    pub bits-whole : Whole (run .begun .scheme) (bits run)
+    bits-whole = rw bits-are (brought-whole (run .begun .scheme) (run .calls) (startOf (run .begun .scheme)))
 
-    ahead : Ahead (bits run) 0 (brought (stateOf (run .begun .settings) (startOf (run .begun .settings))) (startOf (run .begun .settings) .memory) (run .calls))
+    ahead : Ahead (bits run) 0 (brought (stateOf (run .begun .scheme) (startOf (run .begun .scheme))) (startOf (run .begun .scheme) .memory) (run .calls))
     ahead = subst (Ahead (bits run) 0) bits-are (all-ahead (bits run))
 
-    coded-run : (sent (stateOf (run .begun .settings) (startOf (run .begun .settings))) (startOf (run .begun .settings) .memory) (run .calls)
-        ≡ table (superFrame (run .begun .settings) (bits run)) 0
-        (length (brought (stateOf (run .begun .settings) (startOf (run .begun .settings))) (startOf (run .begun .settings) .memory) (run .calls) .sdc)))
-        × (every (map runNumber (refusals (stateOf (run .begun .settings) (startOf (run .begun .settings))) (startOf (run .begun .settings) .memory) (run .calls))) ≡ true)
+    coded-run : (sent (stateOf (run .begun .scheme) (startOf (run .begun .scheme))) (startOf (run .begun .scheme) .memory) (run .calls)
+        ≡ table (superFrame (run .begun .scheme) (bits run)) 0
+        (length (brought (stateOf (run .begun .scheme) (startOf (run .begun .scheme))) (startOf (run .begun .scheme) .memory) (run .calls) .sdc)))
+        × (every (map runNumber (refusals (stateOf (run .begun .scheme) (startOf (run .begun .scheme))) (startOf (run .begun .scheme) .memory) (run .calls))) ≡ true)
     coded-run =
-        all-coded (run .begun .settings) (coded-by (run .begun)) (begun-allowed (run .begun)) (bits run) bits-whole (run .calls) (startOf (run .begun .settings)) 0
-        (begun-keeps (run .begun) (frameAt (run .begun .settings) (bits run .frames)) storedAge) (omega arith) ahead
+        all-coded (run .begun .scheme) (coded-by (run .begun)) (begun-allowed (run .begun)) (bits run) bits-whole (run .calls) (startOf (run .begun .scheme)) 0
+        (begun-keeps (run .begun) (frameAt (run .begun .scheme) (bits run .frames)) storedAge) (omega arith) ahead
 
     -- The cells sent are the standard's.
     pub run-sends : cells run ≡ standardCells run
@@ -85,7 +85,7 @@ module _ (coding : (s : Settings) → refusal s ≡ 0 → Coding s) where
     run-sends =
         ap₂ (λ st me. sent st me (run .calls)) (begun-state (run .begun)) (begun-memory (run .begun))
         ∙ coded-run .0
-        ∙ ap (λ b. table (superFrame (run .begun .settings) (bits run)) 0 (length (b .sdc))) (sym bits-are)
+        ∙ ap (λ b. table (superFrame (run .begun .scheme) (bits run)) 0 (length (b .sdc))) (sym bits-are)
 
     -- A call of a run is refused by 9, 10 or 11 only.
     pub run-refuses : every (map runNumber (refusals (stateAt (run .begun)) (memoryAt (run .begun)) (run .calls))) ≡ true

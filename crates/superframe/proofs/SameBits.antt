@@ -10,8 +10,8 @@ use lib.IntN.{ℤ, pos}
 use Rattle.lists.specs.Lists.{table}
 use Rattle.lists.proofs.Counting.{below-or}
 use Rattle.lists.proofs.Tables.{length-table, getD-table, map-table}
-use Rattle.settings.specs.declared.Settings.{Settings}
-use Rattle.settings.specs.Refusal.{refusal}
+use Rattle.channels.specs.declared.Scheme.{Scheme}
+use Rattle.channels.specs.Scheme.{schemeRefusal}
 use Rattle.settings.specs.Cells.{facCells}
 use Rattle.settings.specs.Sizes.{depth}
 use Rattle.block.specs.declared.Block.{Block}
@@ -34,17 +34,17 @@ use Rattle.superframe.proofs.CodeRuns.{Whole}
 use Rattle.superframe.proofs.Runs.{coded-by, bits-whole}
 
 -- A frame is decided by the D rows that carry it.
-pub rows-frames : (s : Settings) → Coding s → {G H R S : ℕ → List ℤ} → Carries s G R → Carries s H S
-    → (f : ℕ) → ((i : ℕ) → f ≤ i → i < f + depth s → R i ≡ S i) → G f ≡ H f
+pub rows-frames : (s : Scheme) → Coding s → {G H R S : ℕ → List ℤ} → Carries s G R → Carries s H S
+    → (f : ℕ) → ((i : ℕ) → f ≤ i → i < f + depth (s .settings) → R i ≡ S i) → G f ≡ H f
 rows-frames s c {G} {H} {R} {S} one two f same =
     ext-getD (pos 0) (G f) (H f) (one .long f ∙ sym (two .long f)) (λ r b. number r (rw (one .long f) at b))
   where
-    number : (r : ℕ) → r < slotSize s → getD (G f) r (pos 0) ≡ getD (H f) r (pos 0)
+    number : (r : ℕ) → r < slotSize (s .settings) → getD (G f) r (pos 0) ≡ getD (H f) r (pos 0)
     number r h =
         let w = covers s c r h in
         let k = w .index in
-        let d = delay (depth s) k in
-        let l = delay-low (depth s) k (depth-low s) in
+        let d = delay (depth (s .settings)) k in
+        let l = delay-low (depth (s .settings)) k (depth-low (s .settings)) in
         let e : f + d - d ≡ f = omega arith in
         let x = rw (e, w .value) at (one .number (f + d) k (w .low) (omega arith)) in
         let y = rw (e, w .value) at (two .number (f + d) k (w .low) (omega arith)) in
@@ -63,16 +63,16 @@ table-same f g n m e i h =
     let l : n ≡ m = sym (length-table f 0 n) ∙ ap length e ∙ length-table g 0 m in
     sym (getD-table (f i) f n i h) ∙ ap (λ t. getD t i (f i)) e ∙ getD-table (f i) g m i (omega arith)
 
-pub super-frames-same : (s : Settings) (b d : Bits) → standard s b ≡ standard s d → (m : ℕ) → m < length (b .sdc) → superFrame s b m ≡ superFrame s d m
+pub super-frames-same : (s : Scheme) (b d : Bits) → standard s b ≡ standard s d → (m : ℕ) → m < length (b .sdc) → superFrame s b m ≡ superFrame s d m
 unfolding standard
 super-frames-same s b d e = table-same (superFrame s b) (superFrame s d) _ _ e
 
-module _ (s : Settings) (c : Coding s) (b d : Bits) (wb : Whole s b) (wd : Whole s d) (n : length (b .sdc) ≡ length (d .sdc)) where
+module _ (s : Scheme) (c : Coding s) (b d : Bits) (wb : Whole s b) (wd : Whole s d) (n : length (b .sdc) ≡ length (d .sdc)) where
   -- Equal cells of all FAC blocks, of all SDC blocks.
   pub fac-same : ((m : ℕ) → m < length (b .sdc) → superFrame s b m .fac ≡ superFrame s d m .fac) → b .fac ≡ d .fac
   fac-same h = bits-same (c .fac) (wb .facBits) (wd .facBits) (omega (arith, wb .fac, wd .fac)) (λ i x. at i (omega (arith, wb .fac)))
     where
-      at : (i : ℕ) → i < 3 * length (b .sdc) → cellsOf facBlock (getD (b .fac) i []) ≡ cellsOf facBlock (getD (d .fac) i [])
+      at : (i : ℕ) → i < 3 * length (b .sdc) → cellsOf (facBlock s) (getD (b .fac) i []) ≡ cellsOf (facBlock s) (getD (d .fac) i [])
       at i x =
           let e : 3 * (i / 3) + i % 3 ≡ i = omega arith in
           rw e at
@@ -97,7 +97,7 @@ module _ (s : Settings) (c : Coding s) (b d : Bits) (wb : Whole s b) (wd : Whole
             let e : 3 * (f / 3) + f % 3 ≡ f = omega arith in
             rw e at
             (sym (row-part s b (f / 3) (f % 3) (omega arith))
-            ∙ ap (λ l. part (slotSize s) l (f % 3)) (h (f / 3) (omega (arith, wb .frames)))
+            ∙ ap (λ l. part (slotSize (s .settings)) l (f % 3)) (h (f / 3) (omega (arith, wb .frames)))
             ∙ row-part s d (f / 3) (f % 3) (omega arith))
 
         end : drop (length (b .frames) - 6) (b .frames) ≡ drop (length (b .frames) - 6) (d .frames)
@@ -105,7 +105,7 @@ module _ (s : Settings) (c : Coding s) (b d : Bits) (wb : Whole s b) (wd : Whole
 
         at : (i : ℕ) → (i < length (b .frames) - 6) ⊎ (length (b .frames) - 6 ≤ i)
             → cellsOf (mscBlock s) (getD (b .frames) i []) ≡ cellsOf (mscBlock s) (getD (d .frames) i [])
-        at i (inl x) = rows-frames s c (standard-carries s (b .frames)) (standard-carries s (d .frames)) i (λ j y z. row j (omega (arith, depth-high s)))
+        at i (inl x) = rows-frames s c (standard-carries s (b .frames)) (standard-carries s (d .frames)) i (λ j y z. row j (omega (arith, depth-high (s .settings))))
         at i (inr x) =
             let e : (length (b .frames) - 6) + (i - (length (b .frames) - 6)) ≡ i = omega arith in
             ap (cellsOf (mscBlock s))
@@ -115,27 +115,27 @@ module _ (s : Settings) (c : Coding s) (b d : Bits) (wb : Whole s b) (wd : Whole
             ∙ getD-drop (length (b .frames) - 6) (d .frames) (i - (length (b .frames) - 6)) []))
 
     -- So multiplex frames are equal exactly when the MSC cells are.
-    msc-table : (B : Bits) → map (λ f. f .msc) (standard s B) ≡ table (λ m. joined (table (λ i. standardRow s (B .frames) (3 * m + i)) 0 3) ++ fillers s) 0 (length (B .sdc))
+    msc-table : (B : Bits) → map (λ f. f .msc) (standard s B) ≡ table (λ m. joined (table (λ i. standardRow s (B .frames) (3 * m + i)) 0 3) ++ fillers (s .settings)) 0 (length (B .sdc))
     unfolding standard superFrame
     msc-table B = map-table (λ f. f .msc) (superFrame s B) 0 (length (B .sdc))
 
     frames-cells : (b .frames ≡ d .frames) ↔ (map (λ f. f .msc) (standard s b) ≡ map (λ f. f .msc) (standard s d))
     unfolding superFrame
     frames-cells = (
-      λ p. msc-table b ∙ ap₂ (λ F l. table (λ m. joined (table (λ i. standardRow s F (3 * m + i)) 0 3) ++ fillers s) 0 l) p n ∙ sym (msc-table d),
+      λ p. msc-table b ∙ ap₂ (λ F l. table (λ m. joined (table (λ i. standardRow s F (3 * m + i)) 0 3) ++ fillers (s .settings)) 0 l) p n ∙ sym (msc-table d),
       λ p. frames-same (table-same (λ m. superFrame s b m .msc) (λ m. superFrame s d m .msc) _ _ (sym (msc-table b) ∙ p ∙ msc-table d)),
     )
 
 -- For two closed runs with equal settings and equally many accepted calls, multiplex frames are equal exactly when the MSC cells are, whatever FAC and SDC are.
-pub same-frames : ((s : Settings) → refusal s ≡ 0 → Coding s) → (one two : Run)
-    → one .begun .settings ≡ two .begun .settings
+pub same-frames : ((s : Scheme) → schemeRefusal s ≡ 0 → Coding s) → (one two : Run)
+    → one .begun .scheme ≡ two .begun .scheme
     → length (bits one .sdc) ≡ length (bits two .sdc)
-    → Closed (one .begun .settings) (bits one)
-    → Closed (two .begun .settings) (bits two)
+    → Closed (one .begun .scheme) (bits one)
+    → Closed (two .begun .scheme) (bits two)
     → (bits one .frames ≡ bits two .frames) ↔ (map (λ f. f .msc) (standardCells one) ≡ map (λ f. f .msc) (standardCells two))
 unfolding standardCells
 same-frames coding one two e n c d =
-    let s = one .begun .settings in
+    let s = one .begun .scheme in
     subst (λ x. (bits one .frames ≡ bits two .frames) ↔ (map (λ f. f .msc) (standard s (bits one)) ≡ map (λ f. f .msc) (standard x (bits two)))) e
     (frames-cells s (coded-by coding (one .begun)) (bits one) (bits two) (bits-whole coding one)
     (subst (λ x. Whole x (bits two)) (sym e) (bits-whole coding two)) n c (subst (λ x. Closed x (bits two)) (sym e) d))

@@ -6,8 +6,8 @@ use native.Mathlib.Nat.{zero-add}
 use native.Mathlib.Omega.{arith}
 use lib.ListN.{length, getD}
 use Rattle.lists.proofs.Tables.{length-table, table-at}
-use Rattle.settings.specs.declared.Settings.{Settings}
-use Rattle.settings.specs.Refusal.{refusal}
+use Rattle.channels.specs.declared.Scheme.{Scheme}
+use Rattle.channels.specs.Scheme.{schemeRefusal}
 use Rattle.superframe.specs.Read.{ReadCall, pointTests}
 use Rattle.superframe.specs.Runs.{Run, bits, cells}
 use Rattle.superframe.specs.Standard.{superFrame, standard}
@@ -19,21 +19,21 @@ use Rattle.superframe.proofs.SuperFrames.{cells-long}
 use Rattle.superframe.proofs.ReadCalls.{feeding, sent-points}
 use Rattle.superframe.proofs.Runs.{begun-allowed, bits-whole, run-sends}
 
-module _ (coding : (s : Settings) → refusal s ≡ 0 → Coding s) (run : Run) (m : ℕ) (c : ReadCall) (L : LendsSent run m c) where
+module _ (coding : (s : Scheme) → schemeRefusal s ≡ 0 → Coding s) (run : Run) (m : ℕ) (c : ReadCall) (L : LendsSent run m c) where
   -- As many super frames are sent as SDC blocks are brought.
   brought-low : m < length (bits run .sdc)
   unfolding standardCells standard
   brought-low = let e : length (cells run) ≡ length (bits run .sdc) = ap length (run-sends coding run) ∙ length-table _ 0 (length (bits run .sdc)) in omega (arith, L .sent)
 
   -- Super frame m is the standard's.
-  sent-is : sentAt run m ≡ superFrame (run .begun .settings) (bits run) m
+  sent-is : sentAt run m ≡ superFrame (run .begun .scheme) (bits run) m
   unfolding sentAt standardCells standard
   sent-is =
       ap (λ l. getD l m (record { fac = []; sdc = []; msc = [] })) (run-sends coding run)
-      ∙ table-at (superFrame (run .begun .settings) (bits run)) 0 (length (bits run .sdc)) m _ brought-low
+      ∙ table-at (superFrame (run .begun .scheme) (bits run)) 0 (length (bits run .sdc)) m _ brought-low
       ∙ rw zero-add
 
-  lent-is : c ≡ feeding (superFrame (run .begun .settings) (bits run) m) (c .fac) (c .sdc) (c .msc)
+  lent-is : c ≡ feeding (superFrame (run .begun .scheme) (bits run) m) (c .fac) (c .sdc) (c .msc)
   unfolding feeding
   lent-is =
       λ i. record {
@@ -45,15 +45,15 @@ module _ (coding : (s : Settings) → refusal s ≡ 0 → Coding s) (run : Run) 
         msc = c .msc;
       }
 
-  count-low : countBefore (run .begun .settings) m ≤ 3 * m
+  count-low : countBefore (run .begun .scheme .settings) m ≤ 3 * m
   unfolding countBefore
   count-low = omega arith
 
-  pub sent-nowhere : Nowhere (NoPoint (run .begun .settings) (countBefore (run .begun .settings) m) c)
+  pub sent-nowhere : Nowhere (NoPoint (run .begun .scheme) (countBefore (run .begun .scheme .settings) m) c)
   unfolding feeding
   sent-nowhere =
-      let s = run .begun .settings in
-      let count = countBefore s m in
+      let s = run .begun .scheme in
+      let count = countBefore (s .settings) m in
       let call = feeding (superFrame s (bits run) m) (c .fac) (c .sdc) (c .msc) in
       let C = coding s (begun-allowed (run .begun)) in
       let w = bits-whole coding run in

@@ -9,8 +9,8 @@ use lib.Seq.{take-all, take-add}
 use Rattle.lists.proofs.Tables.{take-table, replicate-table}
 use Rattle.superframe.proofs.Lists.{take-of-table}
 use Rattle.lists.specs.Lists.{table}
-use Rattle.settings.specs.declared.Settings.{Settings}
-use Rattle.settings.specs.Refusal.{refusal}
+use Rattle.channels.specs.declared.Scheme.{Scheme}
+use Rattle.channels.specs.Scheme.{schemeRefusal}
 use Rattle.settings.specs.Sizes.{depth}
 use Rattle.block.specs.Block.{bitCount}
 use Rattle.channels.specs.Msc.{mscBlock}
@@ -27,7 +27,7 @@ use Rattle.superframe.proofs.Runs.{startOf, begun-allowed, begun-state,
 use Rattle.superframe.proofs.SameBits.{fac-same, sdc-same, same-frames, super-frames-same}
 
 -- What is handed out from the first super frame on.
-pub between-first : (s : Settings) (B : Bits) → Whole s B → (j : ℕ) → j ≤ length (B .sdc) → between s B 0 j ≡ firstBits (depth s) j B
+pub between-first : (s : Scheme) (B : Bits) → Whole s B → (j : ℕ) → j ≤ length (B .sdc) → between s B 0 j ≡ firstBits (depth (s .settings)) j B
 unfolding between firstBits
 between-first s B w j h = λ i. record { fac = facs i; sdc = sdcs i; frames = framed i }
   where
@@ -37,33 +37,33 @@ between-first s B w j h = λ i. record { fac = facs i; sdc = sdcs i; frames = fr
     sdcs : table (λ i. getD (B .sdc) i []) 0 j ≡ take j (B .sdc)
     sdcs = take-table [] (B .sdc) j h
 
-    framed : table (λ i. getD (B .frames) i []) (0 - (depth s - 1)) (3 * (0 + j) - (depth s - 1) - (0 - (depth s - 1))) ≡ take (3 * j - (depth s - 1)) (B .frames)
-    framed = rw (zero-sub, zero-add, sub-zero) (take-table [] (B .frames) (3 * j - (depth s - 1)) (omega (arith, w .frames)))
+    framed : table (λ i. getD (B .frames) i []) (0 - (depth (s .settings) - 1)) (3 * (0 + j) - (depth (s .settings) - 1) - (0 - (depth (s .settings) - 1))) ≡ take (3 * j - (depth (s .settings) - 1)) (B .frames)
+    framed = rw (zero-sub, zero-add, sub-zero) (take-table [] (B .frames) (3 * j - (depth (s .settings) - 1)) (omega (arith, w .frames)))
 
-module _ (coding : (s : Settings) → refusal s ≡ 0 → Coding s) where
+module _ (coding : (s : Scheme) → schemeRefusal s ≡ 0 → Coding s) where
   -- A reader of the run's settings, over the super frames of bits B.
-  module _ (reader : Begun) (B : Bits) (w : Whole (reader .settings) B) where
+  module _ (reader : Begun) (B : Bits) (w : Whole (reader .scheme) B) where
     -- Fed in order it accepts every call that feeds, and hands out what was brought.
     pub reader-back : (calls : List ReadCall)
-        → Fed (standard (reader .settings) B) (stateAt reader) (memoryAt reader) calls
-        → Accepts (standard (reader .settings) B) (stateAt reader) (memoryAt reader) calls
-        × (handed (stateAt reader) (memoryAt reader) calls ≡ firstBits (depth (reader .settings)) (readCount (stateAt reader) (memoryAt reader) calls) B)
+        → Fed (standard (reader .scheme) B) (stateAt reader) (memoryAt reader) calls
+        → Accepts (standard (reader .scheme) B) (stateAt reader) (memoryAt reader) calls
+        × (handed (stateAt reader) (memoryAt reader) calls ≡ firstBits (depth (reader .scheme .settings)) (readCount (stateAt reader) (memoryAt reader) calls) B)
     unfolding standard
     reader-back calls F =
-        let s = reader .settings in
-        let r = reads-back s (coded-by coding reader) (begun-allowed reader) B w calls 0 (length (B .sdc)) (startOf s) (zero-add _) (begun-keeps coding reader (frameAt s (B .frames)) (sentAge (depth s)))
+        let s = reader .scheme in
+        let r = reads-back s (coded-by coding reader) (begun-allowed reader) B w calls 0 (length (B .sdc)) (startOf s) (zero-add _) (begun-keeps coding reader (frameAt s (B .frames)) (sentAge (depth (s .settings))))
         (subst₂ (λ st me. Fed (table (superFrame s B) 0 (length (B .sdc))) st me calls) (begun-state reader) (begun-memory reader) F) in (
           subst₂ (λ st me. Accepts (table (superFrame s B) 0 (length (B .sdc))) st me calls) (sym (begun-state reader)) (sym (begun-memory reader)) (r .0),
           rw (begun-state reader, begun-memory reader) (r .2 ∙ between-first s B w _ (r .1)),
         )
 
     -- There are calls that feed it all the super frames.
-    pub reader-all : Fed (standard (reader .settings) B) (stateAt reader) (memoryAt reader) (feedAll (reader .settings) (standard (reader .settings) B))
-        × (readCount (stateAt reader) (memoryAt reader) (feedAll (reader .settings) (standard (reader .settings) B)) ≡ length (B .sdc))
+    pub reader-all : Fed (standard (reader .scheme) B) (stateAt reader) (memoryAt reader) (feedAll (reader .scheme) (standard (reader .scheme) B))
+        × (readCount (stateAt reader) (memoryAt reader) (feedAll (reader .scheme) (standard (reader .scheme) B)) ≡ length (B .sdc))
     unfolding standard
     reader-all =
-        let s = reader .settings in
-        let r = feeds-all s (coded-by coding reader) (begun-allowed reader) B w (length (B .sdc)) 0 (startOf s) (zero-add _) (begun-keeps coding reader (frameAt s (B .frames)) (sentAge (depth s))) in (
+        let s = reader .scheme in
+        let r = feeds-all s (coded-by coding reader) (begun-allowed reader) B w (length (B .sdc)) 0 (startOf s) (zero-add _) (begun-keeps coding reader (frameAt s (B .frames)) (sentAge (depth (s .settings)))) in (
           subst₂ (λ st me. Fed (table (superFrame s B) 0 (length (B .sdc))) st me (feedAll s (table (superFrame s B) 0 (length (B .sdc))))) (sym (begun-state reader)) (sym (begun-memory reader)) (r .0),
           rw (begun-state reader, begun-memory reader) (r .1),
         )
@@ -73,23 +73,23 @@ take-equal : {A : Type 0} (z : A) (n m : ℕ) → m ≤ n → take m (replicate 
 take-equal z n m h = ap (take m) (replicate-table z 0 n) ∙ take-of-table (λ i. z) 0 n m h ∙ sym (replicate-table z 0 m)
 
 -- A closed run has six frames.
-closed-six : (s : Settings) (b : Bits) → Closed s b → 6 ≤ length (b .frames)
+closed-six : (s : Scheme) (b : Bits) → Closed s b → 6 ≤ length (b .frames)
 closed-six s b c =
     let e : length (b .frames) - (length (b .frames) - 6) ≡ 6 = sym (length-drop (length (b .frames) - 6) (b .frames)) ∙ ap length (c .zeros) ∙ length-replicate 6 (replicate {A = ℕ} (bitCount (mscBlock s)) 0) in
     omega arith
 
 -- Of a closed run's frames a reader hands out all before the closing, and of the closing's the first 7 - D.
-pub closed-frames : (s : Settings) (b : Bits) → Whole s b → Closed s b
-    → take (3 * length (b .sdc) - (depth s - 1)) (b .frames)
-    ≡ take (length (b .frames) - 6) (b .frames) ++ replicate (7 - depth s) (replicate (bitCount (mscBlock s)) 0)
+pub closed-frames : (s : Scheme) (b : Bits) → Whole s b → Closed s b
+    → take (3 * length (b .sdc) - (depth (s .settings) - 1)) (b .frames)
+    ≡ take (length (b .frames) - 6) (b .frames) ++ replicate (7 - depth (s .settings)) (replicate (bitCount (mscBlock s)) 0)
 closed-frames s b w c =
-    let x = depth-low s in
-    let y = depth-high s in
-    let e : 3 * length (b .sdc) - (depth s - 1) ≡ (length (b .frames) - 6) + (7 - depth s) = omega (arith, w .frames, closed-six s b c) in
-    rw (e, take-add (length (b .frames) - 6) (7 - depth s) (b .frames), c .zeros, take-equal (replicate {A = ℕ} (bitCount (mscBlock s)) 0) 6 (7 - depth s) (omega arith))
+    let x = depth-low (s .settings) in
+    let y = depth-high (s .settings) in
+    let e : 3 * length (b .sdc) - (depth (s .settings) - 1) ≡ (length (b .frames) - 6) + (7 - depth (s .settings)) = omega (arith, w .frames, closed-six s b c) in
+    rw (e, take-add (length (b .frames) - 6) (7 - depth (s .settings)) (b .frames), c .zeros, take-equal (replicate {A = ℕ} (bitCount (mscBlock s)) 0) 6 (7 - depth (s .settings)) (omega arith))
 
 -- And all blocks.
-pub closed-all : (s : Settings) (b : Bits) → Whole s b → Closed s b → firstBits (depth s) (length (b .sdc)) b ≡ allBits s b
+pub closed-all : (s : Scheme) (b : Bits) → Whole s b → Closed s b → firstBits (depth (s .settings)) (length (b .sdc)) b ≡ allBits s b
 unfolding firstBits allBits
 closed-all s b w c =
     λ i. record {
@@ -99,7 +99,7 @@ closed-all s b w c =
     }
 
 -- Demand 3, of all settings whose coding is recovered.
-pub whole-runs-of : ((s : Settings) → refusal s ≡ 0 → Coding s) → WholeRuns
+pub whole-runs-of : ((s : Scheme) → schemeRefusal s ≡ 0 → Coding s) → WholeRuns
 unfolding standardCells
 whole-runs-of coding =
     record {
@@ -107,7 +107,7 @@ whole-runs-of coding =
       same = λ one two e n c d. (
         λ p. ap₂ standard e p,
         λ p.
-            let s = one .begun .settings in
+            let s = one .begun .scheme in
             let each = super-frames-same s (bits one) (bits two) (p ∙ ap (λ x. standard x (bits two)) (sym e)) in
             λ i. record {
               fac = fac-same s (coded-by coding (one .begun)) (bits one) (bits two) (bits-whole coding one) (whole two s (sym e)) n (λ m l. ap (λ f. f .fac) (each m l)) i;
@@ -118,25 +118,25 @@ whole-runs-of coding =
       readsBack = back;
       readsAll = λ run reader calls e c F h.
           back run reader calls e F .1
-          ∙ ap (λ j. firstBits (depth (reader .settings)) j (bits run)) h
-          ∙ closed-all (reader .settings) (bits run) (whole run (reader .settings) (sym e)) (subst (λ x. Closed x (bits run)) (sym e) c);
+          ∙ ap (λ j. firstBits (depth (reader .scheme .settings)) j (bits run)) h
+          ∙ closed-all (reader .scheme) (bits run) (whole run (reader .scheme) (sym e)) (subst (λ x. Closed x (bits run)) (sym e) c);
       readable = λ run reader e.
-          let calls = feedAll (reader .settings) (standard (reader .settings) (bits run)) in
-          let r = reader-all coding reader (bits run) (whole run (reader .settings) (sym e)) in
+          let calls = feedAll (reader .scheme) (standard (reader .scheme) (bits run)) in
+          let r = reader-all coding reader (bits run) (whole run (reader .scheme) (sym e)) in
           (calls, (subst (λ x. Fed (standard x (bits run)) (stateAt reader) (memoryAt reader) calls) e (r .0), r .1));
       refuses = run-refuses coding;
     }
   where
-    whole : (one : Run) (s : Settings) → one .begun .settings ≡ s → Whole s (bits one)
+    whole : (one : Run) (s : Scheme) → one .begun .scheme ≡ s → Whole s (bits one)
     whole one s e = subst (λ x. Whole x (bits one)) e (bits-whole coding one)
 
     back : (run : Run) (reader : Begun) (calls : List ReadCall)
-        → reader .settings ≡ run .begun .settings
+        → reader .scheme ≡ run .begun .scheme
         → Fed (standardCells run) (stateAt reader) (memoryAt reader) calls
         → Accepts (standardCells run) (stateAt reader) (memoryAt reader) calls
         × (handed (stateAt reader) (memoryAt reader) calls
-        ≡ firstBits (depth (reader .settings)) (readCount (stateAt reader) (memoryAt reader) calls) (bits run))
+        ≡ firstBits (depth (reader .scheme .settings)) (readCount (stateAt reader) (memoryAt reader) calls) (bits run))
     back run reader calls e F =
-        let r = reader-back coding reader (bits run) (whole run (reader .settings) (sym e)) calls
+        let r = reader-back coding reader (bits run) (whole run (reader .scheme) (sym e)) calls
         (subst (λ x. Fed (standard x (bits run)) (stateAt reader) (memoryAt reader) calls) (sym e) F) in
         (subst (λ x. Accepts (standard x (bits run)) (stateAt reader) (memoryAt reader) calls) e (r .0), r .1)

@@ -13,6 +13,7 @@ use Rattle.lists.specs.Same.{sameNumber}
 use Rattle.lists.specs.Bools.{every}
 use Rattle.block.specs.Points.{isPoint}
 use Rattle.block.specs.Block.{pointsOf}
+use Rattle.channels.specs.declared.Scheme.{Scheme}
 use Rattle.channels.specs.Msc.{mscBlock}
 use Rattle.superframe.specs.declared.State.{State}
 use Rattle.superframe.specs.Memory.{slotSize}
@@ -30,6 +31,10 @@ unfoldable pub joined : {A : Type 0} → List (List A) → List A
 joined [] = []
 joined (l ∷ ls) = l ++ joined ls
 
+-- An FAC block's 72 bits fill nine bytes.
+abbrev pub facBytes : ℕ
+facBytes = 9
+
 -- The length that memory must have.
 unfoldable pub memoryLength : Settings → ℕ
 memoryLength s = depth s * slotSize s
@@ -39,13 +44,13 @@ unfoldable pub isStart : ℤ → ℤ → Bool
 isStart re im = sameNumber (pos 0) re && sameNumber (pos 0) im
 
 -- Refusal 12: position or count above 4 (above 0 in short), or a memory cell neither (0, 0) nor an MSC point.
-unfoldable pub memoryCell : Settings → List ℤ → ℕ → Bool
+unfoldable pub memoryCell : Scheme → List ℤ → ℕ → Bool
 memoryCell s memory i =
     isStart (getD memory (2 * i) (pos 0)) (getD memory (2 * i + 1) (pos 0))
     || isPoint (pointsOf (mscBlock s)) (getD memory (2 * i) (pos 0)) (getD memory (2 * i + 1) (pos 0))
 
 unfoldable pub inOrder : State → List ℤ → Bool
 inOrder state memory =
-    ltb (state .position) (depth (state .settings))
-    && (ltb (state .count) (depth (state .settings))
-    && every (table (memoryCell (state .settings) memory) 0 (depth (state .settings) * nMux (state .settings))))
+    ltb (state .position) (depth (state .scheme .settings))
+    && (ltb (state .count) (depth (state .scheme .settings))
+    && every (table (memoryCell (state .scheme) memory) 0 (depth (state .scheme .settings) * nMux (state .scheme .settings))))

@@ -7,30 +7,31 @@ use lib.ListN.{length}
 use lib.IntN.{ℤ}
 use Rattle.lists.specs.Lists.{table}
 use Rattle.settings.specs.declared.Settings.{Settings}
-use Rattle.settings.specs.Refusal.{refusal}
 use Rattle.settings.specs.Cells.{facCells}
 use Rattle.settings.specs.Lengths.{nMux, nSdc, nSfa}
 use Rattle.settings.specs.Sizes.{depth, frameBytes, sdcBytes}
 use Rattle.lists.specs.Bools.{every}
+use Rattle.channels.specs.declared.Scheme.{Scheme}
+use Rattle.channels.specs.Scheme.{schemeRefusal}
 use Rattle.superframe.specs.declared.State.{State}
-use Rattle.superframe.specs.Call.{memoryLength, memoryCell}
+use Rattle.superframe.specs.Call.{facBytes, memoryLength, memoryCell}
 use Rattle.superframe.specs.Code.{CodeCall, sparesZero}
 use Rattle.superframe.specs.Read.{ReadCall}
 
--- No refusal from 1 to 8: settings that are allowed, and memory of their length.
-pub record Fits (s : Settings) (memory : List ℤ) : Type 0 where
-  pub settings : refusal s ≡ 0
-  pub long : length memory ≡ memoryLength s
+-- No refusal from 1 to 8, nor 23: settings that are allowed, a table that passes, and memory of the settings' length.
+pub record Fits (s : Scheme) (memory : List ℤ) : Type 0 where
+  pub scheme : schemeRefusal s ≡ 0
+  pub long : length memory ≡ memoryLength (s .settings)
 
 -- No refusal 12: position and count below the depth, and every memory cell (0, 0) or an MSC point.
 pub record Ordered (state : State) (memory : List ℤ) : Type 0 where
-  pub position : state .position < depth (state .settings)
-  pub count : state .count < depth (state .settings)
-  pub cells : every (table (memoryCell (state .settings) memory) 0 (depth (state .settings) * nMux (state .settings))) ≡ true
+  pub position : state .position < depth (state .scheme .settings)
+  pub count : state .count < depth (state .scheme .settings)
+  pub cells : every (table (memoryCell (state .scheme) memory) 0 (depth (state .scheme .settings) * nMux (state .scheme .settings))) ≡ true
 
 -- The buffers of packed bytes have their lengths.
 pub record BytesFit (s : Settings) (fac sdc msc : List ℕ) : Type 0 where
-  pub faclong : length fac ≡ 27
+  pub faclong : length fac ≡ 3 * facBytes
   pub sdclong : length sdc ≡ sdcBytes s
   pub msclong : length msc ≡ 3 * frameBytes s
 
@@ -42,15 +43,15 @@ pub record CellsFit (s : Settings) (fac sdc msc : List ℤ) : Type 0 where
 
 -- What an accepted Code call says.
 pub record CodeFits (state : State) (memory : List ℤ) (c : CodeCall) : Type 0 where
-  pub fits : Fits (state .settings) memory
-  pub bytes : BytesFit (state .settings) (c .fac) (c .sdc) (c .msc)
-  pub cells : CellsFit (state .settings) (c .faccells) (c .sdccells) (c .msccells)
-  pub spares : sparesZero (state .settings) (c .sdc) (c .msc) ≡ true
+  pub fits : Fits (state .scheme) memory
+  pub bytes : BytesFit (state .scheme .settings) (c .fac) (c .sdc) (c .msc)
+  pub cells : CellsFit (state .scheme .settings) (c .faccells) (c .sdccells) (c .msccells)
+  pub spares : sparesZero (state .scheme .settings) (c .sdc) (c .msc) ≡ true
   pub order : Ordered state memory
 
 -- What a Read call says that no number from 1 to 12 refuses.
 pub record ReadFits (state : State) (memory : List ℤ) (c : ReadCall) : Type 0 where
-  pub fits : Fits (state .settings) memory
-  pub cells : CellsFit (state .settings) (c .faccells) (c .sdccells) (c .msccells)
-  pub bytes : BytesFit (state .settings) (c .fac) (c .sdc) (c .msc)
+  pub fits : Fits (state .scheme) memory
+  pub cells : CellsFit (state .scheme .settings) (c .faccells) (c .sdccells) (c .msccells)
+  pub bytes : BytesFit (state .scheme .settings) (c .fac) (c .sdc) (c .msc)
   pub order : Ordered state memory

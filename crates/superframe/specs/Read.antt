@@ -7,7 +7,7 @@ use lib.IntN.{ℤ, pos}
 use lib.Dec.{eqb, ltb, leb}
 use Rattle.lists.specs.Lists.{table}
 use Rattle.settings.specs.declared.Settings.{Settings}
-use Rattle.settings.specs.Refusal.{first, refusal}
+use Rattle.settings.specs.Refusal.{first}
 use Rattle.settings.specs.Cells.{facCells}
 use Rattle.settings.specs.Lengths.{nMux}
 use Rattle.settings.specs.Sizes.{depth, frameBytes}
@@ -17,6 +17,8 @@ use Rattle.lists.specs.Bools.{every}
 use Rattle.lists.specs.Bools.{firstFault}
 use Rattle.block.specs.Reading.{given, bytesRead}
 use Rattle.block.specs.Block.{pointsOf}
+use Rattle.channels.specs.declared.Scheme.{Scheme}
+use Rattle.channels.specs.Scheme.{schemeRefusal}
 use Rattle.channels.specs.Fac.{facBlock}
 use Rattle.channels.specs.Sdc.{sdcBlock}
 use Rattle.channels.specs.Msc.{mscBlock}
@@ -67,70 +69,70 @@ unfoldable pub fillersOf : Settings → List ℤ → List ℤ
 fillersOf s msccells = drop (3 * slotSize s) msccells
 
 -- A cell of a row is ignored where it is of a frame before the first; any other must be an MSC point.
-unfoldable pub rowCell : Settings → ℕ → List ℤ → ℕ → Bool
+unfoldable pub rowCell : Scheme → ℕ → List ℤ → ℕ → Bool
 rowCell s count row i =
-    not (leb (delay (depth s) (2 * i)) count)
+    not (leb (delay (depth (s .settings)) (2 * i)) count)
     || isPoint (pointsOf (mscBlock s)) (getD row (2 * i) (pos 0)) (getD row (2 * i + 1) (pos 0))
 
-unfoldable pub rowPoints : Settings → ℕ → List ℤ → Bool
-rowPoints s count row = every (table (rowCell s count row) 0 (nMux s))
+unfoldable pub rowPoints : Scheme → ℕ → List ℤ → Bool
+rowPoints s count row = every (table (rowCell s count row) 0 (nMux (s .settings)))
 
 -- The frames seen before row i of a call begun at a count.
 unfoldable pub countAt : Settings → ℕ → ℕ → ℕ
 countAt s count i = Prim.Native.Nat.min (count + i) (depth s - 1)
 
 -- 13 by block: 0 to 2 FAC, 3 SDC, 4 to 6 the sent rows, 7 the fillers.
-unfoldable pub pointTests : Settings → ℕ → ReadCall → List Bool
+unfoldable pub pointTests : Scheme → ℕ → ReadCall → List Bool
 pointTests s count c =
-    map (arePoints (pointsOf facBlock)) (parts (2 * facCells) (c .faccells))
+    map (arePoints (pointsOf (facBlock s))) (parts (2 * facCells) (c .faccells))
     ++ (arePoints (pointsOf (sdcBlock s)) (c .sdccells)
-    ∷ (table (λ i. rowPoints s (countAt s count i) (part (slotSize s) (c .msccells) i)) 0 3
-    ++ (sameNumbers (fillersOf s (c .msccells)) (fillers s) ∷ [])))
+    ∷ (table (λ i. rowPoints s (countAt (s .settings) count i) (part (slotSize (s .settings)) (c .msccells) i)) 0 3
+    ++ (sameNumbers (fillersOf (s .settings) (c .msccells)) (fillers (s .settings)) ∷ [])))
 
 -- 14 by block: 0 to 2 FAC, 3 SDC, then the finished frames.
-unfoldable pub givenTests : Settings → Progress → ReadCall → List Bool
+unfoldable pub givenTests : Scheme → Progress → ReadCall → List Bool
 givenTests s q c =
-    map (given facBlock) (parts (2 * facCells) (c .faccells))
-    ++ (given (sdcBlock s) (c .sdccells) ∷ map (given (mscBlock s)) (finishedFrames s q (rowsOf s (c .msccells))))
+    map (given (facBlock s)) (parts (2 * facCells) (c .faccells))
+    ++ (given (sdcBlock s) (c .sdccells) ∷ map (given (mscBlock s)) (finishedFrames (s .settings) q (rowsOf (s .settings) (c .msccells))))
 
--- 1 to 10, and 12.
+-- 1 to 7, 23, 8 to 10, and 12.
 unfoldable pub orderRefusal : State → List ℤ → ReadCall → ℕ
 orderRefusal state memory c =
-    let s = state .settings in
-    first (ltb 0 (refusal s)) (refusal s)
-    (first (not (eqb (length memory) (memoryLength s))) 8
-    (first (not (cellLengths s (c .faccells) (c .sdccells) (c .msccells))) 9
-    (first (not (byteLengths s (c .fac) (c .sdc) (c .msc))) 10 (first (not (inOrder state memory)) 12 0))))
+    let s = state .scheme in
+    first (ltb 0 (schemeRefusal s)) (schemeRefusal s)
+    (first (not (eqb (length memory) (memoryLength (s .settings)))) 8
+    (first (not (cellLengths (s .settings) (c .faccells) (c .sdccells) (c .msccells))) 9
+    (first (not (byteLengths (s .settings) (c .fac) (c .sdc) (c .msc))) 10 (first (not (inOrder state memory)) 12 0))))
 
--- The answer: the lowest number that applies, with its block; refusals below 13 name 0.
+-- The answer: the first number that applies, with its block; all but 13 and 14 name 0.
 unfoldable pub answerOf : State → List ℤ → ReadCall → Answer
 answerOf state memory c =
-    let s = state .settings in
+    let s = state .scheme in
     let q = progressOf state memory in
     let points = pointTests s (state .count) c in
     let blocks = givenTests s q c in
     cond (ltb 0 (orderRefusal state memory c)) (Refused (orderRefusal state memory c) 0)
     (cond (not (every points)) (Refused 13 (firstFault points))
     (cond (not (every blocks)) (Refused 14 (firstFault blocks))
-    (Finished (length (finishedFrames s q (rowsOf s (c .msccells)))))))
+    (Finished (length (finishedFrames (s .settings) q (rowsOf (s .settings) (c .msccells)))))))
 
 -- Frames stand first in the output; bytes beyond them are zero.
-unfoldable pub handedOut : Settings → List (List ℤ) → List ℕ
+unfoldable pub handedOut : Scheme → List (List ℤ) → List ℕ
 handedOut s frames =
-    joined (map (bytesRead (mscBlock s)) frames) ++ replicate ((3 - length frames) * frameBytes s) 0
+    joined (map (bytesRead (mscBlock s)) frames) ++ replicate ((3 - length frames) * frameBytes (s .settings)) 0
 
 -- What an accepted call yields.
 unfoldable pub readAccepted : State → List ℤ → ReadCall → ReadYield
 readAccepted state memory c =
-    let s = state .settings in
+    let s = state .scheme in
     let q = progressOf state memory in
-    let rows = rowsOf s (c .msccells) in
+    let rows = rowsOf (s .settings) (c .msccells) in
     record {
-      reading = record { answer = Finished (length (finishedFrames s q rows)); state = stateOf s (afterRows s q rows) };
-      memory = afterRows s q rows .memory;
-      fac = joined (map (bytesRead facBlock) (parts (2 * facCells) (c .faccells)));
+      reading = record { answer = Finished (length (finishedFrames (s .settings) q rows)); state = stateOf s (afterRows (s .settings) q rows) };
+      memory = afterRows (s .settings) q rows .memory;
+      fac = joined (map (bytesRead (facBlock s)) (parts (2 * facCells) (c .faccells)));
       sdc = bytesRead (sdcBlock s) (c .sdccells);
-      msc = handedOut s (finishedFrames s q rows);
+      msc = handedOut s (finishedFrames (s .settings) q rows);
     }
 
 -- A refusal leaves everything as it was.

@@ -7,33 +7,33 @@ use mathlib.Core.List.{List, [], _∷_, _++_, map}
 use lib.ListN.{length, take, drop, replicate}
 use lib.IntN.{ℤ}
 use lib.Dec.{eqb}
-use Rattle.settings.specs.declared.Settings.{Settings}
 use Rattle.settings.specs.Sizes.{frameBytes}
 use Rattle.block.specs.Packing.{unpacked}
 use Rattle.block.specs.declared.Block.{Block}
 use Rattle.block.specs.Block.{bitCount}
+use Rattle.channels.specs.declared.Scheme.{Scheme}
 use Rattle.channels.specs.Fac.{facBlock}
 use Rattle.channels.specs.Sdc.{sdcBlock}
 use Rattle.channels.specs.Msc.{mscBlock}
 use Rattle.superframe.specs.declared.State.{State}
-use Rattle.superframe.specs.Call.{parts}
+use Rattle.superframe.specs.Call.{parts, facBytes}
 use Rattle.superframe.specs.Reset.{resetOf}
 use Rattle.superframe.specs.Code.{CodeCall, codeOf, byteLengths}
 use Rattle.superframe.specs.Read.{ReadCall, readOf, answerNumber, answerFrames}
 
--- An accepted Reset: the state, settings and memory that it was handed.
+-- An accepted Reset: the state, settings, table and memory that it was handed.
 pub record Begun : Type 0 where
   pub old : State
-  pub settings : Settings
+  pub scheme : Scheme
   pub lent : List ℤ
-  pub accepted : resetOf old settings lent .done .refusal ≡ 0
+  pub accepted : resetOf old scheme lent .done .refusal ≡ 0
 
 -- State and memory as that Reset gave them.
 unfoldable pub stateAt : Begun → State
-stateAt b = resetOf (b .old) (b .settings) (b .lent) .done .state
+stateAt b = resetOf (b .old) (b .scheme) (b .lent) .done .state
 
 unfoldable pub memoryAt : Begun → List ℤ
-memoryAt b = resetOf (b .old) (b .settings) (b .lent) .memory
+memoryAt b = resetOf (b .old) (b .scheme) (b .lent) .memory
 
 -- The bits of FAC blocks, SDC blocks and multiplex frames.
 pub record Bits : Type 0 where
@@ -63,13 +63,13 @@ unfoldable pub brought : State → List ℤ → List CodeCall → Bits
 brought state memory [] = noBits
 brought state memory (c ∷ cs) =
     let y = codeOf state memory c in
-    let s = state .settings in
+    let s = state .scheme in
     let rest = brought (y .done .state) (y .memory) cs in
     cond (codes state memory c)
     (record {
-      fac = map (bitsOf facBlock) (parts 9 (c .fac)) ++ rest .fac;
+      fac = map (bitsOf (facBlock s)) (parts facBytes (c .fac)) ++ rest .fac;
       sdc = bitsOf (sdcBlock s) (c .sdc) ∷ rest .sdc;
-      frames = map (bitsOf (mscBlock s)) (parts (frameBytes s) (c .msc)) ++ rest .frames;
+      frames = map (bitsOf (mscBlock s)) (parts (frameBytes (s .settings)) (c .msc)) ++ rest .frames;
     })
     rest
 
@@ -101,7 +101,7 @@ unfoldable pub cells : Run → List SuperFrame
 cells run = sent (stateAt (run .begun)) (memoryAt (run .begun)) (run .calls)
 
 -- A run is closed if its last two accepted calls, that is its last six multiplex frames, have all MSC bits zero.
-pub record Closed (s : Settings) (b : Bits) : Type 0 where
+pub record Closed (s : Scheme) (b : Bits) : Type 0 where
   pub zeros : drop (length (b .frames) - 6) (b .frames) ≡ replicate 6 (replicate (bitCount (mscBlock s)) 0)
 
 -- A Read call is accepted.
@@ -121,25 +121,25 @@ unfoldable pub handed : State → List ℤ → List ReadCall → Bits
 handed state memory [] = noBits
 handed state memory (c ∷ cs) =
     let y = readOf state memory c in
-    let s = state .settings in
+    let s = state .scheme in
     let rest = handed (y .reading .state) (y .memory) cs in
     cond (reads state memory c)
     (record {
-      fac = map (bitsOf facBlock) (parts 9 (y .fac)) ++ rest .fac;
+      fac = map (bitsOf (facBlock s)) (parts facBytes (y .fac)) ++ rest .fac;
       sdc = bitsOf (sdcBlock s) (y .sdc) ∷ rest .sdc;
-      frames = map (bitsOf (mscBlock s)) (take (answerFrames (y .reading .answer)) (parts (frameBytes s) (y .msc))) ++ rest .frames;
+      frames = map (bitsOf (mscBlock s)) (take (answerFrames (y .reading .answer)) (parts (frameBytes (s .settings)) (y .msc))) ++ rest .frames;
     })
     rest
 
 -- A Read call lends the cells of the first super frame not yet read, with an output of the right length.
-pub record Feeds (s : Settings) (cells : List SuperFrame) (c : ReadCall) : Type 0 where
+pub record Feeds (s : Scheme) (cells : List SuperFrame) (c : ReadCall) : Type 0 where
   pub frame : SuperFrame
   pub rest : List SuperFrame
   pub unread : cells ≡ frame ∷ rest
   pub fac : c .faccells ≡ frame .fac
   pub sdc : c .sdccells ≡ frame .sdc
   pub msc : c .msccells ≡ frame .msc
-  pub room : byteLengths s (c .fac) (c .sdc) (c .msc) ≡ true
+  pub room : byteLengths (s .settings) (c .fac) (c .sdc) (c .msc) ≡ true
 
 -- The super frames not yet read after a call.
 unfoldable pub unreadAfter : List SuperFrame → State → List ℤ → ReadCall → List SuperFrame
@@ -149,12 +149,12 @@ unreadAfter cells state memory c = cond (reads state memory c) (drop 1 cells) ce
 abbrev pub Fed : List SuperFrame → State → List ℤ → List ReadCall → Type 0
 Fed cells state memory [] = Unit {0}
 Fed cells state memory (c ∷ cs) =
-    (Feeds (state .settings) cells c ⊎ (reads state memory c ≡ false))
+    (Feeds (state .scheme) cells c ⊎ (reads state memory c ≡ false))
     × Fed (unreadAfter cells state memory c) (readOf state memory c .reading .state) (readOf state memory c .memory) cs
 
 -- Every call that feeds is accepted.
 abbrev pub Accepts : List SuperFrame → State → List ℤ → List ReadCall → Type 0
 Accepts cells state memory [] = Unit {0}
 Accepts cells state memory (c ∷ cs) =
-    (Feeds (state .settings) cells c → reads state memory c ≡ true)
+    (Feeds (state .scheme) cells c → reads state memory c ≡ true)
     × Accepts (unreadAfter cells state memory c) (readOf state memory c .reading .state) (readOf state memory c .memory) cs

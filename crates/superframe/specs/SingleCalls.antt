@@ -9,7 +9,6 @@ use lib.ListN.{length, getD, drop, replicate}
 use lib.IntN.{ℤ, pos}
 use Rattle.settings.specs.declared.Settings.{Settings}
 use Rattle.settings.specs.Cells.{facCells}
-use Rattle.settings.specs.Refusal.{refusal}
 use Rattle.settings.specs.Lengths.{nMux, nSdc, lSdc}
 use Rattle.settings.specs.Sizes.{depth, frameBits, frameBytes}
 use Rattle.block.specs.Packing.{spareZero}
@@ -17,6 +16,8 @@ use Rattle.block.specs.Mapping.{Constellation}
 use Rattle.block.specs.Block.{cellsFrom, pointsOf}
 use Rattle.block.specs.Points.{isPoint}
 use Rattle.block.specs.Reads.{NoBits, ReadsBytes}
+use Rattle.channels.specs.declared.Scheme.{Scheme}
+use Rattle.channels.specs.Scheme.{schemeRefusal}
 use Rattle.channels.specs.Fac.{facBlock}
 use Rattle.channels.specs.Sdc.{sdcBlock}
 use Rattle.channels.specs.Msc.{mscBlock}
@@ -24,7 +25,7 @@ use Rattle.superframe.specs.declared.State.{State}
 use Rattle.superframe.specs.declared.Answer.{Answer}
 use Rattle.superframe.specs.Memory.{slotSize}
 use Rattle.superframe.specs.Interleaving.{delay, finishedFrames, fillers}
-use Rattle.superframe.specs.Call.{part}
+use Rattle.superframe.specs.Call.{part, facBytes}
 use Rattle.superframe.specs.Code.{CodeCall, CodeYield, byteLengths, cellLengths, codeRefusal, codeOf, progressOf}
 use Rattle.superframe.specs.Read.{ReadCall, ReadYield, rowsOf, fillersOf, countAt, answerNumber, answerFrames, answerBlock, orderRefusal, readOf}
 use Rattle.superframe.specs.Runs.{SuperFrame, Run, cells}
@@ -34,18 +35,18 @@ unfoldable pub cellIsPoint : Constellation → List ℤ → ℕ → Bool
 cellIsPoint k cells j = isPoint k (getD cells (2 * j) (pos 0)) (getD cells (2 * j + 1) (pos 0))
 
 -- 13 of block b: a cell not ignored is no point of its constellation, or a filler is wrong. 0 to 2 FAC, 3 SDC, 4 to 6 the sent rows, 7 the fillers.
-pub data NoPoint (s : Settings) (count : ℕ) (c : ReadCall) (b : ℕ) : Type 0 where
+pub data NoPoint (s : Scheme) (count : ℕ) (c : ReadCall) (b : ℕ) : Type 0 where
   inFac : (j : ℕ) → b < 3 → j < facCells
-      → cellIsPoint (pointsOf facBlock) (part (2 * facCells) (c .faccells) b) j ≡ false → NoPoint s count c b
-  inSdc : (j : ℕ) → b ≡ 3 → j < nSdc s
+      → cellIsPoint (pointsOf (facBlock s)) (part (2 * facCells) (c .faccells) b) j ≡ false → NoPoint s count c b
+  inSdc : (j : ℕ) → b ≡ 3 → j < nSdc (s .settings)
       → cellIsPoint (pointsOf (sdcBlock s)) (c .sdccells) j ≡ false → NoPoint s count c b
-  inRow : (i j : ℕ) → b ≡ 4 + i → i < 3 → j < nMux s → delay (depth s) (2 * j) ≤ countAt s count i
-      → cellIsPoint (pointsOf (mscBlock s)) (part (slotSize s) (c .msccells) i) j ≡ false → NoPoint s count c b
-  inFillers : b ≡ 7 → (fillersOf s (c .msccells) ≡ fillers s → ⊥) → NoPoint s count c b
+  inRow : (i j : ℕ) → b ≡ 4 + i → i < 3 → j < nMux (s .settings) → delay (depth (s .settings)) (2 * j) ≤ countAt (s .settings) count i
+      → cellIsPoint (pointsOf (mscBlock s)) (part (slotSize (s .settings)) (c .msccells) i) j ≡ false → NoPoint s count c b
+  inFillers : b ≡ 7 → (fillersOf (s .settings) (c .msccells) ≡ fillers (s .settings) → ⊥) → NoPoint s count c b
 
 -- 14 of block b: no bits give it. 0 to 2 FAC, 3 SDC, then the finished frames.
-pub data NotGiven (s : Settings) (frames : List (List ℤ)) (c : ReadCall) (b : ℕ) : Type 0 where
-  ofFac : b < 3 → NoBits facBlock (part (2 * facCells) (c .faccells) b) → NotGiven s frames c b
+pub data NotGiven (s : Scheme) (frames : List (List ℤ)) (c : ReadCall) (b : ℕ) : Type 0 where
+  ofFac : b < 3 → NoBits (facBlock s) (part (2 * facCells) (c .faccells) b) → NotGiven s frames c b
   ofSdc : b ≡ 3 → NoBits (sdcBlock s) (c .sdccells) → NotGiven s frames c b
   ofFrame : (i : ℕ) → b ≡ 4 + i → i < length frames → NoBits (mscBlock s) (getD frames i []) → NotGiven s frames c b
 
@@ -59,30 +60,30 @@ pub record Nowhere (fault : ℕ → Type 0) : Type 0 where
 
 -- The frames that a Read call finishes, and 13 and 14 of it.
 unfoldable pub finishedOf : State → List ℤ → ReadCall → List (List ℤ)
-finishedOf state memory c = finishedFrames (state .settings) (progressOf state memory) (rowsOf (state .settings) (c .msccells))
+finishedOf state memory c = finishedFrames (state .scheme .settings) (progressOf state memory) (rowsOf (state .scheme .settings) (c .msccells))
 
 abbrev pub Thirteen : State → ReadCall → ℕ → Type 0
-Thirteen state c b = NoPoint (state .settings) (state .count) c b
+Thirteen state c b = NoPoint (state .scheme) (state .count) c b
 
 abbrev pub Fourteen : State → List ℤ → ReadCall → ℕ → Type 0
-Fourteen state memory c b = NotGiven (state .settings) (finishedOf state memory c) c b
+Fourteen state memory c b = NotGiven (state .scheme) (finishedOf state memory c) c b
 
 -- What an accepted Read call hands out: bytes of the lent lengths with spare bits zero, which give the cells of its blocks and of the frames that it finishes, and zero after them.
-pub record HandsOut (s : Settings) (frames : List (List ℤ)) (c : ReadCall) (y : ReadYield) : Type 0 where
-  pub lengths : byteLengths s (y .fac) (y .sdc) (y .msc) ≡ true
-  pub spares : spareZero (lSdc s) (y .sdc) ≡ true
-  pub mscSpares : (i : ℕ) → i < length frames → spareZero (frameBits s) (part (frameBytes s) (y .msc) i) ≡ true
-  pub fac : (i : ℕ) → i < 3 → cellsFrom facBlock (part 9 (y .fac) i) ≡ part (2 * facCells) (c .faccells) i
+pub record HandsOut (s : Scheme) (frames : List (List ℤ)) (c : ReadCall) (y : ReadYield) : Type 0 where
+  pub lengths : byteLengths (s .settings) (y .fac) (y .sdc) (y .msc) ≡ true
+  pub spares : spareZero (lSdc (s .settings)) (y .sdc) ≡ true
+  pub mscSpares : (i : ℕ) → i < length frames → spareZero (frameBits (s .settings)) (part (frameBytes (s .settings)) (y .msc) i) ≡ true
+  pub fac : (i : ℕ) → i < 3 → cellsFrom (facBlock s) (part facBytes (y .fac) i) ≡ part (2 * facCells) (c .faccells) i
   pub sdc : cellsFrom (sdcBlock s) (y .sdc) ≡ c .sdccells
-  pub msc : (i : ℕ) → i < length frames → cellsFrom (mscBlock s) (part (frameBytes s) (y .msc) i) ≡ getD frames i []
-  pub rest : drop (length frames * frameBytes s) (y .msc) ≡ replicate ((3 - length frames) * frameBytes s) 0
+  pub msc : (i : ℕ) → i < length frames → cellsFrom (mscBlock s) (part (frameBytes (s .settings)) (y .msc) i) ≡ getD frames i []
+  pub rest : drop (length frames * frameBytes (s .settings)) (y .msc) ≡ replicate ((3 - length frames) * frameBytes (s .settings)) 0
 
 -- What an accepted Code call leaves: cells of the lent lengths, those of its FAC blocks and of its SDC block, and the fillers.
-pub record Sends (s : Settings) (c : CodeCall) (y : CodeYield) : Type 0 where
-  pub lengths : cellLengths s (y .faccells) (y .sdccells) (y .msccells) ≡ true
-  pub fac : (i : ℕ) → i < 3 → part (2 * facCells) (y .faccells) i ≡ cellsFrom facBlock (part 9 (c .fac) i)
+pub record Sends (s : Scheme) (c : CodeCall) (y : CodeYield) : Type 0 where
+  pub lengths : cellLengths (s .settings) (y .faccells) (y .sdccells) (y .msccells) ≡ true
+  pub fac : (i : ℕ) → i < 3 → part (2 * facCells) (y .faccells) i ≡ cellsFrom (facBlock s) (part facBytes (c .fac) i)
   pub sdc : y .sdccells ≡ cellsFrom (sdcBlock s) (c .sdc)
-  pub filled : fillersOf s (y .msccells) ≡ fillers s
+  pub filled : fillersOf (s .settings) (y .msccells) ≡ fillers (s .settings)
 
 -- An answer by its number and values: a refusal with its block, or acceptance with a number of finished frames.
 abbrev pub RefusedBy : Answer → ℕ → ℕ → Type 0
@@ -121,23 +122,23 @@ pub record SingleCalls : Type 0 where
   -- else acceptance: a call begun at a count finishes count + 3 - (D - 1) frames, none where that is negative.
   pub finishes : (state : State) (memory : List ℤ) (c : ReadCall) → orderRefusal state memory c ≡ 0 → (n : ℕ)
       → FinishedWith (answered state memory c) n
-      ↔ (Nowhere (Thirteen state c) × Nowhere (Fourteen state memory c) × (n ≡ state .count + 3 - (depth (state .settings) - 1)))
+      ↔ (Nowhere (Thirteen state c) × Nowhere (Fourteen state memory c) × (n ≡ state .count + 3 - (depth (state .scheme .settings) - 1)))
   -- What it then hands out.
   pub handsOut : (state : State) (memory : List ℤ) (c : ReadCall) → answerNumber (answered state memory c) ≡ 0
-      → HandsOut (state .settings) (finishedOf state memory c) c (readOf state memory c)
+      → HandsOut (state .scheme) (finishedOf state memory c) c (readOf state memory c)
   -- What an accepted Code call leaves.
   pub sends : (state : State) (memory : List ℤ) (c : CodeCall) → codeRefusal state memory c ≡ 0
-      → Sends (state .settings) c (codeOf state memory c)
-  -- For settings that are not refused: reading a block's cells gives its bits, and different bits give different cells.
-  pub recovers : (s : Settings) → refusal s ≡ 0 → ReadsBytes facBlock × ReadsBytes (sdcBlock s) × ReadsBytes (mscBlock s)
+      → Sends (state .scheme) c (codeOf state memory c)
+  -- For settings and a table that are not refused: reading a block's cells gives its bits, and different bits give different cells.
+  pub recovers : (s : Scheme) → schemeRefusal s ≡ 0 → ReadsBytes (facBlock s) × ReadsBytes (sdcBlock s) × ReadsBytes (mscBlock s)
   -- The last clause: no cell or filler that a coder's run from a reset sends falls under 13 for a reader at that count,
   pub sendable : (run : Run) (m : ℕ) (c : ReadCall) → LendsSent run m c
-      → Nowhere (NoPoint (run .begun .settings) (countBefore (run .begun .settings) m) c)
+      → Nowhere (NoPoint (run .begun .scheme) (countBefore (run .begun .scheme .settings) m) c)
   -- so that 13 refuses only what such a run can't send there.
   pub unsent : (state : State) (memory : List ℤ) (c : ReadCall) → orderRefusal state memory c ≡ 0 → (b : ℕ)
       → RefusedBy (answered state memory c) 13 b
       → (run : Run) (m : ℕ)
-      → run .begun .settings ≡ state .settings
-      → state .count ≡ countBefore (state .settings) m
+      → run .begun .scheme ≡ state .scheme
+      → state .count ≡ countBefore (state .scheme .settings) m
       → LendsSent run m c
       → ⊥

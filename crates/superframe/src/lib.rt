@@ -1,12 +1,12 @@
 // Super frames: the calls Reset, Code and Read on a state and an interleaving memory.
 
-use settings::Settings;
+use channels::Scheme;
 
 pub mod theorems;
 
-// 01 "Buffers and state": the settings, the position 0 to 4 of the slot written next, and a count of frames seen that stops at 4.
+// 01 "Buffers and state": the settings and the table, the position 0 to 4 of the slot written next, and a count of frames seen that stops at 4.
 pub struct State {
-    pub settings: Settings,
+    pub scheme: Scheme,
     pub position: u8,
     pub count: u8,
 }

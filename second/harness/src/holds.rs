@@ -145,7 +145,7 @@ impl Run<'_> {
     fn all(&mut self, s: &Settings, form: Form) -> Result<(), String> {
         let draw = &mut self.draw;
         let table = draw.table();
-        let state = state(s, table, draw).all_bytes().to_vec();
+        let state = state(s, table, draw).bytes().to_vec();
         let memory: Vec<u8> = (0..s.slots() * s.n_mux()).map(|_| point(s, draw)).collect();
         let sizes = (0..2).map(|_| draw.word() as u32).collect();
         let other_form = if form == Form::Old { Form::New } else { Form::Old };

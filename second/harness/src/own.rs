@@ -2,14 +2,13 @@
 
 use crate::lent::{Kind, Lent};
 use second::fac;
-use second::forms::STATE_BYTES;
 use second::hold::{self, Form};
 use second::how_long;
 use second::memory::Element;
 use second::{preview, read_on};
 use second::settings::Settings;
 use second::streams;
-use second::superframe::{self, Answer, Bits, BitsMut, Cells, CellsMut, State, ALL_BYTES};
+use second::superframe::{self, Answer, Bits, BitsMut, Cells, CellsMut, State, STATE_BYTES};
 use second::table::STANDARD;
 
 const SETTINGS_BYTES: usize = 10;
@@ -46,7 +45,7 @@ pub fn sizes(settings: &[u8], sizes: &mut [u32]) -> u8 {
 
 pub fn reset(state: &mut [u8], settings: &[u8], memory: &mut [i16]) -> u8 {
     let Ok(bytes) = <[u8; SETTINGS_BYTES]>::try_from(settings) else { return BAD_SLICE };
-    let Some(old) = state_of::<STATE_BYTES>(state) else { return BAD_SLICE };
+    let Some(old) = state_of(state) else { return BAD_SLICE };
     let (next, answer) = superframe::reset(old, Settings::from_bytes(bytes), memory);
     put_state(&next, state);
     answer
@@ -54,7 +53,7 @@ pub fn reset(state: &mut [u8], settings: &[u8], memory: &mut [i16]) -> u8 {
 
 pub fn reset_table<U: Element>(state: &mut [u8], settings: &[u8], table: &[u8], memory: &mut [U]) -> u8 {
     let Ok(bytes) = <[u8; SETTINGS_BYTES]>::try_from(settings) else { return BAD_SLICE };
-    let Some(old) = state_of::<ALL_BYTES>(state) else { return BAD_SLICE };
+    let Some(old) = state_of(state) else { return BAD_SLICE };
     let settings = Settings::from_bytes(bytes);
     let (next, answer) = U::with_numbers(memory, |numbers| superframe::reset_table(old, settings, table, numbers));
     put_state(&next, state);
@@ -63,14 +62,14 @@ pub fn reset_table<U: Element>(state: &mut [u8], settings: &[u8], table: &[u8], 
 
 /// Bytes and cells in the order FAC, SDC, MSC.
 pub fn code(state: &mut [u8], memory: &mut [i16], bytes: [&[u8]; 3], cells: [&mut [i16]; 3]) -> u8 {
-    code_of::<STATE_BYTES, i16>(state, memory, bytes, cells)
+    code_of(state, memory, bytes, cells)
 }
 
-/// Code with a state of so many bytes and memory in any form.
-pub fn code_of<const N: usize, U: Element>(
+/// Code with memory in any form.
+pub fn code_of<U: Element>(
     state: &mut [u8], memory: &mut [U], bytes: [&[u8]; 3], cells: [&mut [i16]; 3],
 ) -> u8 {
-    let Some(old) = state_of::<N>(state) else { return BAD_SLICE };
+    let Some(old) = state_of(state) else { return BAD_SLICE };
     let [fac, sdc, msc] = bytes;
     let bits = Bits { fac, sdc, msc };
     let [fac, sdc, msc] = cells;
@@ -82,14 +81,14 @@ pub fn code_of<const N: usize, U: Element>(
 
 /// Cells and bytes in the order FAC, SDC, MSC.
 pub fn read(state: &mut [u8], memory: &mut [i16], cells: [&[i16]; 3], bytes: [&mut [u8]; 3]) -> u16 {
-    read_of::<STATE_BYTES, i16>(state, memory, cells, bytes)
+    read_of(state, memory, cells, bytes)
 }
 
-/// Read with a state of so many bytes and memory in any form.
-pub fn read_of<const N: usize, U: Element>(
+/// Read with memory in any form.
+pub fn read_of<U: Element>(
     state: &mut [u8], memory: &mut [U], cells: [&[i16]; 3], bytes: [&mut [u8]; 3],
 ) -> u16 {
-    let Some(old) = state_of::<N>(state) else { return BAD_SLICE as u16 * 256 };
+    let Some(old) = state_of(state) else { return BAD_SLICE as u16 * 256 };
     let [fac, sdc, msc] = cells;
     let cells = Cells { fac, sdc, msc };
     let [fac, sdc, msc] = bytes;
@@ -101,8 +100,8 @@ pub fn read_of<const N: usize, U: Element>(
 
 /// Preview, with memory as bytes; `next` is written with answer 0 only.
 pub fn preview(state: &[u8], memory: &[u8], bytes: [&[u8]; 3], cells: [&mut [i16]; 3], next: &mut [u8]) -> u8 {
-    let Some(old) = state_of::<ALL_BYTES>(state) else { return BAD_SLICE };
-    if next.len() != ALL_BYTES {
+    let Some(old) = state_of(state) else { return BAD_SLICE };
+    if next.len() != STATE_BYTES {
         return BAD_SLICE;
     }
     let [fac, sdc, msc] = bytes;
@@ -120,7 +119,7 @@ pub fn preview(state: &[u8], memory: &[u8], bytes: [&[u8]; 3], cells: [&mut [i16
 pub fn read_on(
     state: &mut [u8], memory: &mut [u8], cells: [&[i16]; 3], bytes: [&mut [u8]; 3], lost: &mut [u8],
 ) -> u16 {
-    let Some(old) = state_of::<ALL_BYTES>(state) else { return BAD_SLICE as u16 * 256 };
+    let Some(old) = state_of(state) else { return BAD_SLICE as u16 * 256 };
     let [fac, sdc, msc] = cells;
     let cells = Cells { fac, sdc, msc };
     let [fac, sdc, msc] = bytes;
@@ -184,7 +183,7 @@ pub fn store_new(state: &[u8], memory: &[u8], file: &mut [u8]) -> u8 {
 }
 
 fn store(form: Form, state: &[u8], memory: &[u8], file: &mut [u8]) -> u8 {
-    let Some(state) = state_of::<ALL_BYTES>(state) else { return BAD_SLICE };
+    let Some(state) = state_of(state) else { return BAD_SLICE };
     hold::store(form, &state, memory, file)
 }
 
@@ -216,25 +215,19 @@ pub fn restore_new_table(state: &mut [u8], settings: &[u8], table: &[u8], file: 
 
 fn restore(form: Form, state: &mut [u8], settings: &[u8], table: &[u8], file: &[u8], memory: &mut [u8]) -> u8 {
     let Ok(bytes) = <[u8; SETTINGS_BYTES]>::try_from(settings) else { return BAD_SLICE };
-    let Some(old) = state_of::<ALL_BYTES>(state) else { return BAD_SLICE };
+    let Some(old) = state_of(state) else { return BAD_SLICE };
     let (next, answer) = hold::restore_table(form, old, &Settings::from_bytes(bytes), table, file, memory);
     put_state(&next, state);
     answer
 }
 
-/// The state of so many bytes, 12 or 208; without a table it is the standard's.
-fn state_of<const N: usize>(bytes: &[u8]) -> Option<State> {
-    if bytes.len() != N {
-        return None;
-    }
-    let mut all = State::default().all_bytes();
-    all[..N].copy_from_slice(bytes);
-    Some(State::from_all_bytes(all))
+/// A state from its bytes; none if they have another length.
+fn state_of(bytes: &[u8]) -> Option<State> {
+    bytes.try_into().ok().map(State::from_bytes)
 }
 
-/// Writes a state in as many bytes as are lent.
 fn put_state(next: &State, state: &mut [u8]) {
-    state.copy_from_slice(&next.all_bytes()[..state.len()]);
+    state.copy_from_slice(&next.bytes());
 }
 
 /// The answer of the second program.

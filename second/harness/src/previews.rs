@@ -8,7 +8,7 @@ use crate::lent::{first, Kind, Lent};
 use crate::own;
 use second::memory::Element;
 use second::settings::{Settings, PAIRINGS};
-use second::superframe::ALL_BYTES;
+use second::superframe::STATE_BYTES;
 
 /// State, memory; bytes and cells in the order FAC, SDC, MSC; the next state.
 pub type Preview = fn(&[u8], &[u8], [&[u8]; 3], [&mut [i16]; 3], &mut [u8]) -> u8;
@@ -83,20 +83,20 @@ pub fn calls(seed: u64, own: Preview, archive: Preview) -> Result<String, String
 /// A coder after some super frames, and the bits of the next.
 fn drawn(s: &Settings, draw: &mut Draw) -> Call {
     let z = s.sizes();
-    let (mut state, mut memory) = (vec![0; ALL_BYTES], vec![0; z.memory_numbers / 2]);
+    let (mut state, mut memory) = (vec![0; STATE_BYTES], vec![0; z.memory_numbers / 2]);
     assert_eq!(own::reset_table::<u8>(&mut state, &s.bytes(), &draw.table(), &mut memory), 0);
     let numbers = [z.fac_numbers, z.sdc_numbers, z.msc_numbers];
     let mut cells = numbers.map(|n| draw.old_numbers(n));
     for _ in 0..draw.below(4) {
         let (bytes, cells) = (draw.super_frame(s), cells.each_mut().map(|c| c.as_mut_slice()));
         let bytes = bytes.each_ref().map(|b| b.as_slice());
-        assert_eq!(own::code_of::<ALL_BYTES, u8>(&mut state, &mut memory, bytes, cells), 0);
+        assert_eq!(own::code_of::<u8>(&mut state, &mut memory, bytes, cells), 0);
     }
     let [fac, sdc, msc] = draw.super_frame(s);
     let [fac_cells, sdc_cells, msc_cells] = numbers.map(|n| draw.old_numbers(n));
     let memory = u8::numbers(&memory);
     let lent = Lent { state, memory, fac, sdc, msc, fac_cells, sdc_cells, msc_cells, ..Lent::default() };
-    Call { lent, next: draw.old_bytes(ALL_BYTES) }
+    Call { lent, next: draw.old_bytes(STATE_BYTES) }
 }
 
 /// One to three changes of Code's, now and then with a wrong length of the next state.

@@ -9,7 +9,7 @@ use crate::own;
 use second::memory::Element;
 use second::read_on::LOST_BYTES;
 use second::settings::{Settings, PAIRINGS};
-use second::superframe::ALL_BYTES;
+use second::superframe::STATE_BYTES;
 
 /// State, memory; cells and bytes in the order FAC, SDC, MSC; the lost ones.
 pub type ReadOn = fn(&mut [u8], &mut [u8], [&[i16]; 3], [&mut [u8]; 3], &mut [u8]) -> u16;
@@ -93,7 +93,7 @@ impl Run {
     fn run(&mut self, s: &Settings) -> Result<(), String> {
         let z = s.sizes();
         let table = self.draw.table();
-        let (mut state, mut memory) = (vec![0; ALL_BYTES], vec![0; z.memory_numbers / 2]);
+        let (mut state, mut memory) = (vec![0; STATE_BYTES], vec![0; z.memory_numbers / 2]);
         assert_eq!(own::reset_table::<u8>(&mut state, &s.bytes(), &table, &mut memory), 0);
         let mut call = Call { lent: Lent::default(), lost: Vec::new() };
         (call.lent.state, call.lent.memory) = (state.clone(), u8::numbers(&memory));
@@ -102,7 +102,7 @@ impl Run {
             let bytes = self.draw.super_frame(s);
             let sent = cells.each_mut().map(|c| c.as_mut_slice());
             let brought = bytes.each_ref().map(|b| b.as_slice());
-            assert_eq!(own::code_of::<ALL_BYTES, u8>(&mut state, &mut memory, brought, sent), 0);
+            assert_eq!(own::code_of::<u8>(&mut state, &mut memory, brought, sent), 0);
             [call.lent.fac_cells, call.lent.sdc_cells, call.lent.msc_cells] = cells;
             spoil_cells(&mut call.lent, s, &mut self.draw);
             let old = [27, z.sdc_bytes, z.msc_bytes].map(|n| self.draw.old_bytes(n));

@@ -195,7 +195,7 @@ pub fn disperse(treated: u16, bits: u16, bytes: &[u8], out: &mut [u8]) -> u8 {
     unsafe { c::drm_disperse(treated, bits, bytes.as_ptr(), bytes.len(), out.as_mut_ptr(), out.len()) }
 }
 
-/// S-11, in today's form of memory; Code and Read are those of `archive`, with a state of 208 bytes.
+/// S-11, in today's form of memory; Code and Read are those of `archive`.
 pub const CODER: Coder<MemoryElement> =
     Coder { reset_table, code: crate::archive::code, read: crate::archive::read };
 

@@ -6,9 +6,10 @@
 use crate::{archive, own};
 use second::buffers::BitBuffers;
 use second::digest::Random;
-use second::forms::{MemoryElement, STATE_BYTES};
+use second::forms::MemoryElement;
 use second::memory::Element;
 use second::settings::Settings;
+use second::superframe::STATE_BYTES;
 
 #[derive(Clone, Copy, PartialEq, Eq, Debug)]
 pub enum Program {

@@ -9,7 +9,7 @@ use crate::lent::{Kind, Lent};
 use crate::own;
 use second::memory::Element;
 use second::settings::{Settings, PAIRINGS};
-use second::superframe::ALL_BYTES;
+use second::superframe::STATE_BYTES;
 
 /// The functions of a program over an element of memory.
 pub struct Coder<U: 'static> {
@@ -23,8 +23,8 @@ pub struct Coder<U: 'static> {
 pub fn own<U: Element>() -> Coder<U> {
     Coder {
         reset_table: own::reset_table::<U>,
-        code: own::code_of::<ALL_BYTES, U>,
-        read: own::read_of::<ALL_BYTES, U>,
+        code: own::code_of::<U>,
+        read: own::read_of::<U>,
     }
 }
 
@@ -143,7 +143,7 @@ impl<U: Element> Run<'_, U> {
     }
 
     fn reset(&mut self, s: &Settings, table: &[u8]) -> Result<Lent, String> {
-        let (state, memory) = (self.draw.old_bytes(ALL_BYTES), self.draw.old_numbers(s.sizes().memory_numbers));
+        let (state, memory) = (self.draw.old_bytes(STATE_BYTES), self.draw.old_numbers(s.sizes().memory_numbers));
         let (settings, table) = (s.bytes().to_vec(), table.to_vec());
         let mut lent = Lent { settings, state, memory, table, ..Lent::default() };
         self.calls(Kind::Reset, CHANGED_RESETS, &mut lent, s)?;
@@ -196,7 +196,7 @@ mod tests {
             if let Some(table) = other.get_mut(12..).filter(|t| second::table::passes(t)) {
                 table.copy_from_slice(&second::table::STANDARD);
             }
-            let answer = own::code_of::<ALL_BYTES, u8>(&mut other, memory, bytes, cells);
+            let answer = own::code_of::<u8>(&mut other, memory, bytes, cells);
             if answer == 0 {
                 state[10..12].copy_from_slice(&other[10..12]);
             }

@@ -1,14 +1,11 @@
 //! How often each answer occurred.
 
 use crate::lent::{Kind, KINDS};
-use second::forms::STATE_BYTES;
-use second::superframe::ALL_BYTES;
 use std::collections::BTreeMap;
 
-/// Refusals of the calls here; 23 looks at a table in the state.
-fn refusals() -> Vec<u8> {
-    let table = if STATE_BYTES == ALL_BYTES { Some(23) } else { None };
-    (1..=16).chain(table).chain([255]).collect()
+/// Refusals of the calls here.
+fn refusals() -> impl Iterator<Item = u8> {
+    (1..=16).chain([23, 255])
 }
 
 /// The refusals that a kind of call can give.
@@ -16,14 +13,12 @@ fn possible(kind: Kind) -> Vec<u8> {
     let after: &[u8] = match kind {
         Kind::Lengths | Kind::Sizes => &[],
         Kind::Reset => &[8],
-        Kind::Code => &[8, 9, 10, 11, 12],
-        Kind::Read => &[8, 9, 10, 12, 13, 14],
+        Kind::Code => &[23, 8, 9, 10, 11, 12],
+        Kind::Read => &[23, 8, 9, 10, 12, 13, 14],
         Kind::FacBuild => &[9, 10, 15],
         Kind::FacRead => &[9, 10, 15, 16],
     };
-    let table = matches!(kind, Kind::Code | Kind::Read).then_some(23);
-    let all = (1..=7).chain(after.iter().copied()).chain(table).chain([255]);
-    all.filter(|n| refusals().contains(n)).collect()
+    (1..=7).chain(after.iter().copied()).chain([255]).collect()
 }
 
 #[derive(Default)]

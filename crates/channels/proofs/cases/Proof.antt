@@ -1,9 +1,10 @@
 -- `frame::cases` meets its contract: each marked case of 01 holds of the definitions by computation.
 use mathlib.Core.Path.{refl}
+use mathlib.Core.List.{flatten}
 use lib.Count.{ones, onesIn}
 use Rattle.lists.specs.Lists.{table, total}
 use Rattle.component.specs.Register.{next, parity, parities}
-use Rattle.component.specs.Patterns.{pattern, table65, columns, numerators, denominators, RX, RY}
+use Rattle.patterns.specs.Patterns.{printed65, rows, table65, begins, entry as tableEntry, column, pattern, numerators, denominators, RX, RY}
 use Rattle.component.specs.Codeword.{encode, kept, following}
 use Rattle.interleaver.specs.Interleaving.{place, nextPlace, again, step, offset, size, doubled}
 use Rattle.settings.specs.Rates.{rates, table67, table68, table69, table71, commonDenominator, vsppRate, sdcRates}
@@ -18,7 +19,7 @@ use Rattle.channels.proofs.cases.Statement.{statement}
 use Rattle.channels.proofs.cases.Tie as tie
 
 cases : Cases
-unfolding table total ones onesIn next parity parities pattern table65 columns numerators denominators RX RY encode kept following place nextPlace again step offset size doubled rates table67 table68 table69 table71 commonDenominator vsppRate sdcRates entry muxTable hierarchical width bitsA bitsB partA partB partVspp roundUp cellsA sdcBits paired topLevel first rangeRefusal refusal nMux n1 n2 l2 lVspp p sequence standard64 symmetric64 coordinate labelAt settingsOf coordinateOf
+unfolding table total ones onesIn next parity parities pattern table65 printed65 rows flatten begins tableEntry column numerators denominators RX RY encode kept following place nextPlace again step offset size doubled rates table67 table68 table69 table71 commonDenominator vsppRate sdcRates entry muxTable hierarchical width bitsA bitsB partA partB partVspp roundUp cellsA sdcBits paired topLevel first rangeRefusal refusal nMux n1 n2 l2 lVspp p sequence standard64 symmetric64 coordinate labelAt settingsOf coordinateOf
 cases =
     record {
       dispersal = refl;

@@ -1,20 +1,14 @@
 -- `search_drawn` meets its contract. Assumes nothing.
-use native.Mathlib.Omega.{arith}
 use borrow.Author.Needs.{needs}
-use Rattle.check_nearest.proofs.Reduced.{below-bits}
 use Rattle.check_nearest.proofs.search_drawn.Statement.{statement}
 use Rattle.check_nearest.proofs.search_drawn.Tie as tie
 
-search-with-requires : tie.Need-search-with-requires
-search-with-requires c κs =
-    let a = c .before .before .before .before .before .before .before .before .before .before .before .before .before .before .before .before .before .before .before .before .before .before in
-    record {
-      number = omega (arith, a .pre .rate);
-      numberTail = omega (arith, a .pre .row);
-      bits = below-bits (c .before .before .before .before .before .before .before .before .before .before .before .before .before .reduce .ensures .1);
-      few = search needs;
-      same = search needs;
-    }
+search-by-requires : tie.Need-search-by-requires
+search-by-requires c κs =
+    let a = c .before .before .before .before .before .before .before .before .before .before .before .before .before .before .before .before .before .before .before .before .before .before in (
+      record { rate = a .pre .rate; row = a .pre .row; few = search needs; same = search needs },
+      c .before .before .before .before .before .before .before .before .before .before .before .before .before .reduce .ensures .1,
+    )
 
 pub search-drawn-spec : {M : Type 1} → statement M
 search-drawn-spec =
@@ -25,8 +19,7 @@ search-drawn-spec =
     (λ c κs. search needs)
     (λ c κs. search needs)
     (λ c κs. search needs)
-    (λ c. search needs)
-    search-with-requires
+    search-by-requires
     (λ c κs. search needs)
     (λ c. search needs)
     (λ c κs. search needs)

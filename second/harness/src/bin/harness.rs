@@ -10,11 +10,12 @@ use harness::grids;
 use harness::lent::{Kind, Lent};
 use harness::measured;
 use harness::nearest;
+use harness::tables;
 use harness::tally::Tally;
-use second::forms::{START, STATE_BYTES};
+use second::forms::START;
 use second::interleaver::Places;
 use second::settings::{Settings, PAIRINGS};
-use second::superframe::Start;
+use second::superframe::{Start, STATE_BYTES};
 use second::{counts, refusals, runs};
 use std::io::{self, BufWriter, Write};
 use std::process::ExitCode;
@@ -44,11 +45,12 @@ fn main() -> ExitCode {
         ["grid"] => return report(counted(grids::random_calls())),
         ["decide"] => return report(counted(measured::random_calls())),
         ["disperse"] => return report(dispersal_calls()),
+        ["tables"] => return report(tables::calls(SEED, &tables::own(), &requests::CODER)),
         ["runs"] => runs::print(&Archive, &mut out),
         ["counts"] => counts::print(&Archive, &mut out),
         ["refusals"] => refusals::print(&Archive, &mut out),
         _ => {
-            eprintln!("harness [grid | decide | disperse | runs | counts | refusals]");
+            eprintln!("harness [grid | decide | disperse | tables | runs | counts | refusals]");
             return ExitCode::from(2);
         }
     };

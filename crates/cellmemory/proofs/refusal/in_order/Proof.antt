@@ -1,7 +1,7 @@
 -- `refusal::in_order` meets its contract. Assumes nothing.
 use native.Mathlib.Omega.{arith}
 use borrow.Author.Needs.{needs}
-use Rattle.settings.proofs.Bounds.{accepted-of}
+use Rattle.channels.proofs.Schemes.{scheme-accepted}
 use Rattle.cellmemory.proofs.Chains.{order-position, order-count, order-cells}
 use Rattle.cellmemory.proofs.refusal.in_order.Statement.{statement}
 use Rattle.cellmemory.proofs.refusal.in_order.Tie as tie
@@ -13,7 +13,7 @@ returns-2 : tie.Need-returns-2
 returns-2 c = order-count _ _ _ (c .before .before .before .before .depth .ensures) (c .if2 .taken)
 
 msc-low : tie.Need-msc-constellation-requires
-msc-low c κs = omega (arith, accepted-of _ (c .before .before .before .before .before .before .pre .settings) .ranges .partA .mscLow)
+msc-low c κs = omega (arith, scheme-accepted _ (c .before .before .before .before .before .before .pre .scheme) .settings .ranges .partA .mscLow)
 
 returns-3 : tie.Need-returns-3
 returns-3 c =

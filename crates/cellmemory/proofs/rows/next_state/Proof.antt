@@ -10,12 +10,12 @@ cast-t7 : tie.Need-cast-t7
 cast-t7 c =
     let d = c .before .before .before .before in
     let low = later-low _ _ _ (omega (arith, d .depth .ensures, d .before .before .pre .0)) (c .before .before .next-modulo .ensures) in
-    omega (arith, low, d .depth .ensures, depth-high (d .before .before .args .state .settings))
+    omega (arith, low, d .depth .ensures, depth-high (d .before .before .args .state .scheme .settings))
 
 cast-t8 : tie.Need-cast-t8
 cast-t8 c =
     let d = c .before .before .before .before in
-    omega (arith, c .next-count .ensures, d .depth .ensures, depth-high (d .before .before .args .state .settings))
+    omega (arith, c .next-count .ensures, d .depth .ensures, depth-high (d .before .before .args .state .scheme .settings))
 
 returns : tie.Need-returns
 returns c =

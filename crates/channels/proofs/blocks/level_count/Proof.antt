@@ -7,7 +7,7 @@ use Rattle.channels.proofs.blocks.level_count.Statement.{statement}
 use Rattle.channels.proofs.blocks.level_count.Tie as tie
 
 add-result : tie.Need-add-result
-add-result c = let a = c .before .before .before .args in omega (arith, few-rates (a .s .msc) (a .s .levela), c .before .before .rate-count .ensures)
+add-result c = let a = c .before .before .before .args in omega (arith, few-rates (a .s .settings .msc) (a .s .settings .levela), c .before .before .rate-count .ensures)
 
 returns : tie.Need-returns
 returns c =

@@ -33,6 +33,16 @@ returns c =
 
 pub msc-levels-spec : {M : Type 1} → statement M
 msc-levels-spec =
-    tie.close (tie.spec Inv-loop μ-loop (λ c κs. search needs) (λ c. (filled-start noLevel _ _, omega arith))
-    (λ c κs. record { accepted = c .before .before .before .pre; low = c .loop-test .taken }) (λ c. search needs) (λ c. search needs)
-    (λ c. search needs) (λ c. search needs) loop-again returns)
+    tie.close
+    (tie.spec
+    Inv-loop
+    μ-loop
+    (λ c κs. search needs)
+    (λ c. (filled-start noLevel _ _, omega arith))
+    (λ c κs. record { accepted = c .before .before .before .pre; low = c .loop-test .taken })
+    (λ c. search needs)
+    (λ c. search needs)
+    (λ c. search needs)
+    (λ c. search needs)
+    loop-again
+    returns)

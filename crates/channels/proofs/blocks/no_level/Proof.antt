@@ -1,5 +1,5 @@
 use mathlib.Core.Path.{refl}
-use Rattle.component.specs.Coding.{padded, patternFrom}
+use Rattle.patterns.specs.Contracts.{padded, patternFrom}
 use Rattle.block.specs.Block.{noLevel}
 use Rattle.channels.proofs.blocks.no_level.Statement.{statement}
 use Rattle.channels.proofs.blocks.no_level.Tie as tie

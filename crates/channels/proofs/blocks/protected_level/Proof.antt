@@ -15,26 +15,26 @@ returns c =
 
 sub-n2 : tie.Need-sub-n2
 unfolding nMux n1
-sub-n2 c = omega (arith, c .n-mux .ensures, c .before .cells-a .ensures, c .before .before .before .before .pre .accepted .n1Most)
+sub-n2 c = omega (arith, c .n-mux .ensures, c .before .cells-a .ensures, c .before .before .before .before .pre .accepted .settings .n1Most)
 
 coded-requires : tie.Need-coded-requires
 unfolding nMux n1
-coded-requires c κs = let A = c .before .before .before .before .pre .accepted in omega (arith, c .before .cells-a .ensures, A .n1Most, A .ranges .muxMost)
+coded-requires c κs = let A = c .before .before .before .before .pre .accepted .settings in omega (arith, c .before .cells-a .ensures, A .n1Most, A .ranges .muxMost)
 
 coded-requires-2 : tie.Need-coded-requires-2
 unfolding nMux
-coded-requires-2 c κs = let A = c .before .before .before .before .before .pre .accepted in omega (arith, c .before .n-mux .ensures, A .ranges .muxMost)
+coded-requires-2 c κs = let A = c .before .before .before .before .before .pre .accepted .settings in omega (arith, c .before .n-mux .ensures, A .ranges .muxMost)
 
 msc-step-requires : tie.Need-msc-step-requires
 msc-step-requires c κs =
     let r = c .before .before .before .before .before .before .before .before in
     let s = r .before in
-    (omega (arith, s .pre .accepted .ranges .partA .mscLow), omega (arith, few-rates (s .args .s .msc) (s .args .s .levela), r .rate-count .ensures, c .before .before .before .before .before .before .before .if1 .left))
+    (omega (arith, s .pre .accepted .settings .ranges .partA .mscLow), omega (arith, few-rates (s .args .s .settings .msc) (s .args .s .settings .levela), r .rate-count .ensures, c .before .before .before .before .before .before .before .if1 .left))
 
 level-by-requires : tie.Need-level-by-requires
 level-by-requires c κs =
     let a = c .before .before .before .before .before .before .before .before .before .before .args in
-    (omega (arith, c .before .before .rate .ensures, rate-known (a .s .msc) (a .s .levela) (a .k)), omega (arith, c .before .rate2 .ensures, rate-known (a .s .msc) (a .s .levelb) (a .k)))
+    (search needs, (omega (arith, c .before .before .rate .ensures, rate-known (a .s .settings .msc) (a .s .settings .levela) (a .k)), omega (arith, c .before .rate2 .ensures, rate-known (a .s .settings .msc) (a .s .settings .levelb) (a .k))))
 
 returns-2 : tie.Need-returns-2
 unfolding nMux n1 n2
@@ -50,6 +50,19 @@ returns-2 c =
 
 pub protected-level-spec : {M : Type 1} → statement M
 protected-level-spec =
-    tie.close (tie.spec (λ c κs. search needs) (λ c κs. search needs) returns (λ c κs. c .before .before .pre .accepted .ranges .partA)
-    (λ c κs. search needs) sub-n2 coded-requires coded-requires-2 (λ c κs. search needs) (λ c κs. search needs) (λ c κs. search needs)
-    msc-step-requires level-by-requires returns-2)
+    tie.close
+    (tie.spec
+    (λ c κs. search needs)
+    (λ c κs. search needs)
+    returns
+    (λ c κs. c .before .before .pre .accepted .settings .ranges .partA)
+    (λ c κs. search needs)
+    sub-n2
+    coded-requires
+    coded-requires-2
+    (λ c κs. search needs)
+    (λ c κs. search needs)
+    (λ c κs. search needs)
+    msc-step-requires
+    level-by-requires
+    returns-2)

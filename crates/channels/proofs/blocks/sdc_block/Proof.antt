@@ -13,7 +13,7 @@ unfolding nSdc
 returns c =
     let l = c .before .before in
     let s = l .before .before in
-    sdc-made (s .args .s) _ _ _ _ (s .pre .ranges .sdc) (l .before .n-sdc .ensures) (l .sdc-levels .ensures) (search needs) (c .sdc-constellation .ensures)
+    sdc-made (s .args .s) _ _ _ _ (s .pre .settings .ranges .sdc) (l .before .n-sdc .ensures) (l .sdc-levels .ensures) (search needs) (c .sdc-constellation .ensures)
 
 pub sdc-block-spec : {M : Type 1} → statement M
 sdc-block-spec =

@@ -4,6 +4,7 @@ use borrow.Author.Needs.{needs}
 use borrow.Author.Tests.{eq-eqb, ne-eqb}
 use Rattle.settings.specs.Refusal.{refusal}
 use Rattle.settings.proofs.Bounds.{accepted-of}
+use Rattle.channels.proofs.Schemes.{standard-accepted}
 use Rattle.check_blocks.proofs.ByKind.{kind-fits}
 use Rattle.check_blocks.specs.Kinds.{drawnOf}
 use Rattle.check_blocks.proofs.blocks.block.Statement.{statement}
@@ -20,7 +21,7 @@ block-of-requires c κs = accepted-of _ (sym (c .before .before .before .before 
 block-with-requires : tie.Need-block-with-requires
 block-with-requires c κs =
     let left = c .before .before .before .before .before .before .before in (
-      rw (c .before .before .before .block-of .ensures) (kind-fits _ (accepted-of _ (sym (left .before .refusal .ensures) ∙ left .if1 .left)) _),
+      rw (c .before .before .before .block-of .ensures) (kind-fits _ (standard-accepted (accepted-of _ (sym (left .before .refusal .ensures) ∙ left .if1 .left))) _),
       record { drawn = c .before .before .before .before .before .before .byte-buffer .ensures; read = c .before .before .before .before .before .byte-buffer2 .ensures; whole = c .before .before .before .before .coordinate-buffer .ensures },
     )
 

@@ -9,6 +9,7 @@ use lib.IntN.{ℤ}
 use Rattle.lists.specs.Lists.{table}
 use Rattle.block.specs.Block.{cellsFrom}
 use Rattle.channels.specs.Fac.{facBlock}
+use Rattle.channels.specs.declared.Scheme.{Scheme}
 use Rattle.superframe.specs.Call.{part, parts, joined}
 use Rattle.lists.proofs.Tables.{map-table}
 use Rattle.channels.proofs.Lent.{fac-lent}
@@ -18,30 +19,30 @@ use Rattle.codecall.proofs.blocks.code_fac.Statement.{statement}
 use Rattle.codecall.proofs.blocks.code_fac.Tie as tie
 
 -- The cells of FAC block k.
-abbrev block : List ℕ → ℕ → List ℤ
-block fac k = cellsFrom facBlock (part 9 fac k)
+abbrev block : Scheme → List ℕ → ℕ → List ℤ
+block s fac k = cellsFrom (facBlock s) (part 9 fac k)
 
-three-blocks : (fac : List ℕ) → table (block fac) 0 3 ≡ map (cellsFrom facBlock) (parts 9 fac)
+three-blocks : (s : Scheme) (fac : List ℕ) → table (block s fac) 0 3 ≡ map (cellsFrom (facBlock s)) (parts 9 fac)
 unfolding parts
-three-blocks fac = sym (map-table (cellsFrom facBlock) (part 9 fac) 0 3)
+three-blocks s fac = sym (map-table (cellsFrom (facBlock s)) (part 9 fac) 0 3)
 
 abbrev Inv-loop : tie.InvT-loop
-Inv-loop fac cells₀ k₀ cells k =
-    (k ≤ 3) × Laid 130 (joined (table (block fac) 0 3)) cells₀ (joined (table (block fac) k (3 - k))) k cells
+Inv-loop s fac cells₀ k₀ cells k =
+    (k ≤ 3) × Laid 130 (joined (table (block s fac) 0 3)) cells₀ (joined (table (block s fac) k (3 - k))) k cells
 
 abbrev μ-loop : tie.MeasureT-loop
-μ-loop fac cells₀ k₀ cells k = 3 - k
+μ-loop s fac cells₀ k₀ cells k = 3 - k
 
 loop-again : tie.Need-loop-again Inv-loop μ-loop
 loop-again c =
     let b = c .before .before .before .before .before .before in
-    let e = rw (c .before .before .before .before .fac-block .ensures) at (c .before .code-block .ensures) ∙ ap (cellsFrom facBlock) (part-is 9 _ _) in
-    (search needs, laid-part 130 _ 3 _ _ _ _ _ (b .loop .inv .1) (search needs) (b .before .before .pre .1) e (ap length e ∙ fac-long _))
+    let e = rw (c .before .before .before .before .fac-block .ensures) at (c .before .code-block .ensures) ∙ ap (cellsFrom (facBlock _)) (part-is 9 _ _) in
+    (search needs, laid-part 130 _ 3 _ _ _ _ _ (b .loop .inv .1) (search needs) (b .before .before .pre .2) e (ap length e ∙ fac-long _ _))
 
 returns : tie.Need-returns Inv-loop μ-loop
 returns c =
     let i = c .before .loop .inv in
-    laid-parts 130 3 _ _ _ _ _ (c .loop-test .left) (i .0) (c .before .before .before .pre .1) (i .1) ∙ ap joined (three-blocks _)
+    laid-parts 130 3 _ _ _ _ _ (c .loop-test .left) (i .0) (c .before .before .before .pre .2) (i .1) ∙ ap joined (three-blocks _ _)
 
 pub code-fac-spec : {M : Type 1} → statement M
 code-fac-spec =
@@ -67,8 +68,8 @@ code-fac-spec =
     (λ c κs.
     let b = c .before .before .before .before in
     rw (c .before .before .fac-block .ensures)
-    (fac-lent (length-mid (9 * b .loop .k) 9 _ (omega (arith, b .before .before .pre .0)))
-    (length-mid (130 * b .loop .k) 130 _ (omega (arith, b .before .before .pre .1, b .loop .inv .1 .long)))))
+    (fac-lent _ (b .before .before .pre .0) (length-mid (9 * b .loop .k) 9 _ (omega (arith, b .before .before .pre .1)))
+    (length-mid (130 * b .loop .k) 130 _ (omega (arith, b .before .before .pre .2, b .loop .inv .1 .long)))))
     (λ c. search needs)
     (λ c. search needs)
     loop-again

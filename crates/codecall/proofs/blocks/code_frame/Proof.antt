@@ -27,7 +27,7 @@ code-block-requires c κs =
 -- The frame's cells.
 coded : (c : tie.After-code-block)
     → let a = c .before .before .before .before .before .before .before .args in
-    c .code-block .last .1 .1 .0 ≡ cellsFrom (mscBlock (a .state .settings)) (a .bytes .now)
+    c .code-block .last .1 .1 .0 ≡ cellsFrom (mscBlock (a .state .scheme)) (a .bytes .now)
 coded c = rw (c .before .before .msc-block .ensures) at (c .code-block .ensures)
 
 returns : tie.Need-returns
@@ -37,7 +37,7 @@ returns c =
 
 pub code-frame-spec : {M : Type 1} → statement M
 code-frame-spec =
-    tie.close (tie.spec (λ c κs. c .before .before .pre .lent .fits .allowed) (λ c. search needs) (λ c. let h = within c in search needs)
+    tie.close (tie.spec (λ c κs. c .before .before .pre .lent .fits .allowed .settings) (λ c. search needs) (λ c. let h = within c in search needs)
     (λ c κs. c .before .before .before .before .pre .lent .fits .allowed) (λ c. let h = within (c .before) in search needs)
     (λ c. let h = within (c .before) in search needs) (λ c. let h = within (c .before) in search needs)
     (λ c. let h = within (c .before) in search needs) (λ c. let h = within (c .before) in search needs) code-block-requires

@@ -32,14 +32,14 @@ loop-again c =
 write-fillers-requires : tie.Need-write-fillers-requires Inv-loop μ-loop
 write-fillers-requires c κs =
     let w = c .before .before .loop .inv in
-    omega (arith, rest-long _ _ _ _ _ _ _ _ _ _ w, w .lent .fits .allowed .ranges .fillers)
+    omega (arith, rest-long _ _ _ _ _ _ _ _ _ _ w, w .lent .fits .allowed .settings .ranges .fillers)
 
 returns : tie.Need-returns Inv-loop μ-loop
 returns c = coding-end _ _ _ _ _ _ _ _ _ _ (c .before .before .before .before .loop .inv) _ (c .before .before .before .loop-test .left) (c .before .write-fillers .ensures)
 
 pub code-msc-spec : {M : Type 1} → statement M
 code-msc-spec =
-    tie.close (tie.spec Inv-loop μ-loop (λ c κs. c .before .before .pre .fits .allowed) (λ c κs. c .before .before .before .pre .fits .allowed)
+    tie.close (tie.spec Inv-loop μ-loop (λ c κs. c .before .before .pre .fits .allowed .settings) (λ c κs. c .before .before .before .pre .fits .allowed .settings)
     (λ c. coding-start _ _ _ _ _ _ (c .before .before .before .before .pre) (c .before .slot-size .ensures) (c .frame-bytes .ensures))
     (λ c. let h = within c in search needs) (λ c. let h = within c in search needs) (λ c. let h = within c in search needs)
     (λ c. let h = within c in search needs) (λ c. let h = within c in search needs) (λ c. let h = within c in search needs)

@@ -2,7 +2,7 @@
 use borrow.Author.Needs.{needs}
 use Rattle.superframe.specs.Call.{memoryLength}
 use Rattle.settings.specs.Cells.{facCells}
-use Rattle.settings.proofs.Bounds.{accepted-of}
+use Rattle.channels.proofs.Schemes.{scheme-accepted}
 use Rattle.channels.proofs.Lent.{sdc-lent}
 use Rattle.codecall.proofs.CodeCalls.{accepted-call}
 use Rattle.codecall.proofs.code.code_accepted.Statement.{statement}
@@ -10,19 +10,19 @@ use Rattle.codecall.proofs.code.code_accepted.Tie as tie
 
 code-fac-requires : tie.Need-code-fac-requires
 unfolding facCells
-code-fac-requires c κs = let p = c .before .before .before .before .pre in (p .bytes .faclong, p .cells .faclong)
+code-fac-requires c κs = let p = c .before .before .before .before .pre in (scheme-accepted _ (p .fits .scheme) .table, p .bytes .faclong, p .cells .faclong)
 
 code-block-requires : tie.Need-code-block-requires
 code-block-requires c κs =
     let p = c .before .before .before .before .before .before .before .before .pre in
-    rw (c .before .sdc-block .ensures) (sdc-lent (accepted-of _ (p .fits .settings)) (p .bytes .sdclong) (p .cells .sdclong))
+    rw (c .before .sdc-block .ensures) (sdc-lent (scheme-accepted _ (p .fits .scheme)) (p .bytes .sdclong) (p .cells .sdclong))
 
 code-msc-requires : tie.Need-code-msc-requires
 unfolding memoryLength
 code-msc-requires c κs =
     let p = c .before .before .before .before .before .before .before .before .before .before .before .before .pre in
     record {
-      fits = record { allowed = accepted-of _ (p .fits .settings); position = p .order .position; count = p .order .count; slots = p .fits .long };
+      fits = record { allowed = scheme-accepted _ (p .fits .scheme); position = p .order .position; count = p .order .count; slots = p .fits .long };
       input = p .bytes .msclong;
       numbers = p .cells .msclong;
     }
@@ -34,5 +34,5 @@ returns c =
 
 pub code-accepted-spec : {M : Type 1} → statement M
 code-accepted-spec =
-    tie.close (tie.spec code-fac-requires (λ c κs. accepted-of _ (c .before .before .before .before .before .before .pre .fits .settings))
+    tie.close (tie.spec code-fac-requires (λ c κs. scheme-accepted _ (c .before .before .before .before .before .before .pre .fits .scheme))
     code-block-requires code-msc-requires (λ c. search needs) (λ c. search needs) (λ c. search needs) (λ c. search needs) returns)

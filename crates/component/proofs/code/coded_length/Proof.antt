@@ -1,6 +1,6 @@
 -- `coded_length` meets its contract. Assumes nothing.
 use borrow.Author.Needs.{needs}
-use Rattle.component.proofs.Patterns.{lent}
+use Rattle.patterns.proofs.Patterns.{lent}
 use Rattle.component.proofs.code.coded_length.Statement.{statement}
 use Rattle.component.proofs.code.coded_length.Tie as tie
 

@@ -1,11 +1,12 @@
 use borrow.Author.Needs.{needs}
-use Rattle.drmcoder.specs.Bytes.{stateOf}
+use Rattle.drmcoder.proofs.Stores.{state-read}
 use Rattle.drmcoder.proofs.bytes.state_of.Statement.{statement}
 use Rattle.drmcoder.proofs.bytes.state_of.Tie as tie
 
 returns : tie.Need-returns
-unfolding stateOf
-returns c = rw (c .before .before .settings-of .ensures)
+returns c = state-read _ _ _ (c .before .before .before .before .settings-of .ensures) (c .before .before .scheme-of .ensures)
 
 pub state-of-spec : {M : Type 1} → statement M
-state-of-spec = tie.close (tie.spec (λ c κs. search needs) (λ c. search needs) (λ c. search needs) returns)
+state-of-spec =
+    tie.close (tie.spec (λ c κs. search needs) (λ c. search needs) (λ c. search needs) (λ c. search needs) (λ c κs. search needs) (λ c. search needs)
+    (λ c. search needs) returns)

@@ -1,24 +1,13 @@
+use mathlib.Core.Path.{_∙_}
 use borrow.Author.Needs.{needs}
-use Rattle.drmcoder.specs.Calls.{resetBytes}
-use Rattle.drmcoder.proofs.Tests.{first-wrong, second-wrong}
-use Rattle.drmcoder.proofs.Answers.{reset-right}
 use Rattle.drmcoder.proofs.calls.drm_reset.Statement.{statement}
 use Rattle.drmcoder.proofs.calls.drm_reset.Tie as tie
 
 returns : tie.Need-returns
-unfolding resetBytes
-returns c = first-wrong _ _ _ _ _ (c .if1 .taken)
-
-returns-2 : tie.Need-returns-2
-unfolding resetBytes
-returns-2 c = second-wrong _ _ _ _ _ _ (c .before .if1 .left) (c .if2 .taken)
-
-returns-3 : tie.Need-returns-3
-returns-3 c =
-    let f = c .before .before in
-    let b = f .before .before .before in
-    let t = b .before .before .before .before .before in
-    reset-right _ _ _ _ _ _ _ _ (t .before .if1 .left) (t .if2 .left) (b .before .before .before .state-of .ensures) (b .before .before .settings-of .ensures) (b .reset .ensures) (f .finish .ensures .0) (f .finish .ensures .1)
+returns c =
+    let b = c .before .before .before in
+    b .reset-bytes .ensures ∙ rw (b .before .before .before .before .standard-table .ensures)
 
 pub drm-reset-spec : {M : Type 1} → statement M
-drm-reset-spec = tie.close (tie.spec returns returns-2 (λ c κs. search needs) (λ c κs. search needs) (λ c κs. search needs) (λ c κs. search needs) (λ c. search needs) (λ c. search needs) returns-3)
+drm-reset-spec =
+    tie.close (tie.spec (λ c κs. search needs) (λ c. search needs) (λ c κs. search needs) (λ c. search needs) (λ c. search needs) returns)

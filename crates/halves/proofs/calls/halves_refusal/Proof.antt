@@ -6,29 +6,30 @@ use native.Mathlib.Omega.{arith}
 use borrow.Author.Needs.{needs}
 use borrow.Author.Tests.{not-false}
 use lib.ListN.{length}
-use Rattle.settings.specs.Refusal.{first, refusal}
+use Rattle.settings.specs.Refusal.{first}
 use Rattle.settings.specs.Lengths.{nMux}
 use Rattle.settings.specs.Sizes.{frameBits}
 use Rattle.settings.proofs.Chain.{hold, pass}
-use Rattle.settings.proofs.Bounds.{accepted-of}
 use Rattle.settings.proofs.Buffers.{frame-low}
 use Rattle.block.specs.Packing.{spareZero}
+use Rattle.channels.specs.Scheme.{schemeRefusal}
+use Rattle.channels.proofs.Schemes.{scheme-accepted}
 use Rattle.halves.specs.Halves.{halvesLong, halvesSpare, halvesRefusal}
 use Rattle.halves.proofs.Fitting.{LongHalves, long-halves, one-few, two-few, of-settings, nine, ten, last}
 use Rattle.halves.proofs.calls.halves_refusal.Statement.{statement}
 use Rattle.halves.proofs.calls.halves_refusal.Tie as tie
 
--- the settings are not refused
-passed : (c : tie.After-frame-bits) → refusal (c .before .before .before .before .before .args .s) ≡ 0
-passed c = sym (c .before .before .refusal .ensures) ∙ c .before .if1 .left
+-- the scheme is not refused
+passed : (c : tie.After-frame-bits) → schemeRefusal (c .before .before .before .before .before .args .s) ≡ 0
+passed c = sym (c .before .before .scheme-refusal .ensures) ∙ c .before .if1 .left
 
 low : (c : tie.After-frame-bits) → c .frame-bits .result ≤ 36708
-low c = rw (c .frame-bits .ensures) (frame-low _ (accepted-of _ (passed c)))
+low c = rw (c .frame-bits .ensures) (frame-low _ (scheme-accepted _ (passed c) .settings))
 
 -- the test of the halves' lengths
 long : (c : tie.After-halves-long)
     → let a = c .before .before .before .before .before .before .args in
-    c .halves-long .result ≡ halvesLong (frameBits (a .s)) (a .cut) (length (a .first .now)) (length (a .second .now))
+    c .halves-long .result ≡ halvesLong (frameBits (a .s .settings)) (a .cut) (length (a .first .now)) (length (a .second .now))
 long c =
     let a = c .before .before .before .before .before .before .args in
     c .halves-long .ensures ∙ ap (λ b. halvesLong b (a .cut) (length (a .first .now)) (length (a .second .now))) (c .before .frame-bits .ensures)
@@ -39,18 +40,18 @@ halves : (c : tie.Else2)
 halves c = long-halves _ _ _ _ (sym (c .before .halves-long .ensures) ∙ not-false _ (c .if2 .left))
 
 -- the cells of the frame
-cells : (c : tie.After-n-mux) → c .n-mux .result ≡ nMux (c .before .before .before .before .before .before .before .before .args .s)
+cells : (c : tie.After-n-mux) → c .n-mux .result ≡ nMux (c .before .before .before .before .before .before .before .before .args .s .settings)
 unfolding nMux
 cells c = c .n-mux .ensures
 
 returns : tie.Need-returns
-returns c = of-settings _ _ _ _ _ (c .before .refusal .ensures) (c .if1 .taken)
+returns c = of-settings _ _ _ _ _ (c .before .scheme-refusal .ensures) (c .if1 .taken)
 
 returns-2 : tie.Need-returns-2
 returns-2 c = nine _ _ _ _ _ (passed (c .before .before)) (long (c .before)) (c .if2 .taken)
 
 mul-if3 : tie.Need-mul-if3
-mul-if3 c = omega (arith, cells c, accepted-of _ (passed (c .before .before .before)) .ranges .muxMost)
+mul-if3 c = omega (arith, cells c, scheme-accepted _ (passed (c .before .before .before)) .settings .ranges .muxMost)
 
 returns-3 : tie.Need-returns-3
 returns-3 c =
@@ -90,7 +91,7 @@ halves-refusal-spec =
     (tie.spec
     (λ c κs. search needs)
     returns
-    (λ c κs. accepted-of _ (sym (c .before .refusal .ensures) ∙ c .if1 .left))
+    (λ c κs. scheme-accepted _ (sym (c .before .scheme-refusal .ensures) ∙ c .if1 .left) .settings)
     (λ c κs. omega (arith, low c))
     returns-2
     (λ c κs. search needs)

@@ -13,7 +13,7 @@ part-place-with-end : tie.Need-part-place-with-end
 part-place-with-end c = let a = c .before .before .before .before .before .before .before in omega (arith, bytes-most Grid (a .args .state) _ _ _ (a .pre), c .before .before .before .before .numbers-in .ensures .long)
 
 part-grid-end : tie.Need-part-grid-end
-part-grid-end c = let a = c .before .before .before .before .before .before .before .before in omega (arith, half-grid (a .args .state .settings) _ (c .before .before .grid-length .ensures), grid-most (a .args .state .settings), c .before .before .before .before .numbers .ok)
+part-grid-end c = let a = c .before .before .before .before .before .before .before .before in omega (arith, half-grid (a .args .state .scheme .settings) _ (c .before .before .grid-length .ensures), grid-most (a .args .state .scheme .settings), c .before .before .before .before .numbers .ok)
 
 place-with-requires : tie.Need-place-with-requires
 place-with-requires c κs =

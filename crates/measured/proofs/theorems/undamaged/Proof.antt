@@ -7,7 +7,7 @@ use Rattle.measured.proofs.theorems.undamaged.Tie as tie
 
 theorem : Undamaged
 unfolding facBits
-theorem = record { points = decided; coded = coded-points; fac = λ s r block B e bytes count f g. fac-found block B e s bytes count f g }
+theorem = record { points = decided; coded = coded-points; fac = λ s r block B e bytes count f g. fac-found s block B e bytes count f g }
 
 pub undamaged-spec : {M : Type 1} → statement M
 undamaged-spec = tie.close (tie.spec (λ c. theorem))

@@ -18,7 +18,7 @@ blocks =
     record {
       level = λ pattern tail flips received. nearest-is (length flips) (coded pattern tail flips) received;
       block = λ received. nearest-is facBits facSent received;
-      mapped = λ bits e. fac-mapped bits e;
+      mapped = λ s bits e. fac-mapped s bits e;
       undamaged = λ bits B e. (found-again bits B e, agrees-same (sent-bits bits));
       unknown = fac-unknown;
     }

@@ -1,7 +1,7 @@
 -- `places::read_blocks` meets its contract. Assumes nothing.
 use borrow.Author.Needs.{needs}
 use Rattle.channels.proofs.Lent.{sdc-lent}
-use Rattle.readcall.proofs.ReadTurns.{fac-lent-is, rows-lent, sdc-long, blocks-read}
+use Rattle.readcall.proofs.BlockTurns.{fac-lent-is, rows-lent, sdc-long, blocks-read}
 use Rattle.readcall.proofs.places.read_blocks.Statement.{statement}
 use Rattle.readcall.proofs.places.read_blocks.Tie as tie
 

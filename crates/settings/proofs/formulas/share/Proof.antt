@@ -2,7 +2,7 @@ use mathlib.Core.Path.{_≡_}
 use Prim.Native.Nat.{ℕ, _*_, _/_}
 use native.Mathlib.Omega.{arith}
 use borrow.Author.Needs.{needs}
-use Rattle.component.specs.Patterns.{RX, RY}
+use Rattle.patterns.specs.Patterns.{RX, RY}
 use Rattle.settings.specs.Shares.{share}
 use Rattle.settings.proofs.Parts.{RY-positive, share-low}
 use Rattle.settings.proofs.formulas.share.Statement.{statement}
@@ -18,11 +18,11 @@ div-result c = rw (c .denominator .ensures) (RY-positive (c .before .before .arg
 mul-result : tie.Need-mul-result
 mul-result c =
     let low = share-low (c .before .before .args .coded) (c .before .before .args .rate) in
-    let whole = is-share _ _ (c .before .before .args .coded) (c .before .before .args .rate) (c .before .numerator .ensures) (c .denominator .ensures) in
+    let whole = is-share _ _ (c .before .before .args .coded) (c .before .before .args .rate) (c .before .numerator .ensures .0) (c .denominator .ensures) in
     omega arith
 
 returns : tie.Need-returns
-returns c = is-share _ _ (c .before .before .args .coded) (c .before .before .args .rate) (c .before .numerator .ensures) (c .denominator .ensures)
+returns c = is-share _ _ (c .before .before .args .coded) (c .before .before .args .rate) (c .before .numerator .ensures .0) (c .denominator .ensures)
 
 pub share-spec : {M : Type 1} → statement M
 share-spec = tie.close (tie.spec (λ c κs. search needs) (λ c κs. search needs) div-result mul-result returns)

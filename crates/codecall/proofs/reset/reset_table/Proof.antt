@@ -1,0 +1,28 @@
+-- `reset::reset_table` meets its contract. Assumes nothing.
+use borrow.Author.Needs.{needs}
+use Rattle.channels.specs.Scheme.{schemeOf}
+use Rattle.codecall.proofs.ResetCalls.{refused-reset, table-long, accepted-reset}
+use Rattle.codecall.proofs.reset.reset_table.Statement.{statement}
+use Rattle.codecall.proofs.reset.reset_table.Tie as tie
+
+returns : tie.Need-returns
+returns c =
+    let b = c .before in
+    refused-reset _ (schemeOf _ _) _ _ (b .before .sizes .ensures) _ (b .before .before .refusal-with .ensures) _ (b .length-refusal .ensures) (c .if1 .taken)
+
+scheme-of-requires : tie.Need-scheme-of-requires
+scheme-of-requires c κs =
+    let b = c .before .before .before .before in
+    table-long (b .before .before .before .before .args .old) (schemeOf _ _) (b .before .before .before .before .args .memory .now) _ (b .before .sizes .ensures) _ (b .before .before .refusal-with .ensures) _ (b .length-refusal .ensures)
+    (c .before .before .before .if1 .left)
+
+returns-2 : tie.Need-returns-2
+returns-2 c =
+    let b = c .before .before .before .before .before in
+    accepted-reset _ (schemeOf _ _) _ _ (b .before .sizes .ensures) _ (b .before .before .refusal-with .ensures) _ (b .length-refusal .ensures) _ _
+    (c .before .before .before .before .if1 .left) (c .scheme-of .ensures) (c .before .before .clear .ensures)
+
+pub reset-table-spec : {M : Type 1} → statement M
+reset-table-spec =
+    tie.close (tie.spec (λ c κs. search needs) (λ c κs. search needs) (λ c κs. search needs) returns (λ c κs. search needs) scheme-of-requires
+    (λ c. search needs) returns-2)
