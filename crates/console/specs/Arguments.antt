@@ -17,7 +17,7 @@ use Rattle.console.specs.declared.SettingsJob.{SettingsJob}
 use Rattle.console.specs.declared.Named.{Named}
 use Rattle.console.specs.declared.Start.{Start}
 use Rattle.console.specs.declared.Start.the-variants.{Usage, Refused, Begin, Lines}
-use Rattle.console.specs.Words.{bytesIn}
+use Rattle.console.specs.Text.{bytesIn}
 
 -- Two words are equal.
 unfoldable pub sameBytes : List ℕ → List ℕ → Bool

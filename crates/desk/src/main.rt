@@ -1,16 +1,10 @@
-// The desk's program: it reads, calls the jobs and writes. What is decided and what is said stands in `console`, `jobs` and `linejobs`.
+// The desk's program: it reads, calls the jobs and writes. What is decided and what is said stands in `turns`, `console`, `words`, `jobs` and `linejobs`.
 use channels::tables::standard_scheme;
 use codecall::reset::reset;
-use console::End;
 use console::Job;
 use console::LineJob;
-use console::Next;
-use console::Seen;
 use console::Start;
 use console::arguments;
-use console::input;
-use console::report;
-use console::turn;
 use jobs::buffers;
 use jobs::sizes;
 use jobs::superframes;
@@ -20,6 +14,12 @@ use libc::STDOUT_FILENO;
 use linejobs::steps;
 use settings::Settings;
 use superframe::State;
+use turns::End;
+use turns::Next;
+use turns::Seen;
+use turns::input;
+use turns::turn;
+use words::report;
 ghost use Prim.Native.Nat.{_≤_};
 
 // A super frame, and the state after it.

@@ -7,7 +7,7 @@ use lib.IntN.{ℤ}
 use lib.Ieee.{Float}
 use borrow.Author.Tests.{eq-eqb}
 use Rattle.settings.specs.declared.Settings.{Settings}
-use Rattle.grid.specs.Places.{Cells}
+use Rattle.placing.specs.Cells.{Cells}
 use Rattle.grid.specs.Calls.{PlaceYield, placeOf, TakeYield, takeOf}
 use Rattle.measured.specs.declared.Channel.{Channel}
 use Rattle.measured.specs.Calls.{DecideYield, decideOf}

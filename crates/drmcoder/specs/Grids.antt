@@ -6,7 +6,7 @@ use lib.ListN.{length}
 use lib.IntN.{ℤ}
 use lib.Dec.{eqb}
 use Rattle.grid.specs.declared.GridSizes.{GridSizes}
-use Rattle.grid.specs.Places.{Cells}
+use Rattle.placing.specs.Cells.{Cells}
 use Rattle.grid.specs.Calls.{gridSizes, PlaceYield, placeOf, TakeYield, takeOf}
 use Rattle.drmcoder.specs.Bytes.{settingsOf}
 use Rattle.drmcoder.specs.Numbers.{Numbers, yielded}

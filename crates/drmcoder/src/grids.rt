@@ -4,7 +4,8 @@ use grid::GridSizes;
 use grid::calls;
 ghost use mathlib.Core.Path.{_≡_};
 ghost use lib.ListN.{length};
-ghost use Rattle.grid.specs.Contracts.{cellsFrom, placeYield, takeYield};
+ghost use Rattle.grid.specs.Contracts.{placeYield, takeYield};
+ghost use Rattle.placing.specs.Contracts.{cellsFrom};
 ghost use Rattle.drmcoder.specs.Numbers.{yielded};
 ghost use Rattle.drmcoder.specs.Grids.{gridSizesInto, gridSizesBytes, placeBytes, takeBytes};
 

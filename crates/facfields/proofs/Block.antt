@@ -16,12 +16,12 @@ use Rattle.block.specs.Packing.{bitAt, unpacked, digits, packed}
 use Rattle.block.proofs.Lists.{bits-table}
 use Rattle.block.proofs.Packing.{undigit, length-unpacked}
 use Rattle.facfields.specs.declared.Fields.{Fields}
-use Rattle.facfields.specs.Bits.{bitsOf, laid}
+use Rattle.crc.specs.Bits.{bitsOf, laid}
 use Rattle.facfields.specs.Fields.{widths, parameters}
-use Rattle.facfields.specs.Crc.{crcBits}
+use Rattle.crc.specs.Crc.{crcBits}
 use Rattle.facfields.specs.Block.{parameterBits, crcWidth, withCrc, blockOf, carried, crcRight}
-use Rattle.facfields.proofs.Digits.{bitsOf-digits, digits-append}
-use Rattle.facfields.proofs.Register.{length-crc, bits-crc}
+use Rattle.crc.proofs.Digits.{bitsOf-digits, digits-append}
+use Rattle.crc.proofs.Register.{length-crc, bits-crc}
 
 -- the first bits of packed bytes
 pub unpacked-more : (m n : ℕ) (bytes : List ℕ) → unpacked (m + n) bytes ≡ unpacked m bytes ++ table (bitAt bytes) m n

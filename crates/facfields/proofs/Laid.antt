@@ -14,8 +14,8 @@ use Rattle.component.specs.Bits.{Bits}
 use Rattle.component.proofs.Bits.{bits-nil, bits-append, bits-drop}
 use Rattle.block.specs.Packing.{digits}
 use Rattle.block.proofs.Packing.{digits-low}
-use Rattle.facfields.specs.Bits.{bitsOf, laid, fit, numbersIn}
-use Rattle.facfields.proofs.Digits.{length-bitsOf, bits-bitsOf, digits-bitsOf, bitsOf-digits, digits-drop}
+use Rattle.crc.specs.Bits.{bitsOf, laid, fit, numbersIn}
+use Rattle.crc.proofs.Digits.{length-bitsOf, bits-bitsOf, digits-bitsOf, bitsOf-digits, digits-drop}
 
 -- numbers that fit are found again
 pub numbers-laid : (ws vs rest : List ℕ) → fit ws vs ≡ true → numbersIn ws (laid ws vs ++ rest) ≡ vs

@@ -1,7 +1,4 @@
-pub mod Digits
 pub mod Laid
-pub mod Linear
-pub mod Register
 pub mod Words
 pub mod Parameters
 pub mod Block

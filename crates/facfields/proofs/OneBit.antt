@@ -14,11 +14,11 @@ use Rattle.component.proofs.Bits.{bits-nil, bits-cons, bits-head, bits-rest}
 use Rattle.lists.proofs.Rules.{at}
 use Rattle.block.specs.Packing.{bitAt, unpacked, digits}
 use Rattle.block.proofs.Lists.{bits-table}
-use Rattle.facfields.specs.Crc.{g8, tapped, shifted, register, crcBits}
+use Rattle.crc.specs.Crc.{g8, tapped, shifted, register, crcBits}
 use Rattle.facfields.specs.Block.{crcRight}
 use Rattle.facfields.specs.Theorems.{OneBit, SeesOneBit}
-use Rattle.facfields.proofs.Linear.{added, register-added, length-register}
-use Rattle.facfields.proofs.Register.{bits-register}
+use Rattle.crc.proofs.Linear.{added, register-added, length-register}
+use Rattle.crc.proofs.Register.{bits-register}
 use Rattle.facfields.proofs.Block.{crc-carried}
 use Rattle.facfields.proofs.Refusals.{read-zero}
 

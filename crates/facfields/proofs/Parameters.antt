@@ -14,9 +14,9 @@ use lib.Dec.{ltb}
 use Rattle.lists.specs.Lists.{total}
 use Rattle.lists.proofs.Bools.{never-both, and-left, and-right}
 use Rattle.lists.proofs.Rules.{equal, less}
-use Rattle.facfields.specs.Bits.{bitsOf, laid, fit, numbersIn}
+use Rattle.crc.specs.Bits.{bitsOf, laid, fit, numbersIn}
 use Rattle.facfields.specs.Fields.{widths}
-use Rattle.facfields.proofs.Digits.{bitsOf-add, bitsOf-join, bitsOf-mod}
+use Rattle.crc.proofs.Digits.{bitsOf-add, bitsOf-join, bitsOf-mod}
 use Rattle.facfields.proofs.Laid.{numbers-laid}
 
 -- how many values each parameter has, as the code has them

@@ -11,11 +11,11 @@ use Rattle.lists.specs.Lists.{table}
 use Rattle.lists.specs.Bytes.{bytesFor}
 use Rattle.lists.proofs.Tables.{length-table, table-at, table-add, Filled, filled-end}
 use Rattle.block.specs.Packing.{bitAt, unpacked, digits, packed}
-use Rattle.facfields.specs.Bits.{bitsOf}
-use Rattle.facfields.specs.Crc.{crcBits}
+use Rattle.crc.specs.Bits.{bitsOf}
+use Rattle.crc.specs.Crc.{crcBits}
 use Rattle.facfields.specs.Block.{withCrc}
-use Rattle.facfields.proofs.Digits.{length-bitsOf, getD-bitsOf, bitsOf-join, digits-inside, digits-append}
-use Rattle.facfields.proofs.Register.{length-crc}
+use Rattle.crc.proofs.Digits.{length-bitsOf, getD-bitsOf, bitsOf-join, digits-inside, digits-append}
+use Rattle.crc.proofs.Register.{length-crc}
 
 -- the bits of byte k
 byte-bits : (bytes : List ℕ) (k : ℕ) → table (bitAt bytes) (8 * k) 8 ≡ bitsOf 8 (getD bytes k 0)

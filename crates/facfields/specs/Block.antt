@@ -5,9 +5,9 @@ use mathlib.Core.List.{List, _++_}
 use lib.Dec.{eqb}
 use Rattle.block.specs.Packing.{unpacked, digits, packed}
 use Rattle.facfields.specs.declared.Fields.{Fields}
-use Rattle.facfields.specs.Bits.{laid, numbersIn}
+use Rattle.crc.specs.Bits.{laid, numbersIn}
 use Rattle.facfields.specs.Fields.{widths, parameters, fieldsAmong}
-use Rattle.facfields.specs.Crc.{crcBits}
+use Rattle.crc.specs.Crc.{crcBits}
 
 unfoldable pub parameterBits : ℕ
 parameterBits = 64

@@ -6,7 +6,7 @@ use lib.ListN.{getD, take, drop}
 use lib.Dec.{eqb}
 use Rattle.settings.specs.declared.Settings.{Settings}
 use Rattle.facfields.specs.declared.Fields.{Fields}
-use Rattle.facfields.specs.Bits.{fit}
+use Rattle.crc.specs.Bits.{fit}
 
 -- The bits of each parameter in the order of the clauses. The reserved ones stand among them: rfu is the ninth, Rfa the last.
 unfoldable pub widths : List ℕ

@@ -1,6 +1,5 @@
 // A block from its fields, and what a block holds.
 use crate::Fields;
-use crate::crc::crc;
 use crate::layout::fields_among;
 use crate::layout::parameters;
 use crate::word::fit;
@@ -8,6 +7,7 @@ use crate::word::join;
 use crate::word::put_word;
 use crate::word::split;
 use crate::word::word_of;
+use crc::word::crc;
 ghost use mathlib.Core.Path.{_≡_};
 ghost use mathlib.Core.Bool.{true};
 ghost use lib.ListN.{length};

@@ -1,7 +1,6 @@
 // FAC blocks built from their fields and read back. 02, S-1; 001 clauses 6.3.3 to 6.3.5 and annex D.
 pub mod blocks;
 pub mod calls;
-pub mod crc;
 pub mod layout;
 pub mod theorems;
 pub mod word;

@@ -3,10 +3,10 @@ ghost use mathlib.Core.Path.{_≡_};
 ghost use mathlib.Core.Bool.{true};
 ghost use lib.ListN.{length};
 ghost use Rattle.block.specs.Packing.{unpacked, packed};
-ghost use Rattle.facfields.specs.Bits.{bitsOf, laid, fit, numbersIn};
+ghost use Rattle.crc.specs.Bits.{bitsOf, laid, fit, numbersIn};
 ghost use Rattle.facfields.specs.Fields.{widths};
 ghost use Rattle.facfields.specs.Block.{withCrc};
-use crate::crc::crc;
+use crc::word::crc;
 
 pub const BLOCK_BYTES: usize = 9;
 

@@ -20,11 +20,14 @@ use Rattle.settings.specs.Refusal.{first, refusal, paired}
 use Rattle.settings.specs.Lengths.{nSdc, nSfa}
 use Rattle.settings.proofs.Bounds.{accepted-of}
 use Rattle.grid.specs.declared.GridSizes.{GridSizes}
-use Rattle.grid.specs.Carriers.{frameSymbols, symbols, carriers}
-use Rattle.grid.specs.Places.{places, gridKinds, Cells, placed, taken}
+use Rattle.kinds.specs.Carriers.{frameSymbols, symbols, carriers}
+use Rattle.kinds.specs.Places.{places, gridKinds}
+use Rattle.placing.specs.Cells.{Cells, placed, taken}
 use Rattle.grid.specs.Calls.{kinds, gridNumbers, noGrid, someGrid, gridSizes, cellsFit, gridRefusal, placeRefusal, takeRefusal, placeOf, takeOf}
-use Rattle.grid.specs.Contracts.{Pairing, KindsFit, GridFits, AllFit, lengthsRefusal, CallFits}
-use Rattle.grid.proofs.Bands.{Band, band}
+use Rattle.grid.specs.Contracts.{lengthsRefusal, CallFits}
+use Rattle.placing.specs.Contracts.{GridFits, AllFit}
+use Rattle.kinds.specs.Contracts.{Pairing, KindsFit}
+use Rattle.kinds.proofs.Bands.{Band, band}
 use Rattle.grid.proofs.Counts.{Totals, totals}
 
 -- A mode and an occupancy that are allowed together.

@@ -16,15 +16,16 @@ use Rattle.lists.proofs.Bools.{and-left, and-right}
 use Rattle.lists.proofs.Tables.{length-table, table-ext, table-add, table-from}
 use Rattle.settings.specs.Cells.{entry, sdcTable, superTable, facCells}
 use Rattle.settings.specs.Refusal.{first, paired}
-use Rattle.grid.specs.Carriers.{table80, frameSymbols, symbols, lower, carriers, unused}
-use Rattle.grid.specs.References.{frequency, time, isGain}
-use Rattle.grid.specs.Control.{facCarriers, sdcSymbols, isSdc}
-use Rattle.grid.specs.Kinds.{fac, sdc, msc, has, dataKind, kindOf}
-use Rattle.grid.specs.Places.{framePlaces, places, symbolKind, placeKind, gridKinds, count}
+use Rattle.kinds.specs.Carriers.{table80, frameSymbols, symbols, lower, carriers, unused}
+use Rattle.kinds.specs.References.{frequency, time, isGain}
+use Rattle.kinds.specs.Control.{facCarriers, sdcSymbols, isSdc}
+use Rattle.kinds.specs.Kinds.{fac, sdc, msc, has, dataKind, kindOf}
+use Rattle.kinds.specs.Places.{framePlaces, places, symbolKind, placeKind, gridKinds}
+use Rattle.placing.specs.Cells.{count}
 use Rattle.grid.specs.Counts.{symbolCount, symbolsCount, rightPairing, everyBelow, rightGrid}
-use Rattle.grid.specs.Contracts.{Pairing}
-use Rattle.grid.proofs.Bands.{mode-at}
-use Rattle.grid.proofs.Places.{one, count-append}
+use Rattle.kinds.specs.Contracts.{Pairing}
+use Rattle.kinds.proofs.Bands.{mode-at}
+use Rattle.placing.proofs.Places.{one, count-append}
 use Rattle.grid.proofs.Pairings.{right-grid}
 
 -- A test of all numbers below n holds of each.

@@ -17,16 +17,18 @@ use Rattle.settings.specs.declared.Settings.{Settings}
 use Rattle.settings.specs.Cells.{facCells}
 use Rattle.settings.specs.Refusal.{first}
 use Rattle.settings.specs.Lengths.{nSdc, nSfa}
-use Rattle.grid.specs.Carriers.{unused}
-use Rattle.grid.specs.References.{frequency, time, isGain}
-use Rattle.grid.specs.Control.{facCarriers, isSdc}
-use Rattle.grid.specs.Kinds.{fac, sdc, msc, has, dataKind, kindOf}
-use Rattle.grid.specs.Places.{places, symbolKind, placeKind, gridKinds, count, before, nth, Cells, ofKind, placeNumber, placed, takenOf, taken}
+use Rattle.kinds.specs.Carriers.{unused}
+use Rattle.kinds.specs.References.{frequency, time, isGain}
+use Rattle.kinds.specs.Control.{facCarriers, isSdc}
+use Rattle.kinds.specs.Kinds.{fac, sdc, msc, has, dataKind, kindOf}
+use Rattle.kinds.specs.Places.{places, symbolKind, placeKind, gridKinds}
+use Rattle.placing.specs.Cells.{count, before, nth, Cells, ofKind, placeNumber, placed, takenOf, taken}
 use Rattle.grid.specs.Calls.{kinds, gridNumbers, cellsFit, gridRefusal, placeRefusal, takeRefusal, PlaceYield, placeOf, TakeYield, takeOf}
-use Rattle.grid.specs.Contracts.{CallFits, AllFit}
+use Rattle.grid.specs.Contracts.{CallFits}
+use Rattle.placing.specs.Contracts.{AllFit}
 use Rattle.grid.specs.Theorems.{PlacesCounted, SameCells, TakenAsPlaced, cleaned, PlacedAsTaken, PlacedInOrder, CellsInOrder}
 use Rattle.grid.proofs.Accepts.{paired-low, call-fits, place-accepted, take-accepted, kinds-long, all-fit}
-use Rattle.grid.proofs.Places.{is-kind, Nth, nth-place, nth-before, before-low, of-fac, of-sdc, of-msc, of-none}
+use Rattle.placing.proofs.Places.{is-kind, Nth, nth-place, nth-before, before-low, of-fac, of-sdc, of-msc, of-none}
 use Rattle.grid.proofs.Counts.{totals, frame-facs}
 
 -- 1.

@@ -1,10 +1,3 @@
-pub mod Bands
-pub mod Paints
-pub mod Gains
-pub mod Symbols
-pub mod Places
-pub mod Placing
-pub mod Taking
 pub mod Pairings
 pub mod Counts
 pub mod Accepts

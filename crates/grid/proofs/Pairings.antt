@@ -4,11 +4,11 @@ use mathlib.Core.Bool.{true}
 use Rattle.lists.specs.Lists.{table, total}
 use Rattle.settings.specs.Cells.{entry, sdcTable, superTable, facCells}
 use Rattle.settings.specs.Refusal.{first, paired}
-use Rattle.grid.specs.Carriers.{table80, frameSymbols, lowerTable, upperTable, lower, upper, carriers, unused}
-use Rattle.grid.specs.References.{table84, frequency, table86, table87, table88, table89, time, table90, spacing, offset, isGain}
-use Rattle.grid.specs.Control.{table93, table94, table95, table96, facCarriers, sdcSymbols, isSdc}
-use Rattle.grid.specs.Kinds.{fac, sdc, msc, has, dataKind, kindOf}
-use Rattle.grid.specs.Places.{count}
+use Rattle.kinds.specs.Carriers.{table80, frameSymbols, lowerTable, upperTable, lower, upper, carriers, unused}
+use Rattle.kinds.specs.References.{table84, frequency, table86, table87, table88, table89, time, table90, spacing, offset, isGain}
+use Rattle.kinds.specs.Control.{table93, table94, table95, table96, facCarriers, sdcSymbols, isSdc}
+use Rattle.kinds.specs.Kinds.{fac, sdc, msc, has, dataKind, kindOf}
+use Rattle.placing.specs.Cells.{count}
 use Rattle.grid.specs.Counts.{symbolCount, symbolsCount, rightPairing, everyBelow, rightGrid}
 
 pub right-grid : rightGrid ≡ true

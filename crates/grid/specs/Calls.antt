@@ -10,8 +10,9 @@ use Rattle.settings.specs.Refusal.{first, refusal}
 use Rattle.settings.specs.Cells.{facCells}
 use Rattle.settings.specs.Lengths.{nSdc, nSfa}
 use Rattle.grid.specs.declared.GridSizes.{GridSizes}
-use Rattle.grid.specs.Carriers.{symbols, carriers}
-use Rattle.grid.specs.Places.{places, gridKinds, Cells, placed, taken}
+use Rattle.kinds.specs.Carriers.{symbols, carriers}
+use Rattle.kinds.specs.Places.{places, gridKinds}
+use Rattle.placing.specs.Cells.{Cells, placed, taken}
 
 -- The kinds of a super frame's places, and the numbers of its grid, three for each place.
 unfoldable pub kinds : Settings → List ℕ

@@ -5,10 +5,10 @@ use lib.Dec.{eqb}
 use Rattle.lists.specs.Lists.{table, total}
 use Rattle.settings.specs.Cells.{entry, sdcTable, superTable, facCells}
 use Rattle.settings.specs.Refusal.{paired}
-use Rattle.grid.specs.Carriers.{frameSymbols, lower, carriers}
-use Rattle.grid.specs.Control.{sdcSymbols}
-use Rattle.grid.specs.Kinds.{kindOf, fac, msc}
-use Rattle.grid.specs.Places.{count}
+use Rattle.kinds.specs.Carriers.{frameSymbols, lower, carriers}
+use Rattle.kinds.specs.Control.{sdcSymbols}
+use Rattle.kinds.specs.Kinds.{kindOf, fac, msc}
+use Rattle.placing.specs.Cells.{count}
 
 -- How many places of a symbol have this kind, in a transmission frame that has no SDC symbols.
 unfoldable pub symbolCount : ℕ → ℕ → ℕ → ℕ → ℕ

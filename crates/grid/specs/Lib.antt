@@ -1,8 +1,3 @@
-pub mod Carriers
-pub mod References
-pub mod Control
-pub mod Kinds
-pub mod Places
 pub mod Calls
 pub mod Counts
 pub mod Theorems

@@ -10,8 +10,9 @@ use Rattle.lists.specs.Lists.{table}
 use Rattle.settings.specs.declared.Settings.{Settings}
 use Rattle.settings.specs.Cells.{entry, sdcTable, superTable, facCells}
 use Rattle.settings.specs.Refusal.{paired}
-use Rattle.grid.specs.Kinds.{fac, sdc, msc}
-use Rattle.grid.specs.Places.{framePlaces, places, gridKinds, count, before, nth, Cells, ofKind}
+use Rattle.kinds.specs.Kinds.{fac, sdc, msc}
+use Rattle.kinds.specs.Places.{framePlaces, places, gridKinds}
+use Rattle.placing.specs.Cells.{count, before, nth, Cells, ofKind}
 use Rattle.grid.specs.Calls.{kinds, gridNumbers, cellsFit, placeOf, takeOf}
 
 -- 1. The places of kinds 4 to 6 number 65 per frame, N_SDC and N_SFA for all sixteen pairings of mode and occupancy.

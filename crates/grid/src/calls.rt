@@ -1,17 +1,18 @@
 // The calls: sizes, place and take. 02, S-4.
 use crate::GridSizes;
-use crate::cells;
-use crate::kinds;
-use crate::tables;
+use kinds::rows;
+use kinds::tables;
+use placing::cells;
 use settings::Settings;
 use settings::refusals;
 use settings::tables::n_sdc;
 use settings::tables::n_sfa;
 ghost use mathlib.Core.Path.{_≡_};
 ghost use lib.ListN.{length};
-ghost use Rattle.grid.specs.Places.{placed, taken};
+ghost use Rattle.placing.specs.Cells.{placed, taken};
 ghost use Rattle.grid.specs.Calls.{kinds, gridSizes, placeOf, takeOf};
-ghost use Rattle.grid.specs.Contracts.{cellsFrom, lengthsRefusal, CallFits, placeYield, takeYield};
+ghost use Rattle.grid.specs.Contracts.{lengthsRefusal, CallFits, placeYield, takeYield};
+ghost use Rattle.placing.specs.Contracts.{cellsFrom};
 
 // Three FAC blocks of 65 cells.
 const FAC_NUMBERS: usize = 390;
@@ -62,7 +63,7 @@ fn refusal(s: Settings, number: u8, fac: usize, sdc: usize, msc: usize, grid: us
 fn kind_buffer() -> [u8; 20745]
     ensures { λ r. ⌜ length r ≡ 20745 ⌝ }
 {
-    [0u8; kinds::MOST_PLACES]
+    [0u8; rows::MOST_PLACES]
 }
 
 fn place_accepted(s: Settings, fac: &[i16], sdc: &[i16], msc: &[i16], grid: &mut [i16])
@@ -71,7 +72,7 @@ fn place_accepted(s: Settings, fac: &[i16], sdc: &[i16], msc: &[i16], grid: &mut
 {
     let mut buffer = kind_buffer();
     let n = grid.len() / 3;
-    kinds::grid_kinds(s.mode, s.occupancy, &mut buffer[0..n]);
+    rows::grid_kinds(s.mode, s.occupancy, &mut buffer[0..n]);
     cells::place_cells(&buffer[0..n], fac, sdc, msc, grid);
 }
 
@@ -81,7 +82,7 @@ fn take_accepted(s: Settings, grid: &[i16], fac: &mut [i16], sdc: &mut [i16], ms
 {
     let mut buffer = kind_buffer();
     let n = grid.len() / 3;
-    kinds::grid_kinds(s.mode, s.occupancy, &mut buffer[0..n]);
+    rows::grid_kinds(s.mode, s.occupancy, &mut buffer[0..n]);
     cells::take_all(&buffer[0..n], grid, fac, sdc, msc);
 }
 

@@ -1,8 +1,5 @@
 // Cells onto the grid of symbols and carriers, and off it. 02, S-4.
 pub mod calls;
-pub mod cells;
-pub mod kinds;
-pub mod tables;
 pub mod theorems;
 
 // The answer of `sizes`: the refusal, or 0 and the symbols of a super frame, the carriers of a symbol and the numbers of a grid.

@@ -17,7 +17,7 @@ use Rattle.superframe.specs.declared.State.{State}
 use Rattle.superframe.specs.Code.{CodeCall, codeOf}
 use Rattle.superframe.specs.Read.{ReadCall, readOf}
 use Rattle.grid.specs.Calls.{gridSizes, placeOf, takeOf}
-use Rattle.grid.specs.Contracts.{cellsFrom}
+use Rattle.placing.specs.Contracts.{cellsFrom}
 use Rattle.codecall.specs.Contracts.{codeCall}
 use Rattle.readcall.specs.Contracts.{readCall}
 use Rattle.settings.specs.Refusal.{first, refusal}
@@ -28,10 +28,10 @@ use Rattle.cellmemory.proofs.Chains.{scheme-settings}
 use Rattle.cellmemory.proofs.Laid.{take-sets}
 use Rattle.console.specs.declared.Job.{Job}
 use Rattle.console.specs.declared.Job.the-variants.{Code, Read, Grid, Ungrid}
-use Rattle.jobs.specs.Cells.{bytesCells}
+use Rattle.deskcells.specs.Cells.{bytesCells}
 use Rattle.jobs.specs.Contracts.{Enough, CodeRoom, ReadRoom, GridRoom, Lent, Numbers}
 use Rattle.jobs.specs.SuperFrame.{JobYield, refused, gridLength, inputLength, outputLength, blocksLength, cellsLength, jobRefusal, jobOf, codeLent, codeWritten, readLent, readAnswered, cellsIn, blankCells, gridWritten, cellsWritten, jobCall}
-use Rattle.jobs.proofs.Turns.{bytes-cells-long}
+use Rattle.deskcells.proofs.Turns.{bytes-cells-long}
 use Rattle.jobs.proofs.Rooms.{enough}
 use Rattle.jobs.proofs.Lengths.{grid-most, length-most, input-most}
 

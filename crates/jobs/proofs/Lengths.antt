@@ -13,7 +13,7 @@ use Rattle.settings.proofs.Buffers.{sizes-refuses}
 use Rattle.console.specs.declared.Job.{Job}
 use Rattle.console.specs.declared.Job.the-variants.{Code, Read, Grid, Ungrid}
 use Rattle.grid.specs.Calls.{gridNumbers, someGrid, gridSizes}
-use Rattle.grid.proofs.Bands.{band}
+use Rattle.kinds.proofs.Bands.{band}
 use Rattle.grid.proofs.Accepts.{pairing-of, grid-accepts, grid-refuses}
 use Rattle.jobs.specs.Contracts.{Enough, Rooms}
 use Rattle.jobs.specs.SuperFrame.{blocksLength, cellsLength, gridLength, inputLength, outputLength}

@@ -1,5 +1,3 @@
-pub mod Signs
-pub mod Turns
 pub mod Joins
 pub mod Rooms
 pub mod Lengths

@@ -10,7 +10,7 @@ use Rattle.settings.specs.Sizes.{sizesOf}
 use Rattle.superframe.specs.declared.State.{State}
 use Rattle.console.specs.declared.Job.{Job}
 use Rattle.jobs.specs.declared.sizes.Space.{Space}
-use Rattle.jobs.specs.Cells.{bytesCells}
+use Rattle.deskcells.specs.Cells.{bytesCells}
 use Rattle.jobs.specs.SuperFrame.{gridLength, inputLength, outputLength}
 
 -- Room for the cells of a super frame, and for their bytes.

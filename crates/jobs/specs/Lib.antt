@@ -1,4 +1,3 @@
-pub mod Cells
 pub mod Output
 pub mod SuperFrame
 pub mod Contracts

@@ -7,7 +7,7 @@ use lib.ListN.{length, take}
 use lib.Seq.{sets}
 use lib.IntN.{ℤ}
 use lib.Dec.{ltb}
-use Rattle.jobs.specs.Cells.{cellBytes}
+use Rattle.deskcells.specs.Cells.{cellBytes}
 
 -- desk_code: the cells of FAC, SDC and MSC.
 unfoldable pub cellOutput : List ℤ → List ℤ → List ℤ → List ℕ

@@ -17,12 +17,12 @@ use Rattle.superframe.specs.Read.{ReadCall, ReadYield, readOf}
 use Rattle.cellmemory.specs.Contracts.{lengthRefusal}
 use Rattle.console.specs.declared.Job.{Job}
 use Rattle.settings.specs.declared.Settings.{Settings}
-use Rattle.grid.specs.Places.{Cells}
+use Rattle.placing.specs.Cells.{Cells}
 use Rattle.grid.specs.Calls.{gridSizes, PlaceYield, placeOf, TakeYield, takeOf}
 use Rattle.console.specs.declared.Job.the-variants.{Code, Read, Grid, Ungrid}
-use Rattle.console.specs.declared.Outcome.the-variants.{Through, Refused}
+use Rattle.turns.specs.declared.Outcome.the-variants.{Through, Refused}
 use Rattle.jobs.specs.declared.Step.{Step}
-use Rattle.jobs.specs.Cells.{cellBytes, bytesCells}
+use Rattle.deskcells.specs.Cells.{cellBytes, bytesCells}
 use Rattle.jobs.specs.Output.{cellOutput, blockOutput}
 
 -- All that a job yields for a super frame: its answer, and memory and the output buffer as it leaves them.

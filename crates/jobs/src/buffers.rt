@@ -1,7 +1,10 @@
 // Buffers that are long enough for all settings.
+use deskcells::numbers::take_cells;
 ghost use mathlib.Core.Path.{_≡_};
-ghost use lib.ListN.{replicate};
+ghost use Prim.Native.Nat.{_≤_};
+ghost use lib.ListN.{length, replicate};
 ghost use lib.IntN.{pos};
+ghost use Rattle.jobs.specs.Contracts.{Numbers};
 
 pub fn memory() -> [i16; 61180]
     ensures { λ r. ⌜ r ≡ replicate 61180 (pos 0) ⌝ }
@@ -57,4 +60,14 @@ pub fn number_bytes() -> [u8; 124470]
     ensures { λ r. ⌜ r ≡ replicate 124470 0 ⌝ }
 {
     [0u8; 124470]
+}
+
+// The numbers of bytes, at the start of a buffer.
+pub fn numbers_in(bytes: &[u8]) -> [i16; 62235]
+    requires { ⌜ length (now bytes) ≤ 124470 ⌝ }
+    ensures { λ r. ⌜ Numbers (now (bytes .entry)) r ⌝ }
+{
+    let mut cells = numbers();
+    take_cells(bytes, &mut cells);
+    cells
 }

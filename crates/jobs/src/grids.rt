@@ -1,16 +1,16 @@
 // A super frame of the jobs `grid` and `ungrid`. 02, S-4.
 use crate::Step;
 use crate::buffers;
-use crate::cells::numbers_in;
-use crate::cells::put_cells;
+use crate::buffers::numbers_in;
 use crate::sizes::grid_length;
 use crate::superframes::refused;
 use crate::superframes::write_cells;
-use console::Outcome;
+use deskcells::numbers::put_cells;
 use grid::calls::place;
 use grid::calls::take;
 use settings::Sizes;
 use superframe::State;
+use turns::Outcome;
 ghost use mathlib.Core.Path.{_≡_};
 ghost use mathlib.Core.List.{List};
 ghost use Prim.Native.Nat.{_+_, _*_, _-_, _≤_};
@@ -18,8 +18,8 @@ ghost use lib.ListN.{length, take as List·take, drop};
 ghost use lib.IntN.{ℤ};
 ghost use Rattle.console.specs.declared.Job.{Job};
 ghost use Rattle.grid.specs.Calls.{placeOf, takeOf};
-ghost use Rattle.grid.specs.Contracts.{cellsFrom};
-ghost use Rattle.jobs.specs.Cells.{cellBytes};
+ghost use Rattle.placing.specs.Contracts.{cellsFrom};
+ghost use Rattle.deskcells.specs.Cells.{cellBytes};
 ghost use Rattle.jobs.specs.Contracts.{GridRoom, Lent};
 ghost use Rattle.jobs.specs.SuperFrame.{jobYield, answered, gridWritten, cellsWritten, jobCall};
 

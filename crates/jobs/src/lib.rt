@@ -1,13 +1,12 @@
 // The desk's jobs: what each does with a super frame. The program `desk` only reads, calls and writes.
 pub mod buffers;
-pub mod cells;
 pub mod grids;
 pub mod output;
 pub mod sizes;
 pub mod superframes;
 
-use console::Outcome;
 use superframe::State;
+use turns::Outcome;
 
 // What a job makes of a super frame: how it went, the state after it, and how many bytes are to be written.
 pub struct Step {

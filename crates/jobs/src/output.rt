@@ -1,5 +1,5 @@
 // A super frame as it goes to standard output: its bytes in one buffer.
-use crate::cells::put_cells;
+use deskcells::numbers::put_cells;
 use console::bytes::put_bytes;
 ghost use mathlib.Core.Path.{_≡_};
 ghost use Prim.Native.Nat.{_+_, _*_, _≤_};

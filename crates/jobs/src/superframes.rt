@@ -1,7 +1,7 @@
 // A super frame of a job: bytes in, bytes out.
 use crate::Step;
 use crate::buffers;
-use crate::cells::numbers_in;
+use crate::buffers::numbers_in;
 use crate::grids::place_bytes;
 use crate::grids::take_bytes;
 use crate::output::join_blocks;
@@ -13,13 +13,13 @@ use cellmemory::refusal::length_refusal;
 use channels::tables::scheme_refusal;
 use codecall::code::code;
 use console::Job;
-use console::Outcome;
 use readcall::read::read;
 use settings::Sizes;
 use settings::answers;
 use superframe::Answer;
 use superframe::Reading;
 use superframe::State;
+use turns::Outcome;
 ghost use mathlib.Core.Path.{_≡_};
 ghost use Prim.Native.Nat.{ℕ, _+_, _*_, _-_, _≤_};
 ghost use mathlib.Core.List.{List};

@@ -8,17 +8,17 @@ use lib.Dec.{ltb, eqb}
 use borrow.Author.Tests.{eq-eqb, ne-eqb}
 use Rattle.settings.specs.declared.Settings.{Settings}
 use Rattle.line.specs.Written.{lineEnd}
-use Rattle.console.specs.Contracts.{Put}
+use Rattle.words.specs.Contracts.{Put}
 use Rattle.console.specs.declared.LineJob.{LineJob}
 use Rattle.facfields.specs.Build.{buildYield, buildOf}
 use Rattle.facfields.specs.Read.{readYield, readOf}
-use Rattle.linejobs.specs.declared.Scan.{Scan}
+use Rattle.numerals.specs.declared.Scan.{Scan}
 use Rattle.linejobs.specs.Yield.{LineYield, lineYield, lineThrough, lineRefused, lineBad, bad, refused, answered}
-use Rattle.linejobs.specs.Digits.{hexDigits, areHex, bytesIn}
-use Rattle.linejobs.specs.Numbers.{goesOn, areNumbers, numbersIn, numbersLine}
+use Rattle.numerals.specs.Digits.{hexDigits, areHex, bytesIn}
+use Rattle.numerals.specs.Numbers.{goesOn, areNumbers, numbersIn, numbersLine}
 use Rattle.linejobs.specs.Lines.{lineOf}
 use Rattle.linejobs.specs.Fields.{buildSaid, buildLine, readSaid, readLine}
-use Rattle.linejobs.specs.Contracts.{held, Scanned}
+use Rattle.numerals.specs.Contracts.{held, Scanned}
 use Rattle.linejobs.proofs.Found.{through-put}
 use Rattle.linejobs.proofs.Held.{build-held}
 use Rattle.lists.proofs.Bools.{and-right}

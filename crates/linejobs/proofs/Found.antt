@@ -9,11 +9,11 @@ use lib.ListN.{length, getD, replicate}
 use lib.Seq.{sets}
 use lib.Dec.{eqb}
 use borrow.Author.Tests.{eq-eqb, ne-eqb}
-use Rattle.console.specs.Contracts.{Put}
+use Rattle.words.specs.Contracts.{Put}
 use Rattle.nearest.specs.Fac.{nearestYield}
 use Rattle.linejobs.specs.declared.LineStep.{LineStep}
-use Rattle.linejobs.specs.Digits.{hexDigits}
-use Rattle.linejobs.proofs.Laws.{digits-long}
+use Rattle.numerals.specs.Digits.{hexDigits}
+use Rattle.numerals.proofs.Hex.{digits-long}
 use Rattle.linejobs.specs.Yield.{LineYield, lineYield, lineThrough, lineBad, through, bad}
 use Rattle.linejobs.specs.Nearest.{blockLine, nearestSaid, nearestLine}
 use Rattle.linejobs.specs.Contracts.{Found}

@@ -10,13 +10,13 @@ use lib.ListN.{length, length-map}
 use lib.Dec.{ltb}
 use Rattle.lists.proofs.Bools.{and-left, and-right, never-both}
 use Rattle.settings.specs.declared.Settings.{Settings}
-use Rattle.facfields.specs.Bits.{fit}
+use Rattle.crc.specs.Bits.{fit}
 use Rattle.facfields.specs.Fields.{widths, fieldsOf, numbersOf, parameters, fieldPlaces, fieldsAmong, within, agrees}
 use Rattle.facfields.specs.declared.Fields.{Fields}
 use Rattle.facfields.specs.Build.{buildRefusal, buildOf}
 use Rattle.facfields.proofs.Refusals.{build-accepted, build-refused}
-use Rattle.linejobs.specs.Contracts.{held}
-use Rattle.linejobs.proofs.Scanning.{held-low, held-high, getD-held}
+use Rattle.numerals.specs.Contracts.{held}
+use Rattle.numerals.proofs.Scanning.{held-low, held-high, getD-held}
 
 -- Widths below 32.
 unfoldable narrow : List ℕ → Bool

@@ -1,6 +1,4 @@
 pub mod Laws
 pub mod Found
-pub mod Scanning
-pub mod Printing
 pub mod Held
 pub mod Answered

@@ -8,8 +8,8 @@ use Rattle.line.specs.Written.{lineEnd}
 use Rattle.facfields.specs.Build.{BuildYield, buildOf}
 use Rattle.facfields.specs.Read.{ReadYield, readOf}
 use Rattle.linejobs.specs.Yield.{LineYield, bad, answered}
-use Rattle.linejobs.specs.Digits.{hexDigits, areHex, bytesIn}
-use Rattle.linejobs.specs.Numbers.{areNumbers, numbersIn, numbersLine}
+use Rattle.numerals.specs.Digits.{hexDigits, areHex, bytesIn}
+use Rattle.numerals.specs.Numbers.{areNumbers, numbersIn, numbersLine}
 
 -- `fac-build`: fourteen decimal numbers to the eighteen digits of a block. A number may be as large as it likes: 15 refuses it where its field cannot hold it.
 unfoldable pub buildSaid : BuildYield → List ℕ → LineYield

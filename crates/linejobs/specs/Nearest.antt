@@ -8,7 +8,7 @@ use Rattle.lists.specs.Lists.{table}
 use Rattle.line.specs.Written.{decimal, space, lineEnd}
 use Rattle.nearest.specs.Fac.{NearestYield, nearestOf}
 use Rattle.linejobs.specs.Yield.{LineYield, through, bad}
-use Rattle.linejobs.specs.Digits.{hexDigits}
+use Rattle.numerals.specs.Digits.{hexDigits}
 
 -- 130 characters, 0, 1 or ? (bytes 48, 49, 63) for unknown. 02, S-9: each received value is 0, 1 or 2; any other character is 3, which the call refuses.
 unfoldable pub valueOf : ℕ → ℕ

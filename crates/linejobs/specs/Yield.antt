@@ -5,7 +5,7 @@ use mathlib.Core.List.{List}
 use lib.ListN.{length}
 use lib.Seq.{sets}
 use lib.Dec.{eqb}
-use Rattle.console.specs.declared.Outcome.the-variants.{Through, Refused, Bad}
+use Rattle.turns.specs.declared.Outcome.the-variants.{Through, Refused, Bad}
 use Rattle.linejobs.specs.declared.LineStep.{LineStep}
 
 -- All that a job yields for a line: its answer, and the output buffer as it leaves it.

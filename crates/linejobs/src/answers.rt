@@ -1,6 +1,6 @@
 // What a job makes of a line, by how the line went.
 use crate::LineStep;
-use console::Outcome;
+use turns::Outcome;
 ghost use mathlib.Core.Path.{_≡_};
 ghost use Rattle.linejobs.specs.Yield.{lineThrough, lineRefused, lineBad};
 

@@ -2,14 +2,14 @@
 use crate::LineStep;
 use crate::answers::bad;
 use crate::answers::through;
-use crate::digits::put_hex;
-use console::report::put;
-use console::report::put_decimal;
 use nearest::fac::fac_nearest;
+use numerals::digits::put_hex;
+use words::report::put;
+use words::report::put_decimal;
 ghost use mathlib.Core.Path.{_≡_};
 ghost use Prim.Native.Nat.{_≤_};
 ghost use lib.ListN.{length};
-ghost use Rattle.console.specs.Contracts.{Put};
+ghost use Rattle.words.specs.Contracts.{Put};
 ghost use Rattle.linejobs.specs.Yield.{lineYield};
 ghost use Rattle.linejobs.specs.Nearest.{valueOf, valuesIn, blockLine, nearestLine};
 ghost use Rattle.linejobs.specs.Contracts.{Found};

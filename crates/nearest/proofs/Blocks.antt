@@ -23,7 +23,7 @@ use Rattle.block.specs.Packing.{packed}
 use Rattle.block.specs.Dispersal.{p, dispersed}
 use Rattle.block.proofs.Dispersal.{p-bit}
 use Rattle.block.proofs.Lists.{bits-table}
-use Rattle.nearest.specs.Nearest.{disagreement, nearest}
+use Rattle.trellis.specs.Nearest.{disagreement, nearest}
 use Rattle.nearest.specs.Coded.{added, coded, facFlips, facCoded, facSent}
 use Rattle.nearest.specs.Fac.{facNearest}
 use Rattle.nearest.specs.Contracts.{SearchesWith, Found, Long, Receives, Nearby, NearbyBits}

@@ -10,7 +10,7 @@ use lib.ListN.{length}
 use lib.Dec.{leb}
 use Rattle.component.specs.Bits.{Bits}
 use Rattle.component.proofs.Bits.{bits-nil, bits-cons, bits-head, bits-rest}
-use Rattle.nearest.specs.Nearest.{disagreement, number, better, cheapest, nearest, Nearest}
+use Rattle.trellis.specs.Nearest.{disagreement, number, better, cheapest, nearest, Nearest}
 
 -- bits make a number below 2 ^ their count
 pub number-low : {xs : List ℕ} → Bits xs → number xs < 2 ^ length xs

@@ -10,21 +10,18 @@ use lib.Dec.{leb, ltb}
 use Rattle.component.specs.Register.{next, parities}
 use Rattle.component.specs.Codeword.{tailBits}
 use Rattle.patterns.specs.Patterns.{Sound}
-use Rattle.nearest.specs.Nearest.{disagreement, better, cheapest, nearest}
+use Rattle.trellis.specs.Nearest.{disagreement, better, cheapest, nearest}
 use Rattle.nearest.specs.Coded.{added, coded}
-use Rattle.nearest.specs.Contracts.{along, through, best, way, pick, choice, chosen, restored}
+use Rattle.nearest.specs.Contracts.{chosen, restored}
+use Rattle.trellis.specs.Contracts.{along, best, way, pick, choice}
 use Rattle.nearest.proofs.Cheapest.{cheapest-same, cheapest-more}
 use Rattle.nearest.proofs.FourValues.{coded-along}
+use Rattle.trellis.proofs.Ways.{best-none, best-ways, way-is}
 
 pub length-chosen : (r : ℕ) (fs vs : List ℕ) → length (chosen r fs vs) ≡ length fs
 unfolding chosen
 length-chosen r [] vs = refl
 length-chosen r (f ∷ fs) vs = ap suc (length-chosen (next r ((choice r f fs vs + f) % 2)) fs (drop 4 vs))
-
--- what is left is the less of two ways
-pub best-ways : (r f : ℕ) (fs vs : List ℕ) → best r (f ∷ fs) vs ≡ min (way r 0 f fs vs) (way r 1 f fs vs)
-unfolding best way
-best-ways r f fs vs = refl
 
 -- the way by the choice is the less
 pub min-pick : (a b : ℕ) → min a b ≡ cond (leb a b) a b
@@ -52,16 +49,6 @@ chosen-way r f fs vs = rw (pick-first, best-ways, min-pick) (go (leb (way r 0 f 
     go : (t : Bool) → way r (cond t 0 1) f fs vs ≡ cond t (way r 0 f fs vs) (way r 1 f fs vs)
     go true = refl
     go false = refl
-
--- a way is the disagreement of the next four values, and what is left
-pub way-is : (r b f : ℕ) (fs vs : List ℕ)
-    → way r b f fs vs ≡ disagreement vs (parities (next r ((b + f) % 2))) + best (next r ((b + f) % 2)) fs (drop 4 vs)
-unfolding way through
-way-is r b f fs vs = refl
-
-pub best-none : (r : ℕ) (vs : List ℕ) → best r [] vs ≡ along r tailBits vs
-unfolding best
-best-none r vs = refl
 
 -- the bits chosen disagree as little as can be
 pub chosen-best : (r : ℕ) (fs vs : List ℕ) → along r (added fs (chosen r fs vs) ++ tailBits) vs ≡ best r fs vs

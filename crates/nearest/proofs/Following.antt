@@ -12,7 +12,8 @@ use Rattle.component.specs.Bits.{Bits}
 use Rattle.component.specs.Register.{next}
 use Rattle.component.proofs.Bits.{bits-rest}
 use Rattle.component.proofs.Register.{next-low}
-use Rattle.nearest.specs.Contracts.{choice, chosen, led, Costs, Choices, Steps, Stepped, Chooses, Chosen, Follows}
+use Rattle.nearest.specs.Contracts.{chosen, led, Chooses, Chosen, Follows}
+use Rattle.trellis.specs.Contracts.{choice, Costs, Choices, Steps, Stepped}
 
 -- before the turn at bit j - 1: the costs at bit j, and the choices from there on
 pub record Choosing (flips values words₀ words : List ℕ) (j : ℕ) (costs : List ℕ) : Type 0 where

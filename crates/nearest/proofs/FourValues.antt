@@ -1,5 +1,5 @@
 -- Four values a bit: the disagreement of coded bits is that of the mother code's, bit by bit. Assumes nothing.
-use Prim.Native.Nat.{ℕ, zero, suc, _+_, _*_, _/_, _%_, _≤_, _<_}
+use Prim.Native.Nat.{ℕ, zero, suc, _+_, _*_, _/_, _%_, _<_}
 use mathlib.Core.Path.{_≡_, refl, sym, ap, _∙_}
 use mathlib.Core.List.{List, [], _∷_, _++_, append-assoc, append-nil}
 use native.Mathlib.Nat.{add-zero, zero-add, add-assoc}
@@ -12,48 +12,11 @@ use Rattle.component.specs.Codeword.{kept, following, encode, tailBits}
 use Rattle.patterns.specs.Patterns.{Sound}
 use Rattle.component.specs.Decoding.{codedLength}
 use Rattle.component.proofs.Codeword.{following-low, length-column, length-tail, codeword-two}
-use Rattle.nearest.specs.Nearest.{differs, disagreement}
+use Rattle.trellis.specs.Nearest.{differs, disagreement}
 use Rattle.nearest.specs.Coded.{added, coded}
-use Rattle.nearest.specs.Contracts.{valueOr, spread, spreadAll, restored, along}
-
--- an unknown value disagrees with nothing
-pub differs-unknown : (bit : ℕ) → differs 2 bit ≡ 0
-unfolding differs
-differs-unknown bit = refl
-
--- missing values count nothing, and neither do missing bits
-pub none-disagrees : (bits : List ℕ) → disagreement [] bits ≡ 0
-unfolding disagreement
-none-disagrees bits = refl
-
-pub none-disagreed : (values : List ℕ) → disagreement values [] ≡ 0
-unfolding disagreement
-none-disagreed [] = refl
-none-disagreed (v ∷ vs) = refl
-
--- the first value and the rest, also where there is none
-pub disagreement-first : (values : List ℕ) (bit : ℕ) (bits : List ℕ)
-    → disagreement values (bit ∷ bits) ≡ differs (getD values 0 2) bit + disagreement (drop 1 values) bits
-unfolding disagreement differs
-disagreement-first [] bit bits = refl
-disagreement-first (v ∷ vs) bit bits = refl
-
--- bits after bits
-pub disagreement-append : (values xs ys : List ℕ)
-    → disagreement values (xs ++ ys) ≡ disagreement values xs + disagreement (drop (length xs) values) ys
-disagreement-append values [] ys = rw (none-disagreed, zero-add)
-disagreement-append values (x ∷ xs) ys =
-    let e : 1 + length xs ≡ suc (length xs) = omega arith in
-    rw (disagreement-first values x (xs ++ ys), disagreement-first values x xs, disagreement-append (drop 1 values) xs ys, drop-drop, add-assoc, e)
-
--- values past the last bit count nothing
-pub disagreement-more : (values more bits : List ℕ) → length bits ≤ length values
-    → disagreement (values ++ more) bits ≡ disagreement values bits
-unfolding disagreement
-disagreement-more [] more [] h = none-disagreed more
-disagreement-more [] more (b ∷ bits) h = absurd (omega arith)
-disagreement-more (v ∷ vs) more [] h = refl
-disagreement-more (v ∷ vs) more (b ∷ bits) h = ap (λ n. differs v b + n) (disagreement-more vs more bits (omega arith))
+use Rattle.nearest.specs.Contracts.{valueOr, spread, spreadAll, restored}
+use Rattle.trellis.specs.Contracts.{along}
+use Rattle.trellis.proofs.Disagreement.{disagreement-append, disagreement-first, disagreement-more, none-disagreed}
 
 pub length-spread : (k c : ℕ) (values : List ℕ) → length (spread k c values) ≡ k
 unfolding spread

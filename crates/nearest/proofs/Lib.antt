@@ -2,7 +2,6 @@ pub mod Cheapest
 pub mod FourValues
 pub mod Choices
 pub mod Spreading
-pub mod Layers
 pub mod Following
 pub mod Searching
 pub mod Order

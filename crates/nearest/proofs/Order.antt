@@ -12,8 +12,8 @@ use Rattle.interleaver.specs.Interleaving.{place, interleaved}
 use Rattle.interleaver.specs.Deinterleaving.{Cycles, putBack, deinterleaved}
 use Rattle.interleaver.proofs.Places.{place-low, place-once}
 use Rattle.interleaver.proofs.Interleaving.{deinterleaved-length, deinterleaved-at, deinterleaved-end}
-use Rattle.nearest.specs.Nearest.{differs, disagreement}
-use Rattle.nearest.proofs.FourValues.{differs-unknown}
+use Rattle.trellis.specs.Nearest.{differs, disagreement}
+use Rattle.trellis.proofs.Disagreement.{differs-unknown}
 
 -- unknown values disagree with nothing
 pub unknown-disagrees : (n : ℕ) (cs : List ℕ) → disagreement (replicate n 2) cs ≡ 0

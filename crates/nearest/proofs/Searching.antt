@@ -8,7 +8,7 @@ use Rattle.lists.proofs.Parts.{length-start, length-written, front-written}
 use Rattle.patterns.specs.declared.Pattern.{Pattern}
 use Rattle.patterns.specs.Contracts.{patternOf}
 use Rattle.patterns.proofs.Patterns.{lent}
-use Rattle.nearest.specs.Nearest.{nearest}
+use Rattle.trellis.specs.Nearest.{nearest}
 use Rattle.nearest.specs.Coded.{coded}
 use Rattle.nearest.specs.Contracts.{restored, led, Restores, Chooses, Chosen, Follows, Searches, SearchesWith, Found, Long}
 use Rattle.nearest.proofs.FourValues.{length-spreadAll}

@@ -18,7 +18,7 @@ use Rattle.block.specs.Block.{streamsOf}
 use Rattle.block.proofs.Dispersal.{length-dispersed}
 use Rattle.channels.specs.Scheme.{standardScheme}
 use Rattle.channels.specs.Fac.{facLevel, facBlock}
-use Rattle.nearest.specs.Nearest.{disagreement, better, cheapest, nearest}
+use Rattle.trellis.specs.Nearest.{disagreement, better, cheapest, nearest}
 use Rattle.patterns.specs.Patterns.{numerators, RX, pattern}
 use Rattle.patterns.specs.Contracts.{padded, patternOf, patternFrom}
 use Rattle.block.specs.Block.{levelsOf, six}

@@ -9,7 +9,7 @@ use Rattle.settings.specs.Refusal.{first}
 use Rattle.settings.specs.Cells.{facCells}
 use Rattle.settings.specs.Formulas.{facBits}
 use Rattle.block.specs.Packing.{packed}
-use Rattle.nearest.specs.Nearest.{disagreement, nearest}
+use Rattle.trellis.specs.Nearest.{disagreement, nearest}
 use Rattle.nearest.specs.Coded.{facSent}
 
 -- A received value is 0, 1 or 2.

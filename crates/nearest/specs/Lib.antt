@@ -1,4 +1,3 @@
-pub mod Nearest
 pub mod Coded
 pub mod Fac
 pub mod Contracts

@@ -11,7 +11,7 @@ use Rattle.block.specs.Dispersal.{dispersedParts}
 use Rattle.block.specs.Block.{streamsOf}
 use Rattle.channels.specs.Scheme.{standardScheme}
 use Rattle.channels.specs.Fac.{facBlock}
-use Rattle.nearest.specs.Nearest.{disagreement, nearest, Nearest}
+use Rattle.trellis.specs.Nearest.{disagreement, nearest, Nearest}
 use Rattle.nearest.specs.Coded.{coded, facSent}
 use Rattle.nearest.specs.Fac.{facNearest}
 

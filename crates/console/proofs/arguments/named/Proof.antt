@@ -1,6 +1,6 @@
 use borrow.Author.Needs.{needs}
 use Rattle.lists.specs.Lists.{table}
-use Rattle.console.specs.Words.{bytesIn}
+use Rattle.console.specs.Text.{bytesIn}
 use Rattle.console.specs.Arguments.{named}
 use Rattle.console.proofs.arguments.named.Statement.{statement}
 use Rattle.console.proofs.arguments.named.Tie as tie

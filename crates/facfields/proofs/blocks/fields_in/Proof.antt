@@ -1,7 +1,7 @@
 -- `fields_in` meets its contract. Assumes nothing.
 use mathlib.Core.Path.{ap, _∙_}
 use borrow.Author.Needs.{needs}
-use Rattle.facfields.specs.Bits.{numbersIn}
+use Rattle.crc.specs.Bits.{numbersIn}
 use Rattle.facfields.specs.Fields.{widths, fieldsAmong}
 use Rattle.facfields.specs.Block.{parameterBits, fieldsIn}
 use Rattle.facfields.proofs.blocks.fields_in.Statement.{statement}

@@ -1,7 +1,7 @@
 -- `within` meets its contract. Assumes nothing.
 use mathlib.Core.Path.{ap, _∙_}
 use borrow.Author.Needs.{needs}
-use Rattle.facfields.specs.Bits.{fit}
+use Rattle.crc.specs.Bits.{fit}
 use Rattle.facfields.specs.Fields.{widths, within}
 use Rattle.facfields.proofs.blocks.within.Statement.{statement}
 use Rattle.facfields.proofs.blocks.within.Tie as tie

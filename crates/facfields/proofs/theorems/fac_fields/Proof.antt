@@ -2,7 +2,7 @@
 use mathlib.Core.Path.{refl}
 use Rattle.lists.specs.Lists.{table}
 use Rattle.block.specs.Packing.{bitAt, unpacked, digits}
-use Rattle.facfields.specs.Crc.{g8, tapped, shifted, register, crcBits}
+use Rattle.crc.specs.Crc.{g8, tapped, shifted, register, crcBits}
 use Rattle.facfields.specs.Theorems.{FacFields, CheckValue}
 use Rattle.facfields.proofs.RoundTrip.{reads-back, rebuilt}
 use Rattle.facfields.proofs.OneBit.{sees-one-bit}

@@ -1,6 +1,6 @@
 -- `calls::place` meets its contract. Assumes nothing.
 use borrow.Author.Needs.{needs}
-use Rattle.grid.specs.Contracts.{cellsFrom}
+use Rattle.placing.specs.Contracts.{cellsFrom}
 use Rattle.grid.proofs.Accepts.{place-refused, place-fits, place-done}
 use Rattle.grid.proofs.calls.place.Statement.{statement}
 use Rattle.grid.proofs.calls.place.Tie as tie

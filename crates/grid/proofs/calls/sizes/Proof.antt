@@ -4,7 +4,7 @@ use native.Mathlib.Omega.{arith}
 use borrow.Author.Needs.{needs}
 use Rattle.settings.specs.Refusal.{refusal}
 use Rattle.grid.proofs.Accepts.{pairing-of, grid-refuses, grid-found, Small, small}
-use Rattle.grid.proofs.Bands.{band}
+use Rattle.kinds.proofs.Bands.{band}
 use Rattle.grid.proofs.calls.sizes.Statement.{statement}
 use Rattle.grid.proofs.calls.sizes.Tie as tie
 

@@ -1,6 +1,6 @@
 -- `calls::take` meets its contract. Assumes nothing.
 use borrow.Author.Needs.{needs}
-use Rattle.grid.specs.Contracts.{cellsFrom}
+use Rattle.placing.specs.Contracts.{cellsFrom}
 use Rattle.grid.proofs.Accepts.{take-refused, take-fits, take-done}
 use Rattle.grid.proofs.calls.take.Statement.{statement}
 use Rattle.grid.proofs.calls.take.Tie as tie

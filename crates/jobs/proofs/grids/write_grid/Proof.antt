@@ -2,9 +2,9 @@ use borrow.Author.Needs.{needs}
 use mathlib.Core.Path.{sym, _∙_}
 use native.Mathlib.Omega.{arith}
 use lib.ListN.{length}
-use Rattle.jobs.specs.Cells.{cellBytes}
+use Rattle.deskcells.specs.Cells.{cellBytes}
 use Rattle.jobs.proofs.Joins.{joined-first}
-use Rattle.jobs.proofs.Turns.{cell-bytes-long}
+use Rattle.deskcells.proofs.Turns.{cell-bytes-long}
 use Rattle.jobs.proofs.Steps.{answered-refused, answered-through}
 use Rattle.jobs.proofs.grids.write_grid.Statement.{statement}
 use Rattle.jobs.proofs.grids.write_grid.Tie as tie

@@ -3,9 +3,9 @@ use Prim.Native.Nat.{_+_, _*_}
 use mathlib.Core.Path.{sym}
 use native.Mathlib.Omega.{arith}
 use lib.ListN.{length}
-use Rattle.jobs.specs.Cells.{cellBytes}
+use Rattle.deskcells.specs.Cells.{cellBytes}
 use Rattle.jobs.specs.Output.{cellOutput}
-use Rattle.jobs.proofs.Turns.{cell-bytes-long}
+use Rattle.deskcells.proofs.Turns.{cell-bytes-long}
 use Rattle.jobs.proofs.Joins.{joined-first, joined-more}
 use Rattle.jobs.proofs.output.join_cells.Statement.{statement}
 use Rattle.jobs.proofs.output.join_cells.Tie as tie

@@ -1,6 +1,6 @@
 use borrow.Author.Needs.{needs}
 use Rattle.line.specs.Written.{lineEnd}
-use Rattle.console.proofs.Lines.{put-more}
+use Rattle.words.proofs.Lines.{put-more}
 use Rattle.linejobs.proofs.Found.{hex-put}
 use Rattle.linejobs.proofs.fields.put_block.Statement.{statement}
 use Rattle.linejobs.proofs.fields.put_block.Tie as tie

@@ -1,7 +1,7 @@
 use borrow.Author.Needs.{needs}
 use native.Mathlib.Omega.{arith}
 use Rattle.line.specs.Written.{space, lineEnd}
-use Rattle.console.proofs.Lines.{put-more, put-room}
+use Rattle.words.proofs.Lines.{put-more, put-room}
 use Rattle.linejobs.specs.Nearest.{blockLine}
 use Rattle.linejobs.proofs.Found.{hex-put}
 use Rattle.linejobs.proofs.received.put_found.Statement.{statement}

@@ -1,0 +1,2 @@
+// The CRC word of an FAC block. 001 annex D.
+pub mod word;

@@ -1,0 +1,4 @@
+pub mod Bands
+pub mod Paints
+pub mod Gains
+pub mod Symbols

@@ -1,0 +1,3 @@
+pub mod Disagreement
+pub mod Layers
+pub mod Ways

@@ -1,0 +1,2 @@
+// The search through the code's trellis, one layer at a time. 02, S-9.
+pub mod step;

@@ -1,0 +1,157 @@
+// What is said on standard error, written into a buffer.
+use crate::Counted;
+use crate::texts::block_words;
+use crate::texts::refusal_words;
+use console::bytes::put_bytes;
+use turns::End;
+ghost use mathlib.Core.Path.{_≡_};
+ghost use Prim.Native.Nat.{_+_, _≤_};
+ghost use lib.ListN.{length};
+ghost use Rattle.line.specs.Written.{decimal};
+ghost use Rattle.words.specs.Contracts.{Put};
+ghost use Rattle.words.specs.Report.{blockPart, refusedPart, why, failed, unitWord, endLine, reportOf, settingsLine, usage};
+
+// A text from a place of a buffer on, and where it ends.
+pub fn put(text: &[u8], out: &mut [u8], at: usize) -> usize
+    requires { ⌜ at + length (now text) ≤ length (now out) ⌝ }
+    ensures { λ r. ⌜ Put (length (now (text .entry))) (now (text .entry)) (now (out .entry)) at r (now (out .exit)) ⌝ }
+{
+    put_bytes(text, out, at);
+    at + text.len()
+}
+
+// A number in decimal.
+pub fn put_decimal(n: u64, out: &mut [u8], at: usize) -> usize
+    requires { ⌜ at + 20 ≤ length (now out) ⌝ }
+    ensures { λ r. ⌜ Put 20 (decimal n) (now (out .entry)) at r (now (out .exit)) ⌝ }
+{
+    let mut digits = [0u8; 20];
+    let k = io::decimal(n, &mut digits);
+    put(&digits[0..k], out, at)
+}
+
+// The block of a refusal; refusals other than 13 and 14 name none.
+fn put_block(number: u8, block: u8, out: &mut [u8], at: usize) -> usize
+    requires { ⌜ at + 100 ≤ length (now out) ⌝ }
+    ensures { λ r. ⌜ Put 100 (blockPart number block) (now (out .entry)) at r (now (out .exit)) ⌝ }
+{
+    if !((number == 13) | (number == 14)) {
+        return at;
+    }
+    let a = put(b", block ", out, at);
+    let b = put_decimal(block as u64, out, a);
+    let c = put(b", ", out, b);
+    block_words(number, block, out, c)
+}
+
+// A refusal: its number, its words, and its block.
+pub fn put_refused(number: u8, block: u8, out: &mut [u8], at: usize) -> usize
+    requires { ⌜ at + 200 ≤ length (now out) ⌝ }
+    ensures { λ r. ⌜ Put 200 (refusedPart number block) (now (out .entry)) at r (now (out .exit)) ⌝ }
+{
+    let a = put(b"refused: ", out, at);
+    let b = put_decimal(number as u64, out, a);
+    let c = put(b", ", out, b);
+    let d = refusal_words(number, out, c);
+    put_block(number, block, out, d)
+}
+
+// Why a super frame did not go through.
+fn put_why(end: End, out: &mut [u8], at: usize) -> usize
+    requires { ⌜ at + 200 ≤ length (now out) ⌝ }
+    ensures { λ r. ⌜ Put 200 (why end) (now (out .entry)) at r (now (out .exit)) ⌝ }
+{
+    match end {
+        End::Whole => at,
+        End::Inside => put(b"the input ends inside it", out, at),
+        End::Unread => put(b"not read: the input failed", out, at),
+        End::Unwritten => put(b"not written: the output failed", out, at),
+        End::Stopped(number, block) => put_refused(number, block, out, at),
+        End::BadLine => put(b"bad line", out, at),
+    }
+}
+
+// Whether a run ended otherwise than after a whole super frame.
+fn failed(end: End) -> bool
+    ensures { λ r. ⌜ r ≡ failed end ⌝ }
+{
+    match end {
+        End::Whole => false,
+        End::Inside => true,
+        End::Unread => true,
+        End::Unwritten => true,
+        End::Stopped(_, _) => true,
+        End::BadLine => true,
+    }
+}
+
+// What a run is counted by.
+fn put_unit(unit: Counted, out: &mut [u8]) -> usize
+    requires { ⌜ 16 ≤ length (now out) ⌝ }
+    ensures { λ r. ⌜ Put 16 (unitWord unit) (now (out .entry)) 0 r (now (out .exit)) ⌝ }
+{
+    match unit {
+        Counted::SuperFrame => put(b"super frame ", out, 0),
+        Counted::Line => put(b"line ", out, 0),
+    }
+}
+
+// The line of what ended a run at a super frame, if anything did but the end of the input.
+fn put_end(unit: Counted, end: End, index: u64, out: &mut [u8]) -> usize
+    requires { ⌜ 256 ≤ length (now out) ⌝ }
+    ensures { λ r. ⌜ Put 256 (endLine unit end index) (now (out .entry)) 0 r (now (out .exit)) ⌝ }
+{
+    if !failed(end) {
+        return 0;
+    }
+    let a = put_unit(unit, out);
+    let b = put_decimal(index, out, a);
+    let c = put(b": ", out, b);
+    let d = put_why(end, out, c);
+    put(b"\n", out, d)
+}
+
+// What is said at the end of a run.
+pub fn report(end: End, count: u64, out: &mut [u8; 1024]) -> usize
+    ensures { λ r. ⌜ Put 1024 (reportOf end count) (now (out .entry)) 0 r (now (out .exit)) ⌝ }
+{
+    let a = put_end(Counted::SuperFrame, end, count, out);
+    let b = put(b"super frames: ", out, a);
+    let c = put_decimal(count, out, b);
+    put(b"\n", out, c)
+}
+
+// What is said of a line.
+pub fn line_said(end: End, index: u64, out: &mut [u8; 1024]) -> usize
+    ensures { λ r. ⌜ Put 1024 (endLine Counted.Line end index) (now (out .entry)) 0 r (now (out .exit)) ⌝ }
+{
+    put_end(Counted::Line, end, index, out)
+}
+
+// What is said of settings that are refused.
+pub fn settings_refused(number: u8, out: &mut [u8; 1024]) -> usize
+    ensures { λ r. ⌜ Put 1024 (settingsLine number) (now (out .entry)) 0 r (now (out .exit)) ⌝ }
+{
+    let a = put(b"settings: ", out, 0);
+    let b = put_refused(number, 0, out, a);
+    put(b"\n", out, b)
+}
+
+// What is said where the arguments are no job with settings.
+pub fn put_usage(out: &mut [u8; 1024]) -> usize
+    ensures { λ r. ⌜ Put 1024 usage (now (out .entry)) 0 r (now (out .exit)) ⌝ }
+{
+    put(
+        b"usage: desk JOB [SETTINGS]\n\
+        \x20 code SETTINGS       super frames of bytes to super frames of cells\n\
+        \x20 read SETTINGS       super frames of cells to super frames of bytes\n\
+        \x20 grid SETTINGS       super frames of cells to grids by symbol and carrier\n\
+        \x20 ungrid SETTINGS     grids to super frames of cells\n\
+        \x20 fac-build SETTINGS  lines of fourteen fields in decimal to FAC blocks\n\
+        \x20 fac-read SETTINGS   lines of FAC blocks to their fourteen fields\n\
+        \x20 nearest             lines of 130 received bits, 0, 1 or ?, to FAC blocks\n\
+        SETTINGS: twenty hexadecimal digits, 0 to 9 and A to F\n",
+        out,
+        0,
+    )
+}
