@@ -66,8 +66,8 @@
  *     9  an input of the wrong length
  *    10  an output of the wrong length
  *    11  a spare bit set in an input of drm_code or drm_disperse
- *    12  position or count above 4 (above 0 in short interleaving), or a memory cell that is neither (0, 0) nor a
- *        point of the MSC's constellation
+ *    12  position or count above 4 (above 0 in short interleaving), or a memory cell that is no point of the MSC's
+ *        constellation
  *    13  a cell lent to drm_read is no point of its constellation, or a filler is wrong; cells of frames before the
  *        first are ignored and may be anything
  *    14  cells of a block or of a finished frame that no bits give
@@ -175,7 +175,9 @@ uint8_t drm_sizes(const uint8_t *settings, size_t settings_len, uint32_t *sizes,
 
 /*
  * Begins a run: the state takes the settings and the standard's puncturing table, position and count become 0, and
- * memory is filled with zero.
+ * every slot of memory is filled with the cells of a multiplex frame whose bits are all zero. These are the cells of
+ * frames before the first: in long interleaving they are among the MSC cells of a run's first two super frames, and the
+ * reader ignores them. So no cell of a run is (0, 0).
  *   state      208 bytes, whatever they hold
  *   settings   10 bytes
  *   memory     as many numbers as drm_sizes says, whatever they hold

@@ -3,7 +3,7 @@
 use crate::block::{Block, Scratch};
 use crate::mapping::are_points;
 use crate::settings::FAC_BYTES;
-use crate::superframe::{read_refusal, Answer, BitsMut, Cells, Slots, Start, State, FAC_NUMBERS};
+use crate::superframe::{read_refusal, Answer, BitsMut, Cells, Empties, Slots, State, FAC_NUMBERS};
 
 /// Three FAC blocks, the SDC block, at most three frames.
 pub const LOST_BYTES: usize = 7;
@@ -42,7 +42,7 @@ pub fn read_on(state: State, memory: &mut [i16], cells: Cells, bits: BitsMut, lo
 
 /// As Read up to 12, which lets (0, 0) pass here; 10 asks for seven bytes too.
 fn refusal(state: &State, memory: &[i16], cells: &Cells, bits: &BitsMut, lost: &[u8]) -> u8 {
-    match read_refusal(Start::Empty, state, memory, cells, bits) {
+    match read_refusal(Empties::Pass, state, memory, cells, bits) {
         0 | 12 if lost.len() != LOST_BYTES => 10,
         number => number,
     }

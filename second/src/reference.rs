@@ -2,7 +2,6 @@
 
 use crate::rates::{Rate, R3_5, RATES, SDC, TAIL};
 use crate::settings::{Settings, HMMIX, HMSYM, SM16, SM64};
-use crate::superframe::Start;
 use crate::table::Table;
 
 #[derive(Clone, Copy, PartialEq, Eq, Debug)]
@@ -208,12 +207,9 @@ pub fn frame(table: &Table, s: &Settings, bytes: &[u8], turning: Turning) -> Vec
     }
 }
 
-/// The cells of frames before the first: empty, or those of a frame whose bits are all zero before dispersal.
-pub fn before_the_first(start: Start, table: &Table, s: &Settings) -> Vec<Cell> {
-    match start {
-        Start::Empty => vec![(0, 0); s.n_mux()],
-        Start::ZeroFrame => frame(table, s, &vec![0; s.lengths().frame_bits().div_ceil(8)], Turning::Right),
-    }
+/// The cells of frames before the first: those of a frame whose bits are all zero before dispersal.
+pub fn before_the_first(table: &Table, s: &Settings) -> Vec<Cell> {
+    frame(table, s, &vec![0; s.lengths().frame_bits().div_ceil(8)], Turning::Right)
 }
 
 /// Sent cells of frame n, from all frames' cells and without any memory.

@@ -3,7 +3,6 @@
 //! MSC cells are interleaved over five frames (clause 7.6) and followed by fillers (clause 7.7).
 
 use crate::block::{Block, Scratch};
-use crate::forms::START;
 use crate::interleaver::Places;
 use crate::mapping::{are_points, are_points_or_zero, is_coordinate};
 use crate::packing::spare_bit_set;
@@ -39,33 +38,19 @@ impl Default for State {
     }
 }
 
-/// What the cells of frames before the first are.
-#[derive(Clone, Copy, PartialEq, Eq, Debug)]
-pub enum Start {
-    /// All (0, 0).
-    Empty,
-    /// Those of a multiplex frame whose bits are all zero (02, S-5); then (0, 0) in memory falls under 12.
-    ZeroFrame,
+/// Numbers of the cells of a frame before the first, in mapping order: those of a frame whose bits are all zero (02, S-5).
+fn start_cells(settings: &Settings, table: &Table) -> Vec<i16> {
+    let frame = Block::frame_by(table, settings);
+    let mut numbers = vec![0; frame.numbers()];
+    frame.code(&vec![0; frame.bytes()], &mut numbers, &mut Scratch::for_cells(frame.cells));
+    numbers
 }
 
-impl Start {
-    /// Numbers of the cells of a frame before the first, in mapping order.
-    pub fn cells(self, settings: &Settings, table: &Table) -> Vec<i16> {
-        let frame = Block::frame_by(table, settings);
-        let mut numbers = vec![0; frame.numbers()];
-        if self == Start::ZeroFrame {
-            frame.code(&vec![0; frame.bytes()], &mut numbers, &mut Scratch::for_cells(frame.cells));
-        }
-        numbers
-    }
-
-    /// Whether 12 lets memory pass.
-    fn memory_passes(self, memory: &[i16], top: i16) -> bool {
-        match self {
-            Start::Empty => are_points_or_zero(memory, top),
-            Start::ZeroFrame => are_points(memory, top),
-        }
-    }
+/// Whether 12 lets (0, 0) in memory pass.
+#[derive(Clone, Copy)]
+pub(crate) enum Empties {
+    Pass,
+    Refused,
 }
 
 /// An answer of the reader.
@@ -109,11 +94,6 @@ pub fn reset(old: State, settings: Settings, memory: &mut [i16]) -> (State, u8) 
 
 /// Reset with a table of one's own.
 pub fn reset_table(old: State, settings: Settings, table: &[u8], memory: &mut [i16]) -> (State, u8) {
-    reset_to(START, old, settings, table, memory)
-}
-
-/// Reset with the cells of frames before the first.
-pub fn reset_to(start: Start, old: State, settings: Settings, table: &[u8], memory: &mut [i16]) -> (State, u8) {
     let refusal = match settings.refusal() {
         0 if !passes(table) => 23,
         0 if memory.len() != settings.sizes().memory_numbers => 8,
@@ -123,19 +103,14 @@ pub fn reset_to(start: Start, old: State, settings: Settings, table: &[u8], memo
         return (old, refusal);
     }
     let table = table.try_into().expect("a table that passes");
-    let cells = start.cells(&settings, &table);
+    let cells = start_cells(&settings, &table);
     memory.chunks_mut(cells.len()).for_each(|slot| slot.copy_from_slice(&cells));
     (State { settings, position: 0, count: 0, table }, 0)
 }
 
 /// Codes one super frame; the number of the refusal, or 0, comes with the state.
 pub fn code(state: State, memory: &mut [i16], bits: Bits, cells: CellsMut) -> (State, u8) {
-    code_from(START, state, memory, bits, cells)
-}
-
-/// Code of a run that started with these cells.
-pub fn code_from(start: Start, state: State, memory: &mut [i16], bits: Bits, cells: CellsMut) -> (State, u8) {
-    let refusal = code_refusal(start, &state, memory, &bits, &cells);
+    let refusal = code_refusal(&state, memory, &bits, &cells);
     if refusal != 0 {
         return (state, refusal);
     }
@@ -159,7 +134,7 @@ pub fn code_from(start: Start, state: State, memory: &mut [i16], bits: Bits, cel
     (row_state, 0)
 }
 
-fn code_refusal(start: Start, state: &State, memory: &[i16], bits: &Bits, cells: &CellsMut) -> u8 {
+fn code_refusal(state: &State, memory: &[i16], bits: &Bits, cells: &CellsMut) -> u8 {
     let s = &state.settings;
     if s.refusal() != 0 {
         return s.refusal();
@@ -182,7 +157,7 @@ fn code_refusal(start: Start, state: &State, memory: &[i16], bits: &Bits, cells:
     if spare_bit_set(bits.sdc, s.sdc_bits()) || frames.any(|f| spare_bit_set(f, frame_bits)) {
         return 11;
     }
-    if !state.in_range() || !start.memory_passes(memory, s.msc_top()) {
+    if !state.in_range() || !are_points(memory, s.msc_top()) {
         return 12;
     }
     0
@@ -190,12 +165,7 @@ fn code_refusal(start: Start, state: &State, memory: &[i16], bits: &Bits, cells:
 
 /// Reads one super frame.
 pub fn read(state: State, memory: &mut [i16], cells: Cells, bits: BitsMut) -> (State, Answer) {
-    read_from(START, state, memory, cells, bits)
-}
-
-/// Read of a run that started with these cells.
-pub fn read_from(start: Start, state: State, memory: &mut [i16], cells: Cells, bits: BitsMut) -> (State, Answer) {
-    let number = read_refusal(start, &state, memory, &cells, &bits);
+    let number = read_refusal(Empties::Refused, &state, memory, &cells, &bits);
     if number != 0 {
         return (state, Answer::Refused { number, block: 0 });
     }
@@ -222,7 +192,7 @@ pub fn read_from(start: Start, state: State, memory: &mut [i16], cells: Cells, b
     (row_state, Answer::Finished(finished))
 }
 
-pub(crate) fn read_refusal(start: Start, state: &State, memory: &[i16], cells: &Cells, bits: &BitsMut) -> u8 {
+pub(crate) fn read_refusal(empties: Empties, state: &State, memory: &[i16], cells: &Cells, bits: &BitsMut) -> u8 {
     let s = &state.settings;
     if s.refusal() != 0 {
         return s.refusal();
@@ -240,7 +210,11 @@ pub(crate) fn read_refusal(start: Start, state: &State, memory: &[i16], cells: &
     if (bits.fac.len(), bits.sdc.len(), bits.msc.len()) != (3 * FAC_BYTES, z.sdc_bytes, z.msc_bytes) {
         return 10;
     }
-    if !state.in_range() || !start.memory_passes(memory, s.msc_top()) {
+    let memory_passes = match empties {
+        Empties::Pass => are_points_or_zero(memory, s.msc_top()),
+        Empties::Refused => are_points(memory, s.msc_top()),
+    };
+    if !state.in_range() || !memory_passes {
         return 12;
     }
     0

@@ -4,12 +4,10 @@ use crate::block::{Block, Scratch};
 use crate::blocks;
 use crate::buffers::{code_buffers, old_memory, read_buffers, BitBuffers, CellBuffers};
 use crate::digest::Random;
-use crate::forms::START;
 use crate::rates;
 use crate::reference::{self, Cell, Turning};
 use crate::settings::{Settings, HMMIX, HMSYM, PAIRINGS, SM16, SM64};
-use crate::superframe::{code_from, read_from, reset, reset_table, reset_to, Answer, Bits, BitsMut, Cells, CellsMut};
-use crate::superframe::{Start, State};
+use crate::superframe::{reset, reset_table, Answer, State};
 use crate::table::{self, Table, STANDARD};
 
 fn flat(cells: &[Cell]) -> Vec<i16> {
@@ -269,7 +267,7 @@ fn fresh(s: &Settings) -> (State, Vec<i16>) {
     let mut memory = old_memory(s);
     let (state, answer) = reset(State::default(), *s, &mut memory);
     assert_eq!((answer, state.position, state.count), (0, 0, 0));
-    let start = flat(&reference::before_the_first(START, &STANDARD, s));
+    let start = flat(&reference::before_the_first(&STANDARD, s));
     assert!(memory.chunks(start.len()).all(|slot| slot == start));
     (state, memory)
 }
@@ -287,7 +285,7 @@ fn runs_give_the_standards_cells() {
         let s = Settings { msc, interleaving, occupancy, vspp: 0, ..rich() };
         let s = Settings { level_b: 1, ..s };
         let (brought, sent) = run(&s, 4, 16);
-        let (before, frames) = (reference::before_the_first(START, &STANDARD, &s), frames(&s, &brought));
+        let (before, frames) = (reference::before_the_first(&STANDARD, &s), frames(&s, &brought));
         for m in 0..4 {
             let fac = brought[m].fac.chunks(9).flat_map(|b| reference::fac(&STANDARD, b, Turning::Right));
             assert_eq!(sent[m].fac, flat(&fac.collect::<Vec<_>>()));
@@ -297,49 +295,32 @@ fn runs_give_the_standards_cells() {
     }
 }
 
-/// Code with any start.
-fn code_with(start: Start, state: &mut State, memory: &mut [i16], bits: &BitBuffers, cells: &mut CellBuffers) -> u8 {
-    let bits = Bits { fac: &bits.fac, sdc: &bits.sdc, msc: &bits.msc };
-    let cells = CellsMut { fac: &mut cells.fac, sdc: &mut cells.sdc, msc: &mut cells.msc };
-    let (next, answer) = code_from(start, *state, memory, bits, cells);
-    *state = next;
-    answer
-}
-
-fn read_with(start: Start, state: &mut State, memory: &mut [i16], cells: &CellBuffers, bits: &mut BitBuffers) -> Answer {
-    let cells = Cells { fac: &cells.fac, sdc: &cells.sdc, msc: &cells.msc };
-    let bits = BitsMut { fac: &mut bits.fac, sdc: &mut bits.sdc, msc: &mut bits.msc };
-    let (next, answer) = read_from(start, *state, memory, cells, bits);
-    *state = next;
-    answer
-}
-
-/// A run of either start sends the standard's cells over it; with a zero frame's, no cell is (0, 0).
+/// A run sends the standard's cells over a zero frame's, by its own table; no cell is (0, 0).
 #[test]
-fn runs_start_with_empty_cells_or_a_zero_frame() {
+fn runs_start_with_a_zero_frame() {
     let mut random = Random(5);
-    for (k, start) in [Start::Empty, Start::ZeroFrame, Start::ZeroFrame].into_iter().enumerate() {
-        let s = Settings { msc: k as u8, vspp: 0, ..rich() };
+    for k in 0..3 {
+        let s = Settings { msc: k, vspp: 0, ..rich() };
         let table = if k == 2 { random_table(&mut random) } else { STANDARD };
         let mut memory = old_memory(&s);
-        let (mut state, answer) = reset_to(start, State::default(), s, &table, &mut memory);
+        let (mut state, answer) = reset_table(State::default(), s, &table, &mut memory);
         assert_eq!(answer, 0);
         let (mut reader, mut reader_memory) = (state, memory.clone());
-        let before = reference::before_the_first(start, &table, &s);
+        let before = reference::before_the_first(&table, &s);
         let mut frames = Vec::new();
         for m in 0..3 {
             let bits = BitBuffers::random(&s, &mut random, true);
             let mut cells = CellBuffers::filled(&s, 0);
-            assert_eq!(code_with(start, &mut state, &mut memory, &bits, &mut cells), 0);
+            assert_eq!(code_buffers(&mut state, &mut memory, &bits, &mut cells), 0);
             let bytes = s.lengths().frame_bits().div_ceil(8);
             frames.extend(bits.msc.chunks(bytes).map(|b| reference::frame(&table, &s, b, Turning::Right)));
             assert_eq!(cells.msc, flat(&reference::super_frame(&s, &before, &frames, m, Turning::Right)));
-            assert_eq!(cells.msc.chunks(2).any(|c| c == [0, 0]), start == Start::Empty && m < 2);
+            assert!(cells.msc.chunks(2).all(|c| c != [0, 0]));
             // The reader ignores the cells of frames before the first, and keeps what its memory has there.
             if m == 0 {
                 cells.fill_ignored(2 * s.n_mux(), 0);
             }
-            let answer = read_with(start, &mut reader, &mut reader_memory, &cells, &mut BitBuffers::filled(&s, 0));
+            let answer = read_buffers(&mut reader, &mut reader_memory, &cells, &mut BitBuffers::filled(&s, 0));
             assert_eq!(answer, Answer::Finished([0, 2, 3][m]));
         }
     }
@@ -351,32 +332,30 @@ fn the_zero_frame_fills_every_slot() {
     for interleaving in [0, 1] {
         let s = Settings { interleaving, ..rich() };
         let mut memory = old_memory(&s);
-        reset_to(Start::ZeroFrame, State::default(), s, &STANDARD, &mut memory);
+        reset(State::default(), s, &mut memory);
         let zero = flat(&reference::frame(&STANDARD, &s, &vec![0; s.sizes().msc_bytes / 3], Turning::Right));
         assert_eq!(memory, zero.repeat(s.slots()));
     }
 }
 
-/// (0, 0) in memory is 12 where runs start with a zero frame, in Code and in Read, at every count.
+/// (0, 0) in memory is 12, in Code and in Read.
 #[test]
 fn empty_cells_in_memory() {
     let s = rich();
-    for (start, code, read) in [(Start::Empty, 0, Answer::Finished(0)), (Start::ZeroFrame, 12, Answer::Refused { number: 12, block: 0 })] {
-        let mut memory = old_memory(&s);
-        let (state, _) = reset_to(start, State::default(), s, &STANDARD, &mut memory);
-        let (bits, mut cells) = (BitBuffers::filled(&s, 0), CellBuffers::filled(&s, 0));
-        assert_eq!(code_with(start, &mut state.clone(), &mut memory.clone(), &bits, &mut cells), 0);
-        memory[2 * s.n_mux() + 10..][..2].fill(0);
-        assert_eq!(code_with(start, &mut state.clone(), &mut memory.clone(), &bits, &mut cells), code);
-        assert_eq!(read_with(start, &mut state.clone(), &mut memory, &cells, &mut bits.clone()), read);
-    }
+    let (state, mut memory) = fresh(&s);
+    let (mut bits, mut cells) = (BitBuffers::filled(&s, 0), CellBuffers::filled(&s, 0));
+    assert_eq!(code_buffers(&mut state.clone(), &mut memory.clone(), &bits, &mut cells), 0);
+    memory[2 * s.n_mux() + 10..][..2].fill(0);
+    assert_eq!(code_buffers(&mut state.clone(), &mut memory, &bits, &mut cells), 12);
+    let answer = read_buffers(&mut state.clone(), &mut memory, &cells, &mut bits);
+    assert_eq!(answer, Answer::Refused { number: 12, block: 0 });
 }
 
 #[test]
 fn wrong_turnings_in_the_cell_interleaver_differ() {
     let s = rich();
     let (brought, sent) = run(&s, 2, 17);
-    let (before, frames) = (reference::before_the_first(START, &STANDARD, &s), frames(&s, &brought));
+    let (before, frames) = (reference::before_the_first(&STANDARD, &s), frames(&s, &brought));
     for turning in [Turning::DelayFromPlace, Turning::PlaceModuloN] {
         assert_ne!(sent[1].msc, flat(&reference::super_frame(&s, &before, &frames, 1, turning)), "{turning:?}");
     }

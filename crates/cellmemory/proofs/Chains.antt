@@ -55,23 +55,23 @@ module _ (s : Scheme) (z : Sizes) (e : z ≡ sizesOf (s .settings)) (r : ℕ) (g
   scheme-allowed n nine ten h = rw (g, e, sizes-accepts (s .settings) (scheme-settings s h))
 
 -- 12 test by test: the position, the count and the cells.
-module _ (state : State) (memory : List ℤ) (d : ℕ) (e : d ≡ depth (state .scheme .settings)) where
-  pub order-position : d ≤ state .position → false ≡ inOrder state memory
+module _ (empties : Bool) (state : State) (memory : List ℤ) (d : ℕ) (e : d ≡ depth (state .scheme .settings)) where
+  pub order-position : d ≤ state .position → false ≡ inOrder empties state memory
   unfolding inOrder
   order-position h = rw (le-ltb (state .position) (depth (state .scheme .settings)) (omega arith))
 
-  pub order-count : d ≤ state .count → false ≡ inOrder state memory
+  pub order-count : d ≤ state .count → false ≡ inOrder empties state memory
   unfolding inOrder
   order-count h =
       rw (le-ltb (state .count) (depth (state .scheme .settings)) (omega arith)) (sym (and-false (ltb (state .position) (depth (state .scheme .settings)))))
 
   pub order-cells : length memory ≡ memoryLength (state .scheme .settings) → state .position < d → state .count < d → (k : ℕ) (b : Bool)
-      → k ≡ mscConstellation (state .scheme .settings .msc) → b ≡ pointsPass (memoryTest k) memory → b ≡ inOrder state memory
+      → k ≡ mscConstellation (state .scheme .settings .msc) → b ≡ pointsPass (memoryTest empties k) memory → b ≡ inOrder empties state memory
   unfolding inOrder memoryLength slotSize
   order-cells l p c k b f g =
       let s = state .scheme .settings in
       let n : length memory ≡ 2 * (depth s * nMux s) = l ∙ mul-left-comm (depth s) 2 (nMux s) in
-      g ∙ rw (f, lt-ltb (state .position) (depth s) (omega arith), lt-ltb (state .count) (depth s) (omega arith)) (memory-points (state .scheme) (depth s * nMux s) memory n)
+      g ∙ rw (f, lt-ltb (state .position) (depth s) (omega arith), lt-ltb (state .count) (depth s) (omega arith)) (memory-points (state .scheme) empties (depth s * nMux s) memory n)
 
 -- 8, 9 and 10 in their order, and what follows them.
 abbrev lengths-then : Bool → Bool → Bool → ℕ → ℕ

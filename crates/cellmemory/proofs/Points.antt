@@ -1,6 +1,6 @@
 -- The tests of refusals 12 and 13 are the one test of points: memory, a sent row, FAC and SDC cells. Assumes nothing.
 use mathlib.Core.Path.{_≡_, ap}
-use mathlib.Core.Bool.{true, false, not}
+use mathlib.Core.Bool.{Bool, false, not}
 use mathlib.Core.List.{List}
 use mathlib.Core.Logic.{_⊎_, inl, inr}
 use Prim.Native.Nat.{ℕ, _*_, _/_, _%_, _≤_, _<_}
@@ -25,13 +25,13 @@ use Rattle.mapping.proofs.PointTests.{points-only}
 use Rattle.channels.specs.Fac.{facBlock}
 use Rattle.channels.specs.Sdc.{sdcConstellation, sdcBlock}
 use Rattle.channels.specs.Msc.{mscConstellation, mscBlock}
-use Rattle.superframe.specs.Call.{isStart, memoryCell}
+use Rattle.superframe.specs.Call.{isEmpty, memoryCell}
 use Rattle.superframe.specs.Read.{rowCell, rowPoints}
 use Rattle.cellmemory.proofs.Ring.{delay-even}
 
 -- The tests of memory, and of a row at a count.
-abbrev pub memoryTest : ℕ → PointTest
-memoryTest c = record { constellation = c; depth = 1; count = 0; blank = true }
+abbrev pub memoryTest : Bool → ℕ → PointTest
+memoryTest empties c = record { constellation = c; depth = 1; count = 0; blank = empties }
 
 abbrev pub rowTest : ℕ → ℕ → ℕ → PointTest
 rowTest c D count = record { constellation = c; depth = D; count = count; blank = false }
@@ -45,16 +45,17 @@ not-leb a b = go (below-or b a)
     go (inr h) = rw (le-leb a b h, le-ltb b a h)
 
 module _ (s : Scheme) where
-  memory-cell : (memory : List ℤ) (i : ℕ) → cellPasses (memoryTest (mscConstellation (s .settings .msc))) memory i ≡ memoryCell s memory i
-  unfolding cellPasses memoryCell isBlank isStart mscBlock pointsOf
-  memory-cell memory i = rw (mod-one i)
+  memory-cell : (empties : Bool) (memory : List ℤ) (i : ℕ)
+      → cellPasses (memoryTest empties (mscConstellation (s .settings .msc))) memory i ≡ memoryCell empties s memory i
+  unfolding cellPasses memoryCell isBlank isEmpty mscBlock pointsOf
+  memory-cell empties memory i = rw (mod-one i)
 
-  pub memory-points : (n : ℕ) (memory : List ℤ) → length memory ≡ 2 * n
-      → pointsPass (memoryTest (mscConstellation (s .settings .msc))) memory ≡ every (table (memoryCell s memory) 0 n)
+  pub memory-points : (empties : Bool) (n : ℕ) (memory : List ℤ) → length memory ≡ 2 * n
+      → pointsPass (memoryTest empties (mscConstellation (s .settings .msc))) memory ≡ every (table (memoryCell empties s memory) 0 n)
   unfolding pointsPass
-  memory-points n memory e =
+  memory-points empties n memory e =
       let h : length memory / 2 ≡ n = omega arith in
-      rw h (ap every (table-ext _ _ 0 n (λ i a b. memory-cell memory i)))
+      rw h (ap every (table-ext _ _ 0 n (λ i a b. memory-cell empties memory i)))
 
   row-cell : (count : ℕ) (row : List ℤ) (i : ℕ) → cellPasses (rowTest (mscConstellation (s .settings .msc)) (depth (s .settings)) count) row i ≡ rowCell s count row i
   unfolding cellPasses rowCell mscBlock pointsOf

@@ -89,10 +89,10 @@ pub fn spares_zero(s: Settings, sdc: &[u8], msc: &[u8]) -> bool
     frames_spare(answers::frame_bits(s), answers::frame_bytes(s), msc)
 }
 
-// 12: position and count are below the depth, and every memory cell is (0, 0) or an MSC point.
-pub fn in_order(state: State, memory: &[i16]) -> bool
+// 12: position and count are below the depth, and every memory cell is an MSC point, or (0, 0) where empty cells pass.
+pub fn in_order(state: State, empties: bool, memory: &[i16]) -> bool
     requires { ⌜ Fits (state .scheme) (now memory) ⌝ }
-    ensures { λ b. ⌜ b ≡ inOrder state (now (memory .entry)) ⌝ }
+    ensures { λ b. ⌜ b ≡ inOrder empties state (now (memory .entry)) ⌝ }
 {
     let s = state.scheme.settings;
     let depth = answers::depth(s);
@@ -106,7 +106,7 @@ pub fn in_order(state: State, memory: &[i16]) -> bool
         constellation: msc_constellation(s.msc),
         depth: 1,
         count: 0,
-        blank: true,
+        blank: empties,
     };
     points_pass(test, memory)
 }

@@ -23,7 +23,7 @@ use Rattle.superframe.specs.Contracts.{CodeFits}
 module _ (state : State) (memory : List ℤ) (fac sdc msc : List ℕ) (faccells sdccells msccells : List ℤ) (n : ℕ)
     (g : n ≡ refusalThen (state .scheme) memory (byteLengths (state .scheme .settings) fac sdc msc) (cellLengths (state .scheme .settings) faccells sdccells msccells) 0) where
   code-is : refusalThen (state .scheme) memory (byteLengths (state .scheme .settings) fac sdc msc) (cellLengths (state .scheme .settings) faccells sdccells msccells)
-      (first (not (sparesZero (state .scheme .settings) sdc msc)) 11 (first (not (inOrder state memory)) 12 0))
+      (first (not (sparesZero (state .scheme .settings) sdc msc)) 11 (first (not (inOrder false state memory)) 12 0))
       ≡ codeRefusal state memory (codeCall fac sdc msc faccells sdccells msccells)
   unfolding codeRefusal refusalThen
   code-is = refl
@@ -37,7 +37,7 @@ module _ (state : State) (memory : List ℤ) (fac sdc msc : List ℕ) (faccells 
       record { settings = then-settings _ _ _ _ n g h; sdclong = b .sdclong; msclong = b .msclong }
 
   code-rest : n ≡ 0 → codeRefusal state memory (codeCall fac sdc msc faccells sdccells msccells)
-      ≡ first (not (sparesZero (state .scheme .settings) sdc msc)) 11 (first (not (inOrder state memory)) 12 0)
+      ≡ first (not (sparesZero (state .scheme .settings) sdc msc)) 11 (first (not (inOrder false state memory)) 12 0)
   code-rest h = sym code-is ∙ then-goes-on _ _ _ _ n g _ h
 
   -- 11, 12 and acceptance.
@@ -46,12 +46,12 @@ module _ (state : State) (memory : List ℤ) (fac sdc msc : List ℕ) (faccells 
     unfolding first
     code-eleven t = sym (code-rest h ∙ rw (← k, t))
 
-    pub code-twelve : (d : Bool) → not b ≡ false → d ≡ inOrder state memory → not d ≡ true
+    pub code-twelve : (d : Bool) → not b ≡ false → d ≡ inOrder false state memory → not d ≡ true
         → 12 ≡ codeRefusal state memory (codeCall fac sdc msc faccells sdccells msccells)
     unfolding first
     code-twelve d t l u = sym (code-rest h ∙ rw (← k, t, ← l, u))
 
-    pub code-none : (d : Bool) → not b ≡ false → d ≡ inOrder state memory → not d ≡ false
+    pub code-none : (d : Bool) → not b ≡ false → d ≡ inOrder false state memory → not d ≡ false
         → 0 ≡ codeRefusal state memory (codeCall fac sdc msc faccells sdccells msccells)
     unfolding first
     code-none d t l u = sym (code-rest h ∙ rw (← k, t, ← l, u))

@@ -3,24 +3,21 @@ use mathlib.Core.Path.{_≡_, sym, _∙_}
 use mathlib.Core.Bool.{true}
 use mathlib.Core.Logic.{_⊎_, inl, inr}
 use mathlib.Core.List.{List}
-use Prim.Native.Nat.{ℕ, zero, suc, _*_, _≤_, _<_}
-use native.Mathlib.Nat.{zero-mul, suc-mul, add-comm}
+use Prim.Native.Nat.{ℕ, _≤_, _<_}
 use native.Mathlib.Omega.{arith}
-use lib.ListN.{length, replicate, replicate-append-replicate}
-use lib.IntN.{ℤ, pos}
+use lib.ListN.{length}
+use lib.IntN.{ℤ}
 use Rattle.lists.proofs.Counting.{below-or}
-use Rattle.settings.specs.declared.Settings.{Settings}
 use Rattle.settings.specs.declared.Sizes.{Sizes}
 use Rattle.settings.specs.Refusal.{first}
-use Rattle.settings.specs.Sizes.{depth, sizesOf}
+use Rattle.settings.specs.Sizes.{sizesOf}
 use Rattle.patterns.proofs.Loaded.{long}
 use Rattle.channels.specs.declared.Scheme.{Scheme}
 use Rattle.channels.specs.Scheme.{schemeRefusal}
 use Rattle.channels.proofs.Schemes.{scheme-accepted}
 use Rattle.superframe.specs.declared.State.{State}
-use Rattle.superframe.specs.Memory.{slotSize, startFrame}
-use Rattle.superframe.specs.Call.{memoryLength, joined}
 use Rattle.superframe.specs.Reset.{resetRefusal, resetOf, startState, startMemory}
+use Rattle.superframe.specs.Contracts.{Fits}
 use Rattle.superframe.proofs.Calls.{reset-fits, reset-accepts, reset-refuses}
 use Rattle.cellmemory.specs.Contracts.{lengthRefusal}
 use Rattle.cellmemory.proofs.Chains.{scheme-refused, scheme-allowed}
@@ -36,17 +33,6 @@ reset-is s z e n f memory = go (below-or 0 (schemeRefusal s))
     go (inl h) = scheme-refused s z e n f (length memory) _ true true (omega arith)
     go (inr h) = scheme-allowed s z e n f (length memory) true true (omega arith)
 
--- Start frames one after the other are zeros.
-joined-zeros : (d n : ℕ) → joined (replicate d (replicate n (pos 0))) ≡ replicate (d * n) (pos 0)
-unfolding joined
-joined-zeros zero n = rw zero-mul
-joined-zeros (suc d) n =
-    rw (joined-zeros d n, suc-mul, add-comm (d * n) n) (replicate-append-replicate n (d * n) (pos 0))
-
-pub zero-memory : (s : Settings) → replicate (memoryLength s) (pos 0) ≡ startMemory s
-unfolding startMemory startFrame memoryLength
-zero-memory s = sym (joined-zeros (depth s) (slotSize s))
-
 -- Reset from its refusal.
 module _ (old : State) (s : Scheme) (memory : List ℤ) (z : Sizes) (e : z ≡ sizesOf (s .settings)) (n : ℕ) (f : n ≡ schemeRefusal s)
     (r : ℕ) (g : r ≡ lengthRefusal n z (length memory) true true) where
@@ -60,9 +46,11 @@ module _ (old : State) (s : Scheme) (memory : List ℤ) (z : Sizes) (e : z ≡ s
   pub table-long : r ≡ 0 → length (s .table) ≡ 196
   table-long h = long (scheme-accepted s (reset-fits old s memory (is-zero h) .scheme) .table)
 
-  pub accepted-reset : (t : Scheme) (m : List ℤ) → r ≡ 0 → t ≡ s → m ≡ replicate (length memory) (pos 0)
+  -- Scheme and memory as they are lent to what fills memory.
+  pub reset-lent : (t : Scheme) → r ≡ 0 → t ≡ s → Fits t memory
+  reset-lent t h j = rw j (reset-fits old s memory (is-zero h))
+
+  pub accepted-reset : (t : Scheme) (m : List ℤ) → r ≡ 0 → t ≡ s → m ≡ startMemory t
       → resetYield (record { refusal = 0; state = record { scheme = t; position = 0; count = 0 } }) m ≡ resetOf old s memory
   unfolding startState
-  accepted-reset t m h j k =
-      let a = is-zero h in
-      sym (reset-accepts old s memory a ∙ rw (k, j, reset-fits old s memory a .long, zero-memory (s .settings)))
+  accepted-reset t m h j k = sym (reset-accepts old s memory (is-zero h) ∙ rw (k, j))

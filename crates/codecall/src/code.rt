@@ -59,7 +59,7 @@ fn code_refusal(
     if !refusal::spares_zero(s.settings, sdc, msc) {
         return 11;
     }
-    if !refusal::in_order(state, memory) {
+    if !refusal::in_order(state, false, memory) {
         return 12;
     }
     0

@@ -1,11 +1,11 @@
-// The call Reset. 01 "Operations"; 02 S-11.
+// The call Reset. 01 "Operations"; 02 S-11 and S-5.
 use cellmemory::refusal;
 use channels::tables::refusal_with;
 use channels::tables::scheme_of;
-use lists::numbers::clear;
 use patterns::table::standard_table;
 use settings::Settings;
 use settings::answers;
+use startcells::start::fill_memory;
 use superframe::Done;
 use superframe::State;
 ghost use mathlib.Core.Path.{_≡_};
@@ -13,7 +13,7 @@ ghost use Rattle.channels.specs.Scheme.{schemeOf, standardScheme};
 ghost use Rattle.superframe.specs.Reset.{resetOf};
 ghost use Rattle.codecall.specs.Contracts.{resetYield};
 
-// Acceptance fills memory with zero, takes the settings and the table and sets position and count to 0; a refusal gives the old state back.
+// Acceptance fills memory with the cells of frames before the first, takes the settings and the table and sets position and count to 0; a refusal gives the old state back.
 pub fn reset_table(old: State, settings: Settings, table: &[u8], memory: &mut [i16]) -> Done
     ensures { λ r. ⌜ resetYield r (now (memory .exit)) ≡ resetOf old (schemeOf settings (now (table .entry))) (now (memory .entry)) ⌝ }
 {
@@ -26,11 +26,12 @@ pub fn reset_table(old: State, settings: Settings, table: &[u8], memory: &mut [i
             state: old,
         };
     }
-    clear(memory);
+    let scheme = scheme_of(settings, table);
+    fill_memory(scheme, memory);
     Done {
         refusal: 0,
         state: State {
-            scheme: scheme_of(settings, table),
+            scheme,
             position: 0,
             count: 0,
         },

@@ -66,7 +66,7 @@ kept-given k n (f ∷ fs) h = rw (and-left (given k f) _ h, kept-given k n fs (a
 module _ (state : State) (memory faccells sdccells msccells : List ℤ) (fac sdc msc : List ℕ) (n : ℕ)
     (g : n ≡ refusalThen (state .scheme) memory (cellLengths (state .scheme .settings) faccells sdccells msccells) (byteLengths (state .scheme .settings) fac sdc msc) 0) where
   order-is : refusalThen (state .scheme) memory (cellLengths (state .scheme .settings) faccells sdccells msccells) (byteLengths (state .scheme .settings) fac sdc msc)
-      (first (not (inOrder state memory)) 12 0)
+      (first (not (inOrder false state memory)) 12 0)
       ≡ orderRefusal state memory (readCall faccells sdccells msccells fac sdc msc)
   unfolding orderRefusal refusalThen
   order-is = refl
@@ -74,7 +74,7 @@ module _ (state : State) (memory faccells sdccells msccells : List ℤ) (fac sdc
   pub order-early : (n ≡ 0 → ⊥) → n ≡ orderRefusal state memory (readCall faccells sdccells msccells fac sdc msc)
   order-early h = then-stops _ _ _ _ n g _ h ∙ order-is
 
-  module _ (h : n ≡ 0) (d : Bool) (l : d ≡ inOrder state memory) where
+  module _ (h : n ≡ 0) (d : Bool) (l : d ≡ inOrder false state memory) where
     order-rest : orderRefusal state memory (readCall faccells sdccells msccells fac sdc msc) ≡ first (not d) 12 0
     order-rest = sym order-is ∙ then-goes-on _ _ _ _ n g _ h ∙ rw (← l)
 

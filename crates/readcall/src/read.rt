@@ -73,7 +73,7 @@ fn order_refusal(
     if number != 0 {
         return number;
     }
-    if !refusal::in_order(state, memory) {
+    if !refusal::in_order(state, false, memory) {
         return 12;
     }
     0

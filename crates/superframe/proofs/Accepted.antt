@@ -25,9 +25,11 @@ use Rattle.superframe.specs.Call.{facBytes}
 use Rattle.superframe.specs.Runs.{bitsOf}
 use Rattle.superframe.specs.SingleCalls.{SingleCalls}
 use Rattle.superframe.specs.WholeRuns.{WholeRuns}
+use Rattle.superframe.specs.NoEmptyCells.{NoEmptyCells}
 use Rattle.superframe.proofs.Coding.{Recovers, Coding}
 use Rattle.superframe.proofs.SingleCalls.{single-calls-of}
 use Rattle.superframe.proofs.WholeRuns.{whole-runs-of}
+use Rattle.superframe.proofs.NoEmptyCells.{no-empty-cells-of}
 
 -- A block whose levels and constellation fit is recovered.
 pub recovers : {k : Block} → BlockFits k → (bytes : ℕ) → bytesFor (bitCount k) ≡ bytes → Recovers k bytes
@@ -76,3 +78,7 @@ single-calls = single-calls-of coding
 -- Demand 3.
 pub whole-runs : WholeRuns
 whole-runs = whole-runs-of coding
+
+-- S-5.
+pub no-empty-cells : NoEmptyCells
+no-empty-cells = no-empty-cells-of coding

@@ -70,11 +70,11 @@ module _ (s : Settings) where
   unfolding cellLengths
   fit-cells fac sdc msc h = both (eq-eqb _ _ (h .faclong)) (both (eq-eqb _ _ (h .sdclong)) (eq-eqb _ _ (h .msclong)))
 
-pub ordered : (state : State) (memory : List ℤ) → inOrder state memory ≡ true → Ordered state memory
+pub ordered : (empties : Bool) (state : State) (memory : List ℤ) → inOrder empties state memory ≡ true → Ordered empties state memory
 unfolding inOrder
-ordered state memory h =
+ordered empties state memory h =
     let D = depth (state .scheme .settings) in
-    let cells = every (table (memoryCell (state .scheme) memory) 0 (D * nMux (state .scheme .settings))) in
+    let cells = every (table (memoryCell empties (state .scheme) memory) 0 (D * nMux (state .scheme .settings))) in
     let r = and-right (ltb (state .position) D) _ h in
     record {
       position = ltb-true _ _ (and-left _ (ltb (state .count) D && cells) h);
@@ -82,9 +82,9 @@ ordered state memory h =
       cells = and-right (ltb (state .count) D) _ r;
     }
 
-pub in-order : (state : State) (memory : List ℤ) → Ordered state memory → inOrder state memory ≡ true
+pub in-order : (empties : Bool) (state : State) (memory : List ℤ) → Ordered empties state memory → inOrder empties state memory ≡ true
 unfolding inOrder
-in-order state memory h = both (lt-ltb _ _ (h .position)) (both (lt-ltb _ _ (h .count)) (h .cells))
+in-order empties state memory h = both (lt-ltb _ _ (h .position)) (both (lt-ltb _ _ (h .count)) (h .cells))
 
 -- Reset: 0 exactly if the settings are allowed and memory has their length.
 module _ (old : State) (s : Scheme) (memory : List ℤ) where
@@ -101,7 +101,7 @@ module _ (old : State) (s : Scheme) (memory : List ℤ) where
 
   -- What an accepted and what a refused Reset yields.
   pub reset-accepts : resetRefusal s memory ≡ 0
-      → resetOf old s memory ≡ record { done = record { refusal = 0; state = startState s }; memory = startMemory (s .settings) }
+      → resetOf old s memory ≡ record { done = record { refusal = 0; state = startState s }; memory = startMemory s }
   unfolding resetOf
   reset-accepts h = rw (eq-eqb (resetRefusal s memory) 0 h)
 
@@ -121,20 +121,20 @@ module _ (state : State) (memory : List ℤ) (c : CodeCall) where
       let d = first-zero (not (byteLengths (s .settings) (c .fac) (c .sdc) (c .msc))) 9 _ (omega arith) (b .1) in
       let e = first-zero (not (cellLengths (s .settings) (c .faccells) (c .sdccells) (c .msccells))) 10 _ (omega arith) (d .1) in
       let f = first-zero (not (sparesZero (s .settings) (c .sdc) (c .msc))) 11 _ (omega arith) (e .1) in
-      let g = first-zero (not (inOrder state memory)) 12 0 (omega arith) (f .1) in
+      let g = first-zero (not (inOrder false state memory)) 12 0 (omega arith) (f .1) in
       record {
         fits = record { scheme = a .0; long = eqb-true _ _ (not-false _ (b .0)) };
         bytes = bytes-fit (s .settings) _ _ _ (not-false _ (d .0));
         cells = cells-fit (s .settings) _ _ _ (not-false _ (e .0));
         spares = not-false _ (f .0);
-        order = ordered state memory (not-false _ (g .0));
+        order = ordered false state memory (not-false _ (g .0));
       }
 
   pub fits-code : CodeFits state memory c → codeRefusal state memory c ≡ 0
   unfolding codeRefusal first
   fits-code h =
       let s = state .scheme in
-      rw (h .fits .scheme, eq-eqb _ _ (h .fits .long), fit-bytes (s .settings) _ _ _ (h .bytes), fit-cells (s .settings) _ _ _ (h .cells), h .spares, in-order state memory (h .order))
+      rw (h .fits .scheme, eq-eqb _ _ (h .fits .long), fit-bytes (s .settings) _ _ _ (h .bytes), fit-cells (s .settings) _ _ _ (h .cells), h .spares, in-order false state memory (h .order))
 
   -- What an accepted and what a refused call yields.
   pub code-accepts : codeRefusal state memory c ≡ 0 → codeOf state memory c ≡ codeAccepted state memory c
@@ -155,19 +155,19 @@ module _ (state : State) (memory : List ℤ) (c : ReadCall) where
       let b = first-zero (not (eqb (length memory) (memoryLength (s .settings)))) 8 _ (omega arith) (a .1) in
       let d = first-zero (not (cellLengths (s .settings) (c .faccells) (c .sdccells) (c .msccells))) 9 _ (omega arith) (b .1) in
       let e = first-zero (not (byteLengths (s .settings) (c .fac) (c .sdc) (c .msc))) 10 _ (omega arith) (d .1) in
-      let g = first-zero (not (inOrder state memory)) 12 0 (omega arith) (e .1) in
+      let g = first-zero (not (inOrder false state memory)) 12 0 (omega arith) (e .1) in
       record {
         fits = record { scheme = a .0; long = eqb-true _ _ (not-false _ (b .0)) };
         cells = cells-fit (s .settings) _ _ _ (not-false _ (d .0));
         bytes = bytes-fit (s .settings) _ _ _ (not-false _ (e .0));
-        order = ordered state memory (not-false _ (g .0));
+        order = ordered false state memory (not-false _ (g .0));
       }
 
   pub fits-read : ReadFits state memory c → orderRefusal state memory c ≡ 0
   unfolding orderRefusal first
   fits-read h =
       let s = state .scheme in
-      rw (h .fits .scheme, eq-eqb _ _ (h .fits .long), fit-cells (s .settings) _ _ _ (h .cells), fit-bytes (s .settings) _ _ _ (h .bytes), in-order state memory (h .order))
+      rw (h .fits .scheme, eq-eqb _ _ (h .fits .long), fit-cells (s .settings) _ _ _ (h .cells), fit-bytes (s .settings) _ _ _ (h .bytes), in-order false state memory (h .order))
 
   -- The answer, case by case.
   pub answer-order : (r : ℕ) → orderRefusal state memory c ≡ r → 0 < r → answerOf state memory c ≡ Refused r 0

@@ -238,11 +238,11 @@ of-a-run true true false = refl
 of-a-run true false d = refl
 of-a-run false b d = refl
 
-run-refusal : (state : State) (memory : List ℤ) (c : CodeCall) → Fits (state .scheme) memory → Ordered state memory → runNumber (codeRefusal state memory c) ≡ true
+run-refusal : (state : State) (memory : List ℤ) (c : CodeCall) → Fits (state .scheme) memory → Ordered false state memory → runNumber (codeRefusal state memory c) ≡ true
 unfolding codeRefusal first
 run-refusal state memory c f o =
     let s = state .scheme in
-    rw (f .scheme, eq-eqb _ _ (f .long), in-order state memory o)
+    rw (f .scheme, eq-eqb _ _ (f .long), in-order false state memory o)
     (of-a-run (byteLengths (s .settings) (c .fac) (c .sdc) (c .msc)) (cellLengths (s .settings) (c .faccells) (c .sdccells) (c .msccells)) (sparesZero (s .settings) (c .sdc) (c .msc)))
 
 -- A list of calls from super frame m on, whose memory keeps the frames before: its cells are the standard's super frames, and it is refused by 9, 10 or 11 only.
@@ -253,7 +253,7 @@ module _ (s : Scheme) (c : Coding s) (allowed : schemeRefusal s ≡ 0) (B : Bits
   keeps-run m q K low call =
       run-refusal (stateOf s q) (q .memory) call
       (record { scheme = allowed; long = K .long })
-      (keeps-ordered s c (frameAt s (B .frames)) storedAge (λ d i. refl) (3 * m) q K (λ i h. frame-good s c (B .frames) i (all-at (w .frameBits) i (omega arith))))
+      (keeps-ordered false s c (frameAt s (B .frames)) storedAge (λ d i. refl) (3 * m) q K (λ i h. frame-good false s c (B .frames) i (all-at (w .frameBits) i (omega arith))))
 
   abbrev Coded : List CodeCall → Progress → Type 0
   Coded calls q =

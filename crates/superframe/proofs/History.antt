@@ -2,12 +2,13 @@
 use Prim.Native.Nat.{ℕ, zero, suc, _+_, _-_, _*_, _/_, _%_, _≤_, _<_, min}
 use mathlib.Core.Path.{_≡_, refl, sym, ap, _∙_}
 use mathlib.Core.Logic.{inl, inr}
-use mathlib.Core.Bool.{Bool, true, _||_}
+use mathlib.Core.Bool.{Bool, true, _&&_, _||_}
 use mathlib.Core.List.{List, [], _∷_, append-nil}
 use native.Mathlib.Nat.{zero-add, mul-comm, sub-zero, suc-sub-suc, div-add-mod', mod-lt, div-lt-iff-lt-mul}
 use native.Mathlib.Omega.{arith}
-use lib.ListN.{length, getD, length-replicate, getD-replicate}
+use lib.ListN.{length, getD, replicate, length-replicate}
 use lib.IntN.{ℤ, pos}
+use lib.Dec.{lit<}
 use borrow.Author.Tests.{le-leb, lt-leb}
 use Rattle.lists.specs.Lists.{table}
 use Rattle.lists.proofs.Counting.{below-or}
@@ -15,14 +16,13 @@ use Rattle.settings.specs.declared.Settings.{Settings}
 use Rattle.channels.specs.declared.Scheme.{Scheme}
 use Rattle.settings.specs.Lengths.{nMux}
 use Rattle.settings.specs.Sizes.{depth}
-use Rattle.block.specs.Block.{cellsOf, pointsOf}
+use Rattle.block.specs.Block.{cellsOf, pointsOf, bitCount}
 use Rattle.lists.specs.Bools.{every}
 use Rattle.block.specs.Points.{isPoint}
-use Rattle.lists.specs.Same.{sameNumber}
 use Rattle.channels.specs.Msc.{mscBlock}
 use Rattle.superframe.specs.Memory.{slotSize, numberIn, startFrame, slotOf}
 use Rattle.superframe.specs.Interleaving.{Progress, sentPlace, delay, slotBefore}
-use Rattle.superframe.specs.Call.{part, joined, isStart, memoryCell}
+use Rattle.superframe.specs.Call.{part, joined, isEmpty, memoryCell}
 use Rattle.superframe.specs.Reset.{startMemory}
 use Rattle.superframe.specs.Code.{stateOf}
 use Rattle.superframe.specs.Contracts.{Ordered}
@@ -34,6 +34,8 @@ use Rattle.superframe.proofs.Memory.{getD-slot}
 use Rattle.superframe.proofs.Slots.{slot-low, slot-cover}
 use Rattle.superframe.proofs.Places.{sent-real, sent-imaginary, cell-sent, sent-low}
 use Rattle.block.specs.Fits.{BlockBits}
+use Rattle.component.specs.Bits.{Bits}
+use Rattle.component.proofs.Bits.{bits-nil, bits-cons}
 use Rattle.superframe.proofs.Coding.{Coding, msc-long, depth-low, point-at}
 
 -- The frames G before frame f, newest first.
@@ -43,11 +45,11 @@ past G (suc f) = G f ∷ past G f
 
 -- The frame of an age: 0 for the newest before frame f; a start frame before the first.
 unfoldable pub aged : Scheme → (ℕ → List ℤ) → ℕ → ℕ → List ℤ
-aged s G f d = getD (past G f) d (startFrame (s .settings))
+aged s G f d = getD (past G f) d (startFrame s)
 
-pub start-long : (s : Scheme) → length (startFrame (s .settings)) ≡ slotSize (s .settings)
+pub start-long : (s : Scheme) → length (startFrame s) ≡ slotSize (s .settings)
 unfolding startFrame
-start-long s = length-replicate (slotSize (s .settings)) (pos 0)
+start-long s = msc-long s _
 
 module _ (s : Scheme) (G : ℕ → List ℤ) where
   -- One frame later each frame is one older.
@@ -66,14 +68,14 @@ module _ (s : Scheme) (G : ℕ → List ℤ) where
   aged-run zero (suc d) h = absurd (omega arith)
   aged-run (suc f) (suc d) h = rw suc-sub-suc (aged-run f d (omega arith))
 
-  pub aged-start : (f d : ℕ) → f ≤ d → aged s G f d ≡ startFrame (s .settings)
+  pub aged-start : (f d : ℕ) → f ≤ d → aged s G f d ≡ startFrame s
   unfolding aged past
   aged-start zero d h = refl
   aged-start (suc f) zero h = absurd (omega arith)
   aged-start (suc f) (suc d) h = aged-start f d (omega arith)
 
   -- What holds of a start frame and of every frame before frame f holds of every age.
-  pub aged-all : (P : List ℤ → Type 0) → P (startFrame (s .settings)) → (f : ℕ) → ((i : ℕ) → i < f → P (G i)) → (d : ℕ) → P (aged s G f d)
+  pub aged-all : (P : List ℤ → Type 0) → P (startFrame s) → (f : ℕ) → ((i : ℕ) → i < f → P (G i)) → (d : ℕ) → P (aged s G f d)
   unfolding aged past
   aged-all P start zero each d = start
   aged-all P start (suc f) each zero = each f (omega arith)
@@ -102,15 +104,15 @@ earlier-aged s F f d =
       | inr h ↦ rw (le-leb d f h) (sym (aged-run s (frameAt s F) f d h))
     ]
 
+pub standard-aged : (s : Scheme) (F : List (List ℕ)) (f k : ℕ) → k < slotSize (s .settings)
+    → getD (standardRow s F f) k (pos 0) ≡ getD (aged s (frameAt s F) (suc f) (delay (depth (s .settings)) k)) (sentPlace (nMux (s .settings)) k) (pos 0)
+unfolding standardRow
+standard-aged s F f k h =
+    getD-table (pos 0) (λ k. getD (earlierCells s F f (delay (depth (s .settings)) k)) (sentPlace (nMux (s .settings)) k) (pos 0)) (slotSize (s .settings)) k h
+    ∙ rw (earlier-aged s F f (delay (depth (s .settings)) k))
+
 pub standard-carries : (s : Scheme) (F : List (List ℕ)) → Carries s (frameAt s F) (standardRow s F)
-unfolding standardRow earlierCells frameAt
-standard-carries s F =
-    record {
-      long = frame-long s F;
-      number = λ f k h d.
-          getD-table (pos 0) (λ k. getD (earlierCells s F f (delay (depth (s .settings)) k)) (sentPlace (nMux (s .settings)) k) (pos 0)) (slotSize (s .settings)) k h
-          ∙ rw (le-leb (delay (depth (s .settings)) k) f d);
-    }
+standard-carries s F = record { long = frame-long s F; number = λ f k h d. standard-aged s F f k h ∙ rw (aged-run s (frameAt s F) f (delay (depth (s .settings)) k) d) }
 
 -- What memory keeps before frame f, if the number at sent place k of the slot written d + 1 frames before the position is of the frame of age a d k.
 pub record Keeps (s : Scheme) (G : ℕ → List ℤ) (a : ℕ → ℕ → ℕ) (f : ℕ) (q : Progress) : Type 0 where
@@ -122,22 +124,22 @@ pub record Keeps (s : Scheme) (G : ℕ → List ℤ) (a : ℕ → ℕ → ℕ) (
       ≡ getD (aged s G f (a d k)) (sentPlace (nMux (s .settings)) k) (pos 0)
 
 -- A start frame in every slot.
-start-table : (s : Scheme) → startMemory (s .settings) ≡ joined (table (λ i. startFrame (s .settings)) 0 (depth (s .settings)))
+start-table : (s : Scheme) → startMemory s ≡ joined (table (λ i. startFrame s) 0 (depth (s .settings)))
 unfolding startMemory
-start-table s = ap joined (replicate-table (startFrame (s .settings)) 0 (depth (s .settings)))
+start-table s = ap joined (replicate-table (startFrame s) 0 (depth (s .settings)))
 
-pub start-memory : (s : Scheme) → length (startMemory (s .settings)) ≡ depth (s .settings) * slotSize (s .settings)
-start-memory s = ap length (start-table s) ∙ length-joined (slotSize (s .settings)) (λ i. startFrame (s .settings)) 0 (depth (s .settings)) (λ i x y. start-long s)
+pub start-memory : (s : Scheme) → length (startMemory s) ≡ depth (s .settings) * slotSize (s .settings)
+start-memory s = ap length (start-table s) ∙ length-joined (slotSize (s .settings)) (λ i. startFrame s) 0 (depth (s .settings)) (λ i x y. start-long s)
 
-pub start-number : (s : Scheme) (slot r : ℕ) → slot < depth (s .settings) → r < slotSize (s .settings) → numberIn (slotSize (s .settings)) (startMemory (s .settings)) slot r ≡ getD (startFrame (s .settings)) r (pos 0)
+pub start-number : (s : Scheme) (slot r : ℕ) → slot < depth (s .settings) → r < slotSize (s .settings) → numberIn (slotSize (s .settings)) (startMemory s) slot r ≡ getD (startFrame s) r (pos 0)
 unfolding slotOf part
 start-number s slot r h b =
-    let e = part-joined (slotSize (s .settings)) (λ i. startFrame (s .settings)) 0 (depth (s .settings)) (λ i x y. start-long s) [] slot h in
-    let m : slotOf (slotSize (s .settings)) (startMemory (s .settings)) slot ≡ startFrame (s .settings) = rw (start-table s, mul-comm slot (slotSize (s .settings))) (rw append-nil at e) in
-    sym (getD-slot (slotSize (s .settings)) (depth (s .settings)) (startMemory (s .settings)) (start-memory s) slot r b) ∙ ap (λ l. getD l r (pos 0)) m
+    let e = part-joined (slotSize (s .settings)) (λ i. startFrame s) 0 (depth (s .settings)) (λ i x y. start-long s) [] slot h in
+    let m : slotOf (slotSize (s .settings)) (startMemory s) slot ≡ startFrame s = rw (start-table s, mul-comm slot (slotSize (s .settings))) (rw append-nil at e) in
+    sym (getD-slot (slotSize (s .settings)) (depth (s .settings)) (startMemory s) (start-memory s) slot r b) ∙ ap (λ l. getD l r (pos 0)) m
 
 -- After a reset no frame has been seen, and memory keeps start frames.
-pub keeps-start : (s : Scheme) (c : Coding s) (G : ℕ → List ℤ) (a : ℕ → ℕ → ℕ) → Keeps s G a 0 (record { memory = startMemory (s .settings); position = 0; count = 0 })
+pub keeps-start : (s : Scheme) (c : Coding s) (G : ℕ → List ℤ) (a : ℕ → ℕ → ℕ) → Keeps s G a 0 (record { memory = startMemory s; position = 0; count = 0 })
 unfolding slotSize
 keeps-start s c G a =
     record {
@@ -149,41 +151,53 @@ keeps-start s c G a =
           ∙ ap (λ l. getD l (sentPlace (nMux (s .settings)) k) (pos 0)) (sym (aged-start s G 0 (a d k) (omega arith)));
     }
 
--- A frame that memory may hold: each of its cells is (0, 0) or an MSC point.
-unfoldable pub goodCell : Scheme → ℤ → ℤ → Bool
-goodCell s re im = isStart re im || isPoint (pointsOf (mscBlock s)) re im
+-- A frame that memory may hold: each of its cells is an MSC point, or empty where that passes.
+unfoldable pub goodCell : Bool → Scheme → ℤ → ℤ → Bool
+goodCell empties s re im = (empties && isEmpty re im) || isPoint (pointsOf (mscBlock s)) re im
 
-pub record Good (s : Scheme) (l : List ℤ) : Type 0 where
-  pub cell : (j : ℕ) → j < nMux (s .settings) → goodCell s (getD l (2 * j) (pos 0)) (getD l (2 * j + 1) (pos 0)) ≡ true
-
-pub start-good : (s : Scheme) → Good s (startFrame (s .settings))
-unfolding startFrame slotSize goodCell isStart sameNumber
-start-good s =
-    record { cell = λ j h. rw (getD-replicate (2 * nMux (s .settings)) (2 * j) (pos 0) (pos 0) (omega arith), getD-replicate (2 * nMux (s .settings)) (2 * j + 1) (pos 0) (pos 0) (omega arith)) }
+pub record Good (empties : Bool) (s : Scheme) (l : List ℤ) : Type 0 where
+  pub cell : (j : ℕ) → j < nMux (s .settings) → goodCell empties s (getD l (2 * j) (pos 0)) (getD l (2 * j + 1) (pos 0)) ≡ true
 
 -- A slot's numbers are twice its cells.
 pub twice : (s : Settings) (j : ℕ) → j < nMux s → 2 * j + 1 < slotSize s
 unfolding slotSize
 twice s j h = omega arith
 
-pub good-point : (s : Scheme) (re im : ℤ) → isPoint (pointsOf (mscBlock s)) re im ≡ true → goodCell s re im ≡ true
+pub good-point : (empties : Bool) (s : Scheme) (re im : ℤ) → isPoint (pointsOf (mscBlock s)) re im ≡ true → goodCell empties s re im ≡ true
 unfolding goodCell
-good-point s re im h = or-right (isStart re im) (isPoint (pointsOf (mscBlock s)) re im) h
+good-point empties s re im h = or-right (empties && isEmpty re im) (isPoint (pointsOf (mscBlock s)) re im) h
+
+-- The cells of a frame's bits are points.
+bits-point : (s : Scheme) → Coding s → (x : List ℕ) → BlockBits (mscBlock s) x → (j : ℕ) → j < nMux (s .settings)
+    → isPoint (pointsOf (mscBlock s)) (getD (cellsOf (mscBlock s) x) (2 * j) (pos 0)) (getD (cellsOf (mscBlock s) x) (2 * j + 1) (pos 0)) ≡ true
+bits-point s c x b j h = point-at (pointsOf (mscBlock s)) (cellsOf (mscBlock s) x) (c .msc .points x b) j (rw (msc-long s x) (twice (s .settings) j h))
 
 pub frame-point : (s : Scheme) → Coding s → (F : List (List ℕ)) (i : ℕ) → BlockBits (mscBlock s) (getD F i []) → (j : ℕ) → j < nMux (s .settings)
     → isPoint (pointsOf (mscBlock s)) (getD (frameAt s F i) (2 * j) (pos 0)) (getD (frameAt s F i) (2 * j + 1) (pos 0)) ≡ true
 unfolding frameAt
-frame-point s c F i b j h =
-    point-at (pointsOf (mscBlock s)) (cellsOf (mscBlock s) (getD F i [])) (c .msc .points _ b) j (rw (msc-long s (getD F i [])) (twice (s .settings) j h))
+frame-point s c F i b = bits-point s c (getD F i []) b
 
-pub frame-good : (s : Scheme) → Coding s → (F : List (List ℕ)) (i : ℕ) → BlockBits (mscBlock s) (getD F i []) → Good s (frameAt s F i)
-frame-good s c F i b = record { cell = λ j h. good-point s _ _ (frame-point s c F i b j h) }
+pub frame-good : (empties : Bool) (s : Scheme) → Coding s → (F : List (List ℕ)) (i : ℕ) → BlockBits (mscBlock s) (getD F i []) → Good empties s (frameAt s F i)
+frame-good empties s c F i b = record { cell = λ j h. good-point empties s _ _ (frame-point s c F i b j h) }
 
--- Where all frames are good, memory is in order: each of its cells is (0, 0) or an MSC point.
-module _ (s : Scheme) (c : Coding s) (G : ℕ → List ℤ) (a : ℕ → ℕ → ℕ) (same : (d i : ℕ) → a d (2 * i + 1) ≡ a d (2 * i)) where
-  pub keeps-cell : (f : ℕ) (q : Progress) → Keeps s G a f q → ((i : ℕ) → i < f → Good s (G i))
+-- And so are those of a start frame.
+zeros : (n : ℕ) → Bits (replicate n 0)
+zeros zero = bits-nil
+zeros (suc n) = bits-cons (lit< tt) (zeros n)
+
+pub start-point : (s : Scheme) → Coding s → (j : ℕ) → j < nMux (s .settings)
+    → isPoint (pointsOf (mscBlock s)) (getD (startFrame s) (2 * j) (pos 0)) (getD (startFrame s) (2 * j + 1) (pos 0)) ≡ true
+unfolding startFrame
+start-point s c = bits-point s c _ (record { bits = zeros (bitCount (mscBlock s)); long = length-replicate (bitCount (mscBlock s)) 0 })
+
+pub start-good : (empties : Bool) (s : Scheme) → Coding s → Good empties s (startFrame s)
+start-good empties s c = record { cell = λ j h. good-point empties s _ _ (start-point s c j h) }
+
+-- Where all frames are good, so is each cell of memory.
+module _ (empties : Bool) (s : Scheme) (c : Coding s) (G : ℕ → List ℤ) (a : ℕ → ℕ → ℕ) (same : (d i : ℕ) → a d (2 * i + 1) ≡ a d (2 * i)) where
+  pub keeps-cell : (f : ℕ) (q : Progress) → Keeps s G a f q → ((i : ℕ) → i < f → Good empties s (G i))
       → (slot j : ℕ) → slot < depth (s .settings) → j < nMux (s .settings)
-      → goodCell s (numberIn (slotSize (s .settings)) (q .memory) slot (2 * j)) (numberIn (slotSize (s .settings)) (q .memory) slot (2 * j + 1)) ≡ true
+      → goodCell empties s (numberIn (slotSize (s .settings)) (q .memory) slot (2 * j)) (numberIn (slotSize (s .settings)) (q .memory) slot (2 * j + 1)) ≡ true
   keeps-cell f q K ok slot j h b =
       let w = cell-sent (nMux (s .settings)) (c .big) j b in
       let i = w .index in
@@ -193,14 +207,14 @@ module _ (s : Scheme) (c : Coding s) (G : ℕ → List ℤ) (a : ℕ → ℕ →
       let t = twice (s .settings) i (w .low) in
       let re = rw (v .2, r) at (K .number (v .0) (2 * i) (v .1) (omega arith)) in
       let im = rw (v .2, m, same (v .0) i) at (K .number (v .0) (2 * i + 1) (v .1) t) in
-      rw (re, im) (aged-all s G (Good s) (start-good s) f ok (a (v .0) (2 * i)) .cell j b)
+      rw (re, im) (aged-all s G (Good empties s) (start-good empties s c) f ok (a (v .0) (2 * i)) .cell j b)
 
-  pub keeps-in-order : (f : ℕ) (q : Progress) → Keeps s G a f q → ((i : ℕ) → i < f → Good s (G i))
-      → every (table (memoryCell s (q .memory)) 0 (depth (s .settings) * nMux (s .settings))) ≡ true
+  pub keeps-in-order : (f : ℕ) (q : Progress) → Keeps s G a f q → ((i : ℕ) → i < f → Good empties s (G i))
+      → every (table (memoryCell empties s (q .memory)) 0 (depth (s .settings) * nMux (s .settings))) ≡ true
   unfolding memoryCell goodCell numberIn slotSize
-  keeps-in-order f q K ok = every-table (memoryCell s (q .memory)) 0 (depth (s .settings) * nMux (s .settings)) (λ i x y. at i (rw zero-add at y))
+  keeps-in-order f q K ok = every-table (memoryCell empties s (q .memory)) 0 (depth (s .settings) * nMux (s .settings)) (λ i x y. at i (rw zero-add at y))
     where
-      at : (i : ℕ) → i < depth (s .settings) * nMux (s .settings) → memoryCell s (q .memory) i ≡ true
+      at : (i : ℕ) → i < depth (s .settings) * nMux (s .settings) → memoryCell empties s (q .memory) i ≡ true
       at i h =
           let n = nMux (s .settings) in
           let p = c .big in
@@ -210,7 +224,7 @@ module _ (s : Scheme) (c : Coding s) (G : ℕ → List ℤ) (a : ℕ → ℕ →
           rw (re, im) at (keeps-cell f q K ok (i / n) (i % n) (div-lt-iff-lt-mul (omega arith) .1 h) (mod-lt i (omega arith)))
 
   -- Position, count and memory are those that 12 lets pass.
-  pub keeps-ordered : (f : ℕ) (q : Progress) → Keeps s G a f q → ((i : ℕ) → i < f → Good s (G i)) → Ordered (stateOf s q) (q .memory)
+  pub keeps-ordered : (f : ℕ) (q : Progress) → Keeps s G a f q → ((i : ℕ) → i < f → Good empties s (G i)) → Ordered empties (stateOf s q) (q .memory)
   unfolding stateOf
   keeps-ordered f q K ok =
       record {

@@ -17,4 +17,5 @@ pub mod WholeRuns
 pub mod Faults
 pub mod Sendable
 pub mod SingleCalls
+pub mod NoEmptyCells
 pub mod Accepted

@@ -1,17 +1,16 @@
 -- A Read call that is lent the standard's super frame m: it is accepted, and hands out the bits of its blocks and of the frames that it finishes. Assumes the coding's record.
 use Prim.Native.Nat.{ℕ, suc, _+_, _-_, _*_, _≤_, _<_}
 use mathlib.Core.Path.{_≡_, refl, ap, _∙_}
-use mathlib.Core.Logic.{inl, inr}
-use mathlib.Core.Bool.{true}
+use mathlib.Core.Bool.{true, false, not}
 use mathlib.Core.List.{List, [], _∷_, _++_, map, append-nil}
 use native.Mathlib.Omega.{arith}
 use lib.ListN.{length, getD, take}
-use borrow.Author.Tests.{le-leb, lt-leb}
+use lib.IntN.{pos}
+use lib.Dec.{leb}
 use Rattle.lists.specs.Lists.{table}
 use Rattle.interleaver.specs.Interleaving.{place}
 use Rattle.lists.proofs.Tables.{length-table, table-ext, table-from, map-table}
 use Rattle.interleaver.proofs.Places.{place-low}
-use Rattle.lists.proofs.Counting.{below-or}
 use Rattle.channels.specs.declared.Scheme.{Scheme}
 use Rattle.channels.specs.Scheme.{schemeRefusal}
 use Rattle.settings.specs.Cells.{facCells}
@@ -21,7 +20,7 @@ use Rattle.block.specs.declared.Block.{Block}
 use Rattle.block.specs.Block.{cellsOf, pointsOf}
 use Rattle.lists.specs.Same.{sameNumbers}
 use Rattle.lists.specs.Bools.{every}
-use Rattle.block.specs.Points.{arePoints}
+use Rattle.block.specs.Points.{isPoint, arePoints}
 use Rattle.block.specs.Reading.{given, bytesRead}
 use Rattle.channels.specs.Fac.{facBlock}
 use Rattle.channels.specs.Sdc.{sdcBlock}
@@ -35,41 +34,38 @@ use Rattle.superframe.specs.Contracts.{BytesFit}
 use Rattle.superframe.specs.Runs.{Bits, SuperFrame, bitsOf, reads, handed}
 use Rattle.superframe.specs.Standard.{standardRow, superFrame}
 use Rattle.lists.proofs.Same.{sameNumbers-refl}
-use Rattle.lists.proofs.Bools.{every-table, every-append}
+use Rattle.lists.proofs.Bools.{or-right, every-table, every-append}
 use Rattle.superframe.proofs.Lists.{take-of-table, first-parts}
 use Rattle.superframe.proofs.Places.{delay-cell, sent-real, sent-imaginary}
 use Rattle.block.specs.Fits.{BlockBits}
 use Rattle.superframe.proofs.Coding.{AllBits, all-at, Recovers, Coding}
-use Rattle.superframe.proofs.History.{frameAt, frame-point, frame-good, standard-carries, Keeps, keeps-ordered, twice}
+use Rattle.superframe.proofs.History.{frameAt, aged-all, start-point, frame-point, frame-good, standard-aged, standard-carries, Keeps, keeps-ordered, twice}
 use Rattle.superframe.proofs.SuperFrames.{fac-parts, sdc-part, row-part, rows-are, fillers-are, cells-long}
 use Rattle.superframe.proofs.Reader.{sentAge, sentAge-cell, reader-after, reader-finished}
 use Rattle.superframe.proofs.Calls.{fits-read, read-accepts}
 use Rattle.superframe.proofs.CodeRuns.{Whole}
 
--- The cells of a row that are not ignored are points.
+-- The cells of a row are points, those of frames before the first too.
 module _ (s : Scheme) (c : Coding s) (F : List (List ℕ)) (f : ℕ) (ok : (i : ℕ) → i ≤ f → BlockBits (mscBlock s) (getD F i [])) where
-  row-cell : (count i : ℕ) → count ≤ f → i < nMux (s .settings) → rowCell s count (standardRow s F f) i ≡ true
-  unfolding rowCell
-  row-cell count i h b =
-      elim (below-or count (delay (depth (s .settings)) (2 * i))) [
-        | inl x ↦ rw (lt-leb (delay (depth (s .settings)) (2 * i)) count x)
-        | inr x ↦
-            let t = twice (s .settings) i b in
-            let row = standard-carries s F .number f in
-            rw (
-              le-leb (delay (depth (s .settings)) (2 * i)) count x,
-              row (2 * i) (omega arith) (omega arith),
-              row (2 * i + 1) t (rw (delay-cell (depth (s .settings)) i) (omega arith)),
-              delay-cell (depth (s .settings)) i,
-              sent-real (nMux (s .settings)) i,
-              sent-imaginary (nMux (s .settings)) i,
-            )
-            (frame-point s c F _ (ok _ (omega arith)) (place 5 (nMux (s .settings)) i) (place-low 5 (nMux (s .settings)) (record { low = c .big; factor = refl }) i))
-      ]
+  pub row-point : (i : ℕ) → i < nMux (s .settings)
+      → isPoint (pointsOf (mscBlock s)) (getD (standardRow s F f) (2 * i) (pos 0)) (getD (standardRow s F f) (2 * i + 1) (pos 0)) ≡ true
+  row-point i b =
+      let n = nMux (s .settings) in
+      let t = twice (s .settings) i b in
+      rw (
+        standard-aged s F f (2 * i) (omega arith),
+        standard-aged s F f (2 * i + 1) t,
+        delay-cell (depth (s .settings)) i,
+        sent-real n i,
+        sent-imaginary n i,
+      )
+      (aged-all s (frameAt s F) (λ l. (j : ℕ) → j < n → isPoint (pointsOf (mscBlock s)) (getD l (2 * j) (pos 0)) (getD l (2 * j + 1) (pos 0)) ≡ true)
+      (start-point s c) (suc f) (λ i h. frame-point s c F i (ok i (omega arith))) (delay (depth (s .settings)) (2 * i)) (place 5 n i)
+      (place-low 5 n (record { low = c .big; factor = refl }) i))
 
-  row-points : (count : ℕ) → count ≤ f → rowPoints s count (standardRow s F f) ≡ true
-  unfolding rowPoints
-  row-points count h = every-table _ 0 (nMux (s .settings)) (λ i x y. row-cell count i h (omega arith))
+  row-points : (count : ℕ) → rowPoints s count (standardRow s F f) ≡ true
+  unfolding rowPoints rowCell
+  row-points count = every-table _ 0 (nMux (s .settings)) (λ i x y. or-right (not (leb (delay (depth (s .settings)) (2 * i)) count)) _ (row-point i (omega arith)))
 
 -- A Read call that lends a super frame's cells, with buffers for bytes.
 unfoldable pub feeding : SuperFrame → List ℕ → List ℕ → List ℕ → ReadCall
@@ -133,7 +129,7 @@ module _ (s : Scheme) (c : Coding s) (B : Bits) (w : Whole s B) (m : ℕ) (low :
   frame-at : (i : ℕ) → i < 3 * m + 3 → BlockBits (mscBlock s) (getD (B .frames) i [])
   frame-at i h = all-at (w .frameBits) i (omega (arith, w .frames))
 
-  -- None of its cells that a reader at a count does not ignore, and none of its fillers, falls under 13.
+  -- None of its cells and fillers falls under 13, whatever a reader's count.
   fac-points : every (map (arePoints (pointsOf (facBlock s))) (parts (2 * facCells) (superFrame s B m .fac))) ≡ true
   fac-points =
       rw (fac-parts s B m, map-table (arePoints (pointsOf (facBlock s))) (λ i. cellsOf (facBlock s) (getD (B .fac) (3 * m + i) [])) 0 3)
@@ -142,19 +138,18 @@ module _ (s : Scheme) (c : Coding s) (B : Bits) (w : Whole s B) (m : ℕ) (low :
   sdc-points : arePoints (pointsOf (sdcBlock s)) (superFrame s B m .sdc) ≡ true
   sdc-points = rw (sdc-part s B m) (c .sdc .points _ sdc-at)
 
-  rows-points : (count : ℕ) → count ≤ 3 * m → every (table (λ i. rowPoints s (countAt (s .settings) count i) (part (slotSize (s .settings)) (superFrame s B m .msc) i)) 0 3) ≡ true
-  unfolding countAt
-  rows-points count low = every-table _ 0 3 (λ i x y. row i (omega arith))
+  rows-points : (count : ℕ) → every (table (λ i. rowPoints s (countAt (s .settings) count i) (part (slotSize (s .settings)) (superFrame s B m .msc) i)) 0 3) ≡ true
+  rows-points count = every-table _ 0 3 (λ i x y. row i (omega arith))
     where
       row : (i : ℕ) → i < 3 → rowPoints s (countAt (s .settings) count i) (part (slotSize (s .settings)) (superFrame s B m .msc) i) ≡ true
-      row i h = rw (row-part s B m i h) (row-points s c (B .frames) (3 * m + i) (λ j x. frame-at j (omega arith)) (countAt (s .settings) count i) (omega arith))
+      row i h = rw (row-part s B m i h) (row-points s c (B .frames) (3 * m + i) (λ j x. frame-at j (omega arith)) (countAt (s .settings) count i))
 
   fillers-points : sameNumbers (fillersOf (s .settings) (superFrame s B m .msc)) (fillers (s .settings)) ≡ true
   fillers-points = rw (fillers-are s B m) (sameNumbers-refl (fillers (s .settings)))
 
-  pub sent-points : (count : ℕ) → count ≤ 3 * m → (fac sdc msc : List ℕ) → every (pointTests s count (feeding (superFrame s B m) fac sdc msc)) ≡ true
+  pub sent-points : (count : ℕ) (fac sdc msc : List ℕ) → every (pointTests s count (feeding (superFrame s B m) fac sdc msc)) ≡ true
   unfolding pointTests feeding every
-  sent-points count low fac sdc msc = rw (every-append, every-append, fac-points, sdc-points, rows-points count low, fillers-points)
+  sent-points count fac sdc msc = rw (every-append, every-append, fac-points, sdc-points, rows-points count, fillers-points)
 
   module _ (allowed : schemeRefusal s ≡ 0) (q : Progress) (K : Keeps s (frameAt s (B .frames)) (sentAge (depth (s .settings))) (3 * m) q) (fac sdc msc : List ℕ) (bytes : BytesFit (s .settings) fac sdc msc) where
     -- No number up to 12 refuses the call.
@@ -166,12 +161,12 @@ module _ (s : Scheme) (c : Coding s) (B : Bits) (w : Whole s B) (m : ℕ) (low :
           fits = record { scheme = allowed; long = K .long };
           cells = cells-long s B m c;
           bytes = bytes;
-          order = keeps-ordered s c (frameAt s (B .frames)) (sentAge (depth (s .settings))) (sentAge-cell (depth (s .settings))) (3 * m) q K (λ i h. frame-good s c (B .frames) i (frame-at i (omega arith)));
+          order = keeps-ordered false s c (frameAt s (B .frames)) (sentAge (depth (s .settings))) (sentAge-cell (depth (s .settings))) (3 * m) q K (λ i h. frame-good false s c (B .frames) i (frame-at i (omega arith)));
         })
 
     -- Nor does 13.
     fed-points : every (pointTests s (q .count) (feeding (superFrame s B m) fac sdc msc)) ≡ true
-    fed-points = sent-points (q .count) (omega (arith, K .counted)) fac sdc msc
+    fed-points = sent-points (q .count) fac sdc msc
 
     -- Nor does 14.
     fed-finished : finishedFrames (s .settings) q (rowsOf (s .settings) (superFrame s B m .msc)) ≡ table (frameAt s (B .frames)) (3 * m - (depth (s .settings) - 1)) (3 * m + 3 - (depth (s .settings) - 1) - (3 * m - (depth (s .settings) - 1)))

@@ -25,7 +25,7 @@ use Rattle.superframe.proofs.CodeRuns.{Whole, Ahead, brought-whole, all
 
 -- Memory, position and count after an accepted Reset.
 unfoldable pub startOf : Scheme → Progress
-startOf s = record { memory = startMemory (s .settings); position = 0; count = 0 }
+startOf s = record { memory = startMemory s; position = 0; count = 0 }
 
 module _ (b : Begun) where
   begun-zero : resetRefusal (b .scheme) (b .lent) ≡ 0

@@ -246,8 +246,8 @@ single-calls-of coding =
           rw (read-accepts state memory c (a .0) (a .1) (a .2)) (hands-out state memory c (coding (state .scheme) (F .fits .scheme)) F (a .2));
       sends = λ state memory c h. rw (code-accepts state memory c h) (code-sends state memory c (coding (state .scheme) (code-fits state memory c h .fits .scheme)));
       recovers = λ s h. let C = coding s h in (C .fac .reads, C .sdc .reads, C .msc .reads);
-      sendable = sent-nowhere coding;
+      sendable = λ run m c L. sent-nowhere coding run m (L .sent) c L (countBefore (run .begun .scheme .settings) m);
       unsent = λ state memory c z b r run m e n L.
           let f = thirteen coding state memory c z b .0 r .here in
-          sent-nowhere coding run m c L .none b (subst₂ (λ s k. NoPoint s k c b) (sym e) (n ∙ ap (λ s. countBefore (s .settings) m) (sym e)) f);
+          sent-nowhere coding run m (L .sent) c L (countBefore (run .begun .scheme .settings) m) .none b (subst₂ (λ s k. NoPoint s k c b) (sym e) (n ∙ ap (λ s. countBefore (s .settings) m) (sym e)) f);
     }

@@ -39,18 +39,18 @@ facBytes = 9
 unfoldable pub memoryLength : Settings → ℕ
 memoryLength s = depth s * slotSize s
 
--- A cell of a frame before the first is (0, 0).
-unfoldable pub isStart : ℤ → ℤ → Bool
-isStart re im = sameNumber (pos 0) re && sameNumber (pos 0) im
+-- An empty cell is (0, 0).
+unfoldable pub isEmpty : ℤ → ℤ → Bool
+isEmpty re im = sameNumber (pos 0) re && sameNumber (pos 0) im
 
--- Refusal 12: position or count above 4 (above 0 in short), or a memory cell neither (0, 0) nor an MSC point.
-unfoldable pub memoryCell : Scheme → List ℤ → ℕ → Bool
-memoryCell s memory i =
-    isStart (getD memory (2 * i) (pos 0)) (getD memory (2 * i + 1) (pos 0))
+-- Refusal 12: position or count above 4 (above 0 in short), or a memory cell that is no MSC point. 02 S-5: an empty cell passes only where it is told so, which Code and Read do not.
+unfoldable pub memoryCell : Bool → Scheme → List ℤ → ℕ → Bool
+memoryCell empties s memory i =
+    (empties && isEmpty (getD memory (2 * i) (pos 0)) (getD memory (2 * i + 1) (pos 0)))
     || isPoint (pointsOf (mscBlock s)) (getD memory (2 * i) (pos 0)) (getD memory (2 * i + 1) (pos 0))
 
-unfoldable pub inOrder : State → List ℤ → Bool
-inOrder state memory =
+unfoldable pub inOrder : Bool → State → List ℤ → Bool
+inOrder empties state memory =
     ltb (state .position) (depth (state .scheme .settings))
     && (ltb (state .count) (depth (state .scheme .settings))
-    && every (table (memoryCell (state .scheme) memory) 0 (depth (state .scheme .settings) * nMux (state .scheme .settings))))
+    && every (table (memoryCell empties (state .scheme) memory) 0 (depth (state .scheme .settings) * nMux (state .scheme .settings))))

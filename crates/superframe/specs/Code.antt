@@ -1,6 +1,6 @@
 -- The call Code. 01 "Buffers and state" and "Operations".
 use Prim.Native.Nat.{ℕ, _*_}
-use mathlib.Core.Bool.{Bool, cond, not, _&&_}
+use mathlib.Core.Bool.{Bool, false, cond, not, _&&_}
 use mathlib.Core.List.{List, _++_, map}
 use lib.ListN.{length}
 use lib.IntN.{ℤ}
@@ -62,7 +62,7 @@ codeRefusal state memory c =
     (first (not (eqb (length memory) (memoryLength (s .settings)))) 8
     (first (not (byteLengths (s .settings) (c .fac) (c .sdc) (c .msc))) 9
     (first (not (cellLengths (s .settings) (c .faccells) (c .sdccells) (c .msccells))) 10
-    (first (not (sparesZero (s .settings) (c .sdc) (c .msc))) 11 (first (not (inOrder state memory)) 12 0)))))
+    (first (not (sparesZero (s .settings) (c .sdc) (c .msc))) 11 (first (not (inOrder false state memory)) 12 0)))))
 
 -- The progress that a state and its memory stand for, and a state from a progress.
 unfoldable pub progressOf : State → List ℤ → Progress

@@ -1,7 +1,7 @@
 -- What functions inside a call require: acceptance by name, as facts about state, memory and buffers. Each follows from the tests of Code and Read.
 use Prim.Native.Nat.{ℕ, _*_, _<_}
 use mathlib.Core.Path.{_≡_}
-use mathlib.Core.Bool.{true}
+use mathlib.Core.Bool.{Bool, true, false}
 use mathlib.Core.List.{List}
 use lib.ListN.{length}
 use lib.IntN.{ℤ}
@@ -23,11 +23,11 @@ pub record Fits (s : Scheme) (memory : List ℤ) : Type 0 where
   pub scheme : schemeRefusal s ≡ 0
   pub long : length memory ≡ memoryLength (s .settings)
 
--- No refusal 12: position and count below the depth, and every memory cell (0, 0) or an MSC point.
-pub record Ordered (state : State) (memory : List ℤ) : Type 0 where
+-- No refusal 12: position and count below the depth, and every memory cell an MSC point, or empty where that passes.
+pub record Ordered (empties : Bool) (state : State) (memory : List ℤ) : Type 0 where
   pub position : state .position < depth (state .scheme .settings)
   pub count : state .count < depth (state .scheme .settings)
-  pub cells : every (table (memoryCell (state .scheme) memory) 0 (depth (state .scheme .settings) * nMux (state .scheme .settings))) ≡ true
+  pub cells : every (table (memoryCell empties (state .scheme) memory) 0 (depth (state .scheme .settings) * nMux (state .scheme .settings))) ≡ true
 
 -- The buffers of packed bytes have their lengths.
 pub record BytesFit (s : Settings) (fac sdc msc : List ℕ) : Type 0 where
@@ -47,11 +47,11 @@ pub record CodeFits (state : State) (memory : List ℤ) (c : CodeCall) : Type 0 
   pub bytes : BytesFit (state .scheme .settings) (c .fac) (c .sdc) (c .msc)
   pub cells : CellsFit (state .scheme .settings) (c .faccells) (c .sdccells) (c .msccells)
   pub spares : sparesZero (state .scheme .settings) (c .sdc) (c .msc) ≡ true
-  pub order : Ordered state memory
+  pub order : Ordered false state memory
 
 -- What a Read call says that no number from 1 to 12 refuses.
 pub record ReadFits (state : State) (memory : List ℤ) (c : ReadCall) : Type 0 where
   pub fits : Fits (state .scheme) memory
   pub cells : CellsFit (state .scheme .settings) (c .faccells) (c .sdccells) (c .msccells)
   pub bytes : BytesFit (state .scheme .settings) (c .fac) (c .sdc) (c .msc)
-  pub order : Ordered state memory
+  pub order : Ordered false state memory

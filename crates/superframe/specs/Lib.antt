@@ -11,5 +11,6 @@ pub mod Standard
 -- The theorems.
 pub mod SingleCalls
 pub mod WholeRuns
+pub mod NoEmptyCells
 -- What functions inside a call require and promise.
 pub mod Contracts

@@ -1,4 +1,4 @@
--- The interleaving memory. 01 "Buffers and state": slots of N_MUX cells in mapping order, five in long interleaving and one in short.
+-- The interleaving memory. 01 "Buffers and state" and 02 S-5: slots of N_MUX cells in mapping order, five in long interleaving and one in short.
 use Prim.Native.Nat.{ℕ, _+_, _*_}
 use mathlib.Core.List.{List}
 use lib.ListN.{getD, set, take, drop, replicate}
@@ -6,6 +6,9 @@ use lib.Seq.{sets}
 use lib.IntN.{ℤ, pos}
 use Rattle.settings.specs.declared.Settings.{Settings}
 use Rattle.settings.specs.Lengths.{nMux}
+use Rattle.block.specs.Block.{cellsOf, bitCount}
+use Rattle.channels.specs.declared.Scheme.{Scheme}
+use Rattle.channels.specs.Msc.{mscBlock}
 
 -- How many numbers a slot has: a real and an imaginary one for each cell.
 unfoldable pub slotSize : Settings → ℕ
@@ -27,6 +30,6 @@ stored size memory slot numbers = sets memory (slot * size) numbers
 unfoldable pub slotOf : ℕ → List ℤ → ℕ → List ℤ
 slotOf size memory slot = take size (drop (slot * size) memory)
 
--- The cells of a frame before the first: (0, 0).
-unfoldable pub startFrame : Settings → List ℤ
-startFrame s = replicate (slotSize s) (pos 0)
+-- The cells of a frame before the first: those of a multiplex frame whose bits are all zero before dispersal, by the run's table. 02 S-5.
+unfoldable pub startFrame : Scheme → List ℤ
+startFrame s = cellsOf (mscBlock s) (replicate (bitCount (mscBlock s)) 0)

@@ -1,6 +1,6 @@
 -- The call Read. 01 "Buffers and state" and "Operations".
 use Prim.Native.Nat.{ℕ, _+_, _-_, _*_}
-use mathlib.Core.Bool.{Bool, cond, not, _||_}
+use mathlib.Core.Bool.{Bool, false, cond, not, _||_}
 use mathlib.Core.List.{List, [], _∷_, _++_, map}
 use lib.ListN.{length, getD, drop, replicate}
 use lib.IntN.{ℤ, pos}
@@ -102,7 +102,7 @@ orderRefusal state memory c =
     first (ltb 0 (schemeRefusal s)) (schemeRefusal s)
     (first (not (eqb (length memory) (memoryLength (s .settings)))) 8
     (first (not (cellLengths (s .settings) (c .faccells) (c .sdccells) (c .msccells))) 9
-    (first (not (byteLengths (s .settings) (c .fac) (c .sdc) (c .msc))) 10 (first (not (inOrder state memory)) 12 0))))
+    (first (not (byteLengths (s .settings) (c .fac) (c .sdc) (c .msc))) 10 (first (not (inOrder false state memory)) 12 0))))
 
 -- The answer: the first number that applies, with its block; all but 13 and 14 name 0.
 unfoldable pub answerOf : State → List ℤ → ReadCall → Answer

@@ -5,7 +5,6 @@ use mathlib.Core.List.{List}
 use lib.ListN.{length, replicate}
 use lib.IntN.{ℤ}
 use lib.Dec.{eqb, ltb}
-use Rattle.settings.specs.declared.Settings.{Settings}
 use Rattle.settings.specs.Refusal.{first}
 use Rattle.settings.specs.Sizes.{depth}
 use Rattle.channels.specs.declared.Scheme.{Scheme}
@@ -30,12 +29,12 @@ unfoldable pub startState : Scheme → State
 startState s = record { scheme = s; position = 0; count = 0 }
 
 -- Memory after an accepted reset: a start frame in every slot.
-unfoldable pub startMemory : Settings → List ℤ
-startMemory s = joined (replicate (depth s) (startFrame s))
+unfoldable pub startMemory : Scheme → List ℤ
+startMemory s = joined (replicate (depth (s .settings)) (startFrame s))
 
 -- Acceptance fills memory, takes the settings and the table and sets position and count to 0; a refusal gives the old state back.
 unfoldable pub resetOf : State → Scheme → List ℤ → ResetYield
 resetOf old s memory =
     cond (eqb (resetRefusal s memory) 0)
-    (record { done = record { refusal = 0; state = startState s }; memory = startMemory (s .settings) })
+    (record { done = record { refusal = 0; state = startState s }; memory = startMemory s })
     (record { done = record { refusal = resetRefusal s memory; state = old }; memory = memory })

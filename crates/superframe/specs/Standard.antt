@@ -20,7 +20,7 @@ use Rattle.superframe.specs.Runs.{Bits, SuperFrame}
 
 -- The cells of frame f - d, or of a frame before the first.
 unfoldable pub earlierCells : Scheme → List (List ℕ) → ℕ → ℕ → List ℤ
-earlierCells s frames f d = cond (leb d f) (cellsOf (mscBlock s) (getD frames (f - d) [])) (startFrame (s .settings))
+earlierCells s frames f d = cond (leb d f) (cellsOf (mscBlock s) (getD frames (f - d) [])) (startFrame s)
 
 -- The sent cells of frame f: sent cell i is cell P(i) of frame f - (i mod D).
 unfoldable pub standardRow : Scheme → List (List ℕ) → ℕ → List ℤ

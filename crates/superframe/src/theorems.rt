@@ -1,4 +1,5 @@
 // Theorems about the definitions that the contracts of Reset, Code and Read cite: each function is empty and promises its statement.
+ghost use Rattle.superframe.specs.NoEmptyCells.{NoEmptyCells};
 ghost use Rattle.superframe.specs.SingleCalls.{SingleCalls};
 ghost use Rattle.superframe.specs.WholeRuns.{WholeRuns};
 
@@ -10,4 +11,9 @@ pub fn single_calls()
 // Demand 3: one statement about whole lists of calls.
 pub fn whole_runs()
     ensures { λ _. ⌜ WholeRuns ⌝ }
+{}
+
+// S-5: the cells of a run are points and fillers, none (0, 0), and a reader ignores those of frames before the first.
+pub fn no_empty_cells()
+    ensures { λ _. ⌜ NoEmptyCells ⌝ }
 {}

@@ -12,10 +12,8 @@ use harness::measured;
 use harness::nearest;
 use harness::tables;
 use harness::tally::Tally;
-use second::forms::START;
-use second::interleaver::Places;
 use second::settings::{Settings, PAIRINGS};
-use second::superframe::{Start, STATE_BYTES};
+use second::superframe::STATE_BYTES;
 use second::{counts, refusals, runs};
 use std::io::{self, BufWriter, Write};
 use std::process::ExitCode;
@@ -27,11 +25,8 @@ const CHANGED_LENGTHS: usize = 12;
 const CHANGED_RESETS: usize = 8;
 const CHANGED_CODES: usize = 4;
 const CHANGED_READS: usize = 8;
-/// Refusal 14 with block 4, the first finished frame; or 12, where runs do not start with empty cells.
-const EMPTY_CELL: u16 = match START {
-    Start::Empty => 14 * 256 + 4,
-    Start::ZeroFrame => 12 * 256,
-};
+/// What Read answers to (0, 0) in memory.
+const EMPTY_CELL: u16 = 12 * 256;
 /// FAC blocks built and read, and changed calls beside each.
 const FAC_BLOCKS: usize = 5;
 const CHANGED_FACS: usize = 9;
@@ -229,9 +224,7 @@ impl Run {
         if s.long() && lent.state[11] == 4 {
             self.every_count(&lent, s)?;
         }
-        if s.long() && lent.state[11] >= 3 {
-            self.empty_cell(&lent, s)?;
-        }
+        self.empty_cell(&lent, s)?;
         let finished = self.calls(Kind::Read, CHANGED_READS, &mut lent, s)?;
         (reader.state, reader.memory) = (lent.state, lent.memory);
         Ok(finished)
@@ -251,20 +244,14 @@ impl Run {
         Ok(())
     }
 
-    /// A copy of a good call of Read that finishes frames. In memory a cell (1, 1) of the frame that is finished first has
-    /// become (0, 0), at a place where no row of the call puts a cell: 12 lets it pass, and no bits give that frame, unless (0, 0) falls under 12.
+    /// A copy of a good call of Read with a cell of memory (0, 0): 12 refuses it (02, S-5).
     fn empty_cell(&mut self, lent: &Lent, s: &Settings) -> Result<(), String> {
-        let (position, count) = (lent.state[10] as usize, lent.state[11] as usize);
-        let slot = (position + 5 - count) % 5;
-        // Rows of this call put cells with a delay of 3 or 4 frames into the slot.
-        let kept = Places::new(s.n_mux(), 5).take(s.n_mux()).enumerate().filter(|(i, _)| i % 5 < 3);
-        let mut cells = kept.map(|(_, place)| 2 * (slot * s.n_mux() + place));
-        let Some(at) = cells.find(|&at| lent.memory[at..at + 2] == [1, 1]) else { return Ok(()) };
+        let at = 2 * self.draw.below(lent.memory.len() / 2);
         let mut copy = lent.clone();
         copy.memory[at..at + 2].fill(0);
-        match self.call(Kind::Read, &mut copy, s, &["a cell (1, 1) of the frame that finishes next"])? {
+        match self.call(Kind::Read, &mut copy, s, &["a cell of memory"])? {
             EMPTY_CELL => Ok(()),
-            answer => Err(format!("Read of {} with (0, 0) in a finished frame answers {answer}, not {EMPTY_CELL}", s.hex())),
+            answer => Err(format!("Read of {} with (0, 0) in memory answers {answer}, not {EMPTY_CELL}", s.hex())),
         }
     }
 }

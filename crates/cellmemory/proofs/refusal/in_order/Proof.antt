@@ -7,10 +7,10 @@ use Rattle.cellmemory.proofs.refusal.in_order.Statement.{statement}
 use Rattle.cellmemory.proofs.refusal.in_order.Tie as tie
 
 returns : tie.Need-returns
-returns c = order-position _ _ _ (c .before .before .depth .ensures) (c .if1 .taken)
+returns c = order-position _ _ _ _ (c .before .before .depth .ensures) (c .if1 .taken)
 
 returns-2 : tie.Need-returns-2
-returns-2 c = order-count _ _ _ (c .before .before .before .before .depth .ensures) (c .if2 .taken)
+returns-2 c = order-count _ _ _ _ (c .before .before .before .before .depth .ensures) (c .if2 .taken)
 
 msc-low : tie.Need-msc-constellation-requires
 msc-low c κs = omega (arith, scheme-accepted _ (c .before .before .before .before .before .before .pre .scheme) .settings .ranges .partA .mscLow)
@@ -18,7 +18,7 @@ msc-low c κs = omega (arith, scheme-accepted _ (c .before .before .before .befo
 returns-3 : tie.Need-returns-3
 returns-3 c =
     let b = c .before .before .before .before .before .before in
-    order-cells _ _ _ (b .depth .ensures) (b .before .before .pre .long) (c .before .before .before .before .if1 .left) (c .before .before .if2 .left)
+    order-cells _ _ _ _ (b .depth .ensures) (b .before .before .pre .long) (c .before .before .before .before .if1 .left) (c .before .before .if2 .left)
     _ _ (c .before .msc-constellation .ensures) (c .points-pass .ensures)
 
 pub in-order-spec : {M : Type 1} → statement M
