@@ -21,7 +21,7 @@ static unsigned char *stack;
 static uint8_t settings[DRM_SETTINGS_BYTES], state[DRM_STATE_BYTES];
 static uint8_t fac[DRM_FAC_BYTES], sdc[DRM_MOST_SDC_BYTES], msc[DRM_MOST_MSC_BYTES];
 static int16_t fac_cells[DRM_FAC_NUMBERS], sdc_cells[DRM_MOST_SDC_NUMBERS], msc_cells[DRM_MOST_MSC_NUMBERS];
-static int16_t memory[DRM_MOST_MEMORY_NUMBERS];
+static uint8_t memory[DRM_MOST_MEMORY_BYTES];
 static uint16_t lengths[DRM_LENGTHS];
 static uint32_t sizes[DRM_SIZES];
 static uint8_t received[DRM_FAC_VALUES], block[DRM_FAC_BLOCK_BYTES];

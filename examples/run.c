@@ -29,7 +29,7 @@ struct cells {
 /* A coder or a reader. */
 struct side {
     uint8_t state[DRM_STATE_BYTES];
-    int16_t memory[DRM_MOST_MEMORY_NUMBERS];
+    uint8_t memory[DRM_MOST_MEMORY_BYTES];
 };
 
 static struct side coder, reader;

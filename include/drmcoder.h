@@ -46,6 +46,10 @@
  *   N_SDC cells (half the SDC numbers), an SDC block has N_SDC - 6 bits in 4-QAM, and in 16-QAM the greatest multiple
  *   of 3 that is not above 2 * N_SDC - 12.
  *
+ * Memory
+ *   A byte for each cell: its high half is the real number, its low half the imaginary one, each a 4-bit two's-complement
+ *   number. Slot after slot of N1 + N2 cells in mapping order, five slots in long interleaving and one in short.
+ *
  * Cells
  *   Two numbers a cell, real before imaginary, odd, from -1 to 1 in 4-QAM, -3 to 3 in 16-QAM and -7 to 7 in 64-QAM.
  *   The FAC has 390 numbers for its three blocks. The MSC numbers are three rows of N1 + N2 sent cells each, and then
@@ -74,6 +78,8 @@
  *    15  a field of an FAC block too large for its bits, or against the settings
  *    16  an FAC block with a wrong CRC
  *    17  a grid of the wrong length
+ *    18  a hold file that is none: a wrong number of lines or length of a line, a digit outside 0 to 9 and A to F, a
+ *        position or count that 12 would refuse, or a cell that is no point of the MSC's constellation
  *    21  a value lent to drm_fac_nearest is above 2
  *    22  a measured float that is infinite or not a number, or a fade's gain that is, or is below zero
  *   255  a settings, state, lengths or sizes slice of the wrong length; this goes before all others
@@ -110,7 +116,8 @@ enum {
     DRM_FAC_FIELDS = 14,
     DRM_FAC_VALUES = 130,
     DRM_FAC_CELLS = 65,
-    DRM_GRID_SIZES = 3
+    DRM_GRID_SIZES = 3,
+    DRM_HOLD_SIZES = 2
 };
 
 /* The most that any permitted settings ask of the other slices, for buffers that serve them all. */
@@ -119,8 +126,10 @@ enum {
     DRM_MOST_MSC_BYTES = 10797,
     DRM_MOST_SDC_NUMBERS = 1692,
     DRM_MOST_MSC_NUMBERS = 36708,
-    DRM_MOST_MEMORY_NUMBERS = 61180,
-    DRM_MOST_GRID_NUMBERS = 62235
+    DRM_MOST_MEMORY_BYTES = 30590,
+    DRM_MOST_GRID_NUMBERS = 62235,
+    DRM_MOST_OLD_HOLD_BYTES = 244728,
+    DRM_MOST_NEW_HOLD_BYTES = 61188
 };
 
 /* Free stack, in bytes, that is enough for any call. */
@@ -146,6 +155,7 @@ enum {
     DRM_REFUSED_FIELD = 15,
     DRM_REFUSED_CRC = 16,
     DRM_REFUSED_GRID_LENGTH = 17,
+    DRM_REFUSED_HOLD_FILE = 18,
     DRM_REFUSED_VALUE = 21,
     DRM_REFUSED_MEASURED = 22,
     DRM_REFUSED_TABLE = 23,
@@ -166,7 +176,7 @@ uint8_t drm_lengths(const uint8_t *settings, size_t settings_len, uint16_t *leng
 
 /*
  * Sizes of the slices of drm_reset, drm_code and drm_read: SDC bytes, MSC bytes (three frames), FAC numbers,
- * SDC numbers, MSC numbers, memory numbers.
+ * SDC numbers, MSC numbers, memory bytes.
  *   settings   10 bytes
  *   sizes      6 numbers, written if the answer is 0
  * Answers 0, 1 to 7, or 255.
@@ -180,10 +190,10 @@ uint8_t drm_sizes(const uint8_t *settings, size_t settings_len, uint32_t *sizes,
  * reader ignores them. So no cell of a run is (0, 0).
  *   state      208 bytes, whatever they hold
  *   settings   10 bytes
- *   memory     as many numbers as drm_sizes says, whatever they hold
+ *   memory     as many bytes as drm_sizes says, whatever they hold
  * Answers 0, 1 to 8, or 255.
  */
-uint8_t drm_reset(uint8_t *state, size_t state_len, const uint8_t *settings, size_t settings_len, int16_t *memory,
+uint8_t drm_reset(uint8_t *state, size_t state_len, const uint8_t *settings, size_t settings_len, uint8_t *memory,
                   size_t memory_len);
 
 /*
@@ -192,11 +202,11 @@ uint8_t drm_reset(uint8_t *state, size_t state_len, const uint8_t *settings, siz
  *   state      208 bytes, whatever they hold
  *   settings   10 bytes
  *   table      196 numbers
- *   memory     as many numbers as drm_sizes says, whatever they hold
+ *   memory     as many bytes as drm_sizes says, whatever they hold
  * Answers 0, 1 to 7, 23, 8, or 255.
  */
 uint8_t drm_reset_table(uint8_t *state, size_t state_len, const uint8_t *settings, size_t settings_len,
-                        const uint8_t *table, size_t table_len, int16_t *memory, size_t memory_len);
+                        const uint8_t *table, size_t table_len, uint8_t *memory, size_t memory_len);
 
 /*
  * Codes one super frame. Of memory only the slots of its three frames are written.
@@ -207,7 +217,7 @@ uint8_t drm_reset_table(uint8_t *state, size_t state_len, const uint8_t *setting
  * Answers 0, 1 to 7, 23, 8 to 12, or 255. At the end of a run code two super frames whose MSC bytes are zero: the reader then
  * has every frame before them.
  */
-uint8_t drm_code(uint8_t *state, size_t state_len, int16_t *memory, size_t memory_len, const uint8_t *fac,
+uint8_t drm_code(uint8_t *state, size_t state_len, uint8_t *memory, size_t memory_len, const uint8_t *fac,
                  size_t fac_len, const uint8_t *sdc, size_t sdc_len, const uint8_t *msc, size_t msc_len,
                  int16_t *fac_cells, size_t fac_cells_len, int16_t *sdc_cells, size_t sdc_cells_len,
                  int16_t *msc_cells, size_t msc_cells_len);
@@ -224,10 +234,79 @@ uint8_t drm_code(uint8_t *state, size_t state_len, int16_t *memory, size_t memor
  * 7, 23, 8 to 10, 12 to 14 or 255. The block is the lowest at fault for 13 and 14, and 0 for the others: 0 to 2 an FAC block,
  * 3 the SDC block; from 4 on, for 13 the three sent rows of MSC cells and 7 the fillers, for 14 the finished frames.
  */
-uint16_t drm_read(uint8_t *state, size_t state_len, int16_t *memory, size_t memory_len, const int16_t *fac_cells,
+uint16_t drm_read(uint8_t *state, size_t state_len, uint8_t *memory, size_t memory_len, const int16_t *fac_cells,
                   size_t fac_cells_len, const int16_t *sdc_cells, size_t sdc_cells_len, const int16_t *msc_cells,
                   size_t msc_cells_len, uint8_t *fac, size_t fac_len, uint8_t *sdc, size_t sdc_len, uint8_t *msc,
                   size_t msc_len);
+
+/*
+ * Hold files: the memory of a coder or reader, stored at power-down. A file begins with a line of two digits, position
+ * and count; then comes a line for each slot, N1 + N2 cells in mapping order; each line is ended by a line feed, and
+ * nothing follows the last. Digits are 0 to 9 and A to F. The old form has eight digits a cell, two 16-bit two's-complement
+ * numbers, real before imaginary; the new form has two, the byte of memory. Neither has the settings or the table.
+ */
+
+/*
+ * Sizes of hold files: bytes of an old and of a new file.
+ *   settings   10 bytes
+ *   sizes      2 numbers, written if the answer is 0
+ * Answers 0, 1 to 7, or 255.
+ */
+uint8_t drm_hold_sizes(const uint8_t *settings, size_t settings_len, uint32_t *sizes, size_t sizes_len);
+
+/*
+ * Stores position, count and memory in a file of the old or of the new form. State and memory are not written.
+ *   state      208 bytes, as the last accepted call left them
+ *   memory     likewise
+ *   file       as many bytes as drm_hold_sizes says: all are written if the answer is 0
+ * Answers 0, 1 to 7, 23, 8, 10, 12, or 255.
+ */
+uint8_t drm_store_old(const uint8_t *state, size_t state_len, const uint8_t *memory, size_t memory_len, uint8_t *file,
+                      size_t file_len);
+
+uint8_t drm_store_new(const uint8_t *state, size_t state_len, const uint8_t *memory, size_t memory_len, uint8_t *file,
+                      size_t file_len);
+
+/*
+ * An old file to the new form, and a new one to the old form. Each undoes the other on every file that is not refused.
+ *   settings   10 bytes, those that the file was stored under
+ *   old_file, new_file   as many bytes as drm_hold_sizes says; what is written is written whole if the answer is 0
+ * Answers 0, 1 to 7, 10 (the file to write of a wrong length), 18, or 255.
+ */
+uint8_t drm_to_new(const uint8_t *settings, size_t settings_len, const uint8_t *old_file, size_t old_file_len,
+                   uint8_t *new_file, size_t new_file_len);
+
+uint8_t drm_to_old(const uint8_t *settings, size_t settings_len, const uint8_t *new_file, size_t new_file_len,
+                   uint8_t *old_file, size_t old_file_len);
+
+/*
+ * Restores a coder or reader from a file: the state takes the settings, the standard's table, and the file's position and
+ * count, memory takes its cells. A run that goes on so sends what it would have sent uninterrupted.
+ *   state      208 bytes, whatever they hold
+ *   settings   10 bytes, those that the file was stored under
+ *   file       an old or a new file
+ *   memory     as many bytes as drm_sizes says, whatever they hold
+ * Answers 0, 1 to 8, 18, or 255. A file with a cell (0, 0), as was stored in a run's first frames when those
+ * were empty, is refused by 18.
+ */
+uint8_t drm_restore_old(uint8_t *state, size_t state_len, const uint8_t *settings, size_t settings_len,
+                        const uint8_t *file, size_t file_len, uint8_t *memory, size_t memory_len);
+
+uint8_t drm_restore_new(uint8_t *state, size_t state_len, const uint8_t *settings, size_t settings_len,
+                        const uint8_t *file, size_t file_len, uint8_t *memory, size_t memory_len);
+
+/*
+ * The same of a run that was begun with a table of its own, which is lent again: a file has none.
+ *   table      196 numbers
+ * Answers 0, 1 to 7, 23, 8, 18, or 255.
+ */
+uint8_t drm_restore_old_table(uint8_t *state, size_t state_len, const uint8_t *settings, size_t settings_len,
+                              const uint8_t *table, size_t table_len, const uint8_t *file, size_t file_len,
+                              uint8_t *memory, size_t memory_len);
+
+uint8_t drm_restore_new_table(uint8_t *state, size_t state_len, const uint8_t *settings, size_t settings_len,
+                              const uint8_t *table, size_t table_len, const uint8_t *file, size_t file_len,
+                              uint8_t *memory, size_t memory_len);
 
 /*
  * Builds an FAC block from its fields; reserved bits are zero.

@@ -3,16 +3,16 @@ use mathlib.Core.Path.{_≡_, refl, sym, _∙_}
 use mathlib.Core.Bool.{Bool, true, false, not, and-false}
 use mathlib.Core.List.{List}
 use Prim.Native.Nat.{ℕ, _*_, _≤_, _<_}
-use native.Mathlib.Nat.{mul-left-comm}
 use native.Mathlib.Omega.{arith}
 use borrow.Author.Tests.{lt-ltb, le-ltb, eqb-true, not-false}
 use lib.ListN.{length}
 use lib.IntN.{ℤ}
 use lib.Dec.{eqb, ltb}
 use Rattle.settings.specs.Lengths.{nMux}
-use Rattle.mapping.specs.PointTests.{pointsPass}
+use Rattle.cellbytes.specs.CellBytes.{numbers}
+use Rattle.mapping.specs.PointTests.{pointsPass, allCells}
 use Rattle.channels.specs.Msc.{mscConstellation}
-use Rattle.cellmemory.proofs.Points.{memoryTest, memory-points}
+use Rattle.cellmemory.proofs.Points.{memory-points}
 use mathlib.Core.Logic.{_⊎_, inl, inr}
 use Rattle.lists.proofs.Counting.{below-or}
 use Rattle.settings.specs.declared.Sizes.{Sizes}
@@ -22,7 +22,6 @@ use Rattle.settings.proofs.Buffers.{sizes-accepts}
 use Rattle.channels.specs.declared.Scheme.{Scheme}
 use Rattle.channels.specs.Scheme.{schemeRefusal}
 use Rattle.superframe.specs.declared.State.{State}
-use Rattle.superframe.specs.Memory.{slotSize}
 use Rattle.superframe.specs.Call.{memoryLength, inOrder}
 use Rattle.cellmemory.specs.Contracts.{lengthRefusal, bytesLong, cellsLong, refusalThen}
 use Rattle.superframe.specs.Code.{byteLengths, cellLengths}
@@ -51,11 +50,11 @@ module _ (s : Scheme) (z : Sizes) (e : z ≡ sizesOf (s .settings)) (r : ℕ) (g
       → lengthRefusal r z n nine ten
       ≡ first (ltb 0 (schemeRefusal s)) (schemeRefusal s)
       (first (not (eqb n (memoryLength (s .settings)))) 8 (first (not nine) 9 (first (not ten) 10 0)))
-  unfolding lengthRefusal allSizes memoryLength slotSize
+  unfolding lengthRefusal allSizes memoryLength
   scheme-allowed n nine ten h = rw (g, e, sizes-accepts (s .settings) (scheme-settings s h))
 
 -- 12 test by test: the position, the count and the cells.
-module _ (empties : Bool) (state : State) (memory : List ℤ) (d : ℕ) (e : d ≡ depth (state .scheme .settings)) where
+module _ (empties : Bool) (state : State) (memory : List ℕ) (d : ℕ) (e : d ≡ depth (state .scheme .settings)) where
   pub order-position : d ≤ state .position → false ≡ inOrder empties state memory
   unfolding inOrder
   order-position h = rw (le-ltb (state .position) (depth (state .scheme .settings)) (omega arith))
@@ -66,12 +65,11 @@ module _ (empties : Bool) (state : State) (memory : List ℤ) (d : ℕ) (e : d �
       rw (le-ltb (state .count) (depth (state .scheme .settings)) (omega arith)) (sym (and-false (ltb (state .position) (depth (state .scheme .settings)))))
 
   pub order-cells : length memory ≡ memoryLength (state .scheme .settings) → state .position < d → state .count < d → (k : ℕ) (b : Bool)
-      → k ≡ mscConstellation (state .scheme .settings .msc) → b ≡ pointsPass (memoryTest empties k) memory → b ≡ inOrder empties state memory
-  unfolding inOrder memoryLength slotSize
+      → k ≡ mscConstellation (state .scheme .settings .msc) → b ≡ pointsPass (allCells k empties) (numbers memory) → b ≡ inOrder empties state memory
+  unfolding inOrder memoryLength
   order-cells l p c k b f g =
       let s = state .scheme .settings in
-      let n : length memory ≡ 2 * (depth s * nMux s) = l ∙ mul-left-comm (depth s) 2 (nMux s) in
-      g ∙ rw (f, lt-ltb (state .position) (depth s) (omega arith), lt-ltb (state .count) (depth s) (omega arith)) (memory-points (state .scheme) empties (depth s * nMux s) memory n)
+      g ∙ rw (f, lt-ltb (state .position) (depth s) (omega arith), lt-ltb (state .count) (depth s) (omega arith)) (memory-points (state .scheme) empties (depth s * nMux s) memory l)
 
 -- 8, 9 and 10 in their order, and what follows them.
 abbrev lengths-then : Bool → Bool → Bool → ℕ → ℕ
@@ -102,7 +100,7 @@ own-stops r m n h k = go (below-or 0 r)
         first-own-pass r m e ∙ k (λ g. h (first-own-pass r m e ∙ g)) ∙ sym (first-own-pass r n e)
 
 -- 1 to 10 with the tests of 9 and 10, and what follows them.
-module _ (s : Scheme) (memory : List ℤ) (nine ten : Bool) (n : ℕ) (g : n ≡ refusalThen s memory nine ten 0) where
+module _ (s : Scheme) (memory : List ℕ) (nine ten : Bool) (n : ℕ) (g : n ≡ refusalThen s memory nine ten 0) where
   pub then-stops : (m : ℕ) → (n ≡ 0 → ⊥) → n ≡ refusalThen s memory nine ten m
   unfolding refusalThen
   then-stops m h = g ∙ own-stops (schemeRefusal s) _ _ (λ k. h (g ∙ k)) (λ k. stops _ _ _ m k)
@@ -133,7 +131,7 @@ module _ (s : Scheme) (memory : List ℤ) (nine ten : Bool) (n : ℕ) (g : n ≡
   then-goes-on m h = rw (then-scheme h, then-passes h .0, then-passes h .1, then-passes h .2)
 
 -- The number that the sizes give, by the definitions' own tests.
-module _ (s : Scheme) (z : Sizes) (e : z ≡ sizesOf (s .settings)) (r : ℕ) (g : r ≡ schemeRefusal s) (memory : List ℤ) where
+module _ (s : Scheme) (z : Sizes) (e : z ≡ sizesOf (s .settings)) (r : ℕ) (g : r ≡ schemeRefusal s) (memory : List ℕ) where
   pub refusal-is : (nine ten nine′ ten′ : Bool) → (schemeRefusal s ≡ 0 → nine ≡ nine′) → (schemeRefusal s ≡ 0 → ten ≡ ten′)
       → lengthRefusal r z (length memory) nine ten ≡ refusalThen s memory nine′ ten′ 0
   unfolding refusalThen

@@ -20,7 +20,9 @@ use Rattle.settings.specs.Sizes.{depth}
 use Rattle.block.specs.Points.{arePoints}
 use Rattle.block.specs.Block.{pointsOf}
 use Rattle.mapping.specs.declared.PointTest.{PointTest}
-use Rattle.mapping.specs.PointTests.{isBlank, cellPasses, pointsPass, pointsOnly}
+use Rattle.cellbytes.specs.CellBytes.{numbers}
+use Rattle.cellbytes.proofs.CellBytes.{length-numbers, real-at, imaginary-at}
+use Rattle.mapping.specs.PointTests.{isBlank, cellPasses, pointsPass, allCells, pointsOnly}
 use Rattle.mapping.proofs.PointTests.{points-only}
 use Rattle.channels.specs.Fac.{facBlock}
 use Rattle.channels.specs.Sdc.{sdcConstellation, sdcBlock}
@@ -29,10 +31,7 @@ use Rattle.superframe.specs.Call.{isEmpty, memoryCell}
 use Rattle.superframe.specs.Read.{rowCell, rowPoints}
 use Rattle.cellmemory.proofs.Ring.{delay-even}
 
--- The tests of memory, and of a row at a count.
-abbrev pub memoryTest : Bool → ℕ → PointTest
-memoryTest empties c = record { constellation = c; depth = 1; count = 0; blank = empties }
-
+-- The test of a row at a count.
 abbrev pub rowTest : ℕ → ℕ → ℕ → PointTest
 rowTest c D count = record { constellation = c; depth = D; count = count; blank = false }
 
@@ -45,16 +44,16 @@ not-leb a b = go (below-or b a)
     go (inr h) = rw (le-leb a b h, le-ltb b a h)
 
 module _ (s : Scheme) where
-  memory-cell : (empties : Bool) (memory : List ℤ) (i : ℕ)
-      → cellPasses (memoryTest empties (mscConstellation (s .settings .msc))) memory i ≡ memoryCell empties s memory i
+  memory-cell : (empties : Bool) (memory : List ℕ) (i : ℕ)
+      → cellPasses (allCells (mscConstellation (s .settings .msc)) empties) (numbers memory) i ≡ memoryCell empties s memory i
   unfolding cellPasses memoryCell isBlank isEmpty mscBlock pointsOf
-  memory-cell empties memory i = rw (mod-one i)
+  memory-cell empties memory i = rw (mod-one i, real-at memory i, imaginary-at memory i)
 
-  pub memory-points : (empties : Bool) (n : ℕ) (memory : List ℤ) → length memory ≡ 2 * n
-      → pointsPass (memoryTest empties (mscConstellation (s .settings .msc))) memory ≡ every (table (memoryCell empties s memory) 0 n)
+  pub memory-points : (empties : Bool) (n : ℕ) (memory : List ℕ) → length memory ≡ n
+      → pointsPass (allCells (mscConstellation (s .settings .msc)) empties) (numbers memory) ≡ every (table (memoryCell empties s memory) 0 n)
   unfolding pointsPass
   memory-points empties n memory e =
-      let h : length memory / 2 ≡ n = omega arith in
+      let h : length (numbers memory) / 2 ≡ n = omega (arith, length-numbers memory) in
       rw h (ap every (table-ext _ _ 0 n (λ i a b. memory-cell empties memory i)))
 
   row-cell : (count : ℕ) (row : List ℤ) (i : ℕ) → cellPasses (rowTest (mscConstellation (s .settings .msc)) (depth (s .settings)) count) row i ≡ rowCell s count row i

@@ -35,7 +35,7 @@ unfolding stateOf advanced progressOf
 next-state-is state D p c d h e f = rw (later-is D (state .position) p h e, f, d)
 
 -- It is in order too, with memory of the same length.
-pub next-fits : (state : State) (memory memory′ : List ℤ) → StateFits state memory → length memory′ ≡ length memory → StateFits (nextState state) memory′
+pub next-fits : (state : State) (memory memory′ : List ℕ) → StateFits state memory → length memory′ ≡ length memory → StateFits (nextState state) memory′
 unfolding stateOf advanced progressOf
 next-fits state memory memory′ h e =
     record {
@@ -45,11 +45,11 @@ next-fits state memory memory′ h e =
       slots = e ∙ h .slots;
     }
 
--- The most numbers of memory.
-pub memory-most : {state : State} {memory : List ℤ} → StateFits state memory → length memory ≤ 61180
+-- The most bytes of memory.
+pub memory-most : {state : State} {memory : List ℕ} → StateFits state memory → length memory ≤ 30590
 unfolding slotSize
 memory-most {state} h =
-    let m : depth (state .scheme .settings) * (2 * nMux (state .scheme .settings)) ≤ 5 * (2 * nMux (state .scheme .settings)) =
-    mul-le-mul-right (2 * nMux (state .scheme .settings)) (depth-high (state .scheme .settings))
+    let m : depth (state .scheme .settings) * nMux (state .scheme .settings) ≤ 5 * nMux (state .scheme .settings) =
+    mul-le-mul-right (nMux (state .scheme .settings)) (depth-high (state .scheme .settings))
     in
     omega (arith, h .slots, h .allowed .settings .ranges .muxMost)

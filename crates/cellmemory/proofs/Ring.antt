@@ -83,10 +83,10 @@ previous-later D p d hp hd = go (below-or (d + 1) D) (below-or d (p + 1))
         (previous-more D (p + D - d) (omega arith) ∙ omega arith)
 
 -- A cell of a slot stands within memory.
-pub cell-within : (D n slot place len : ℕ) → slot < D → place < n → len ≡ D * (2 * n) → slot * (2 * n) + 2 * place + 1 < len
+pub cell-within : (D n slot place len : ℕ) → slot < D → place < n → len ≡ D * n → slot * n + place < len
 cell-within D n slot place len h l e =
-    let g : suc slot * (2 * n) ≤ D * (2 * n) = mul-le-mul-right (2 * n) h in
-    omega (arith, native.Mathlib.Nat.suc-mul slot (2 * n))
+    let g : suc slot * n ≤ D * n = mul-le-mul-right n h in
+    omega (arith, native.Mathlib.Nat.suc-mul slot n)
 
 -- Numbers 2i and 2i + 1 of a row belong to cell i.
 pub delay-even : (D i : ℕ) → delay D (2 * i) ≡ i % D

@@ -9,7 +9,9 @@ use lib.Dec.{eqb, leb, ltb}
 use Rattle.settings.specs.declared.Sizes.{Sizes}
 use Rattle.settings.specs.declared.Settings.{Settings}
 use Rattle.settings.specs.Refusal.{first, refusal}
+use Rattle.settings.specs.Lengths.{nMux}
 use Rattle.settings.specs.Sizes.{depth, frameBytes, sdcBytes}
+use Rattle.cellbytes.specs.CellBytes.{cellByte, realOf, imaginaryOf}
 use Rattle.channels.specs.declared.Scheme.{Scheme}
 use Rattle.channels.specs.Scheme.{schemeRefusal, SchemeAccepted}
 use Rattle.superframe.specs.declared.State.{State}
@@ -19,14 +21,14 @@ use Rattle.superframe.specs.Call.{memoryLength}
 use Rattle.superframe.specs.Code.{progressOf, stateOf}
 
 -- State and memory in order: allowed settings and table, position and count below the depth, and memory of its length.
-pub record StateFits (state : State) (memory : List ℤ) : Type 0 where
+pub record StateFits (state : State) (memory : List ℕ) : Type 0 where
   pub allowed : SchemeAccepted (state .scheme)
   pub position : state .position < depth (state .scheme .settings)
   pub count : state .count < depth (state .scheme .settings)
-  pub slots : length memory ≡ depth (state .scheme .settings) * slotSize (state .scheme .settings)
+  pub slots : length memory ≡ depth (state .scheme .settings) * nMux (state .scheme .settings)
 
 -- The same with a row.
-pub record RowLent (state : State) (memory row : List ℤ) : Type 0 where
+pub record RowLent (state : State) (memory : List ℕ) (row : List ℤ) : Type 0 where
   pub fits : StateFits state memory
   pub long : length row ≡ slotSize (state .scheme .settings)
 
@@ -42,18 +44,19 @@ previous D slot = cond (eqb slot 0) (D - 1) (slot - 1)
 unfoldable pub later : ℕ → ℕ → ℕ
 later D d = cond (eqb (d + 1) D) 0 (d + 1)
 
--- A list with the cell from number k of another at a place.
-unfoldable pub cellPut : List ℤ → ℕ → List ℤ → ℕ → List ℤ
-cellPut from k to at = set (set to at (getD from k (pos 0))) (at + 1) (getD from (k + 1) (pos 0))
+-- A row with the cell of a byte at a place.
+unfoldable pub cellPut : ℕ → List ℤ → ℕ → List ℤ
+cellPut b row at = set (set row at (realOf b)) (at + 1) (imaginaryOf b)
 
--- The same, or the list as it was where the cell is ignored.
-unfoldable pub withCell : ℕ → ℕ → List ℤ → ℕ → List ℤ → ℕ → List ℤ
-withCell d count row k memory at = cond (leb d count) (cellPut row k memory at) memory
+-- Memory with the cell from number k of a row at a place, or as it was where the cell is ignored.
+unfoldable pub withCell : ℕ → ℕ → List ℤ → ℕ → List ℕ → ℕ → List ℕ
+withCell d count row k memory at =
+    cond (leb d count) (set memory at (cellByte (getD row k (pos 0)) (getD row (k + 1) (pos 0)))) memory
 
--- What putting a cell requires.
-pub record CellFits (from : List ℤ) (k : ℕ) (to : List ℤ) (at : ℕ) : Type 0 where
-  pub whence : k + 1 < length from
-  pub room : at + 1 < length to
+-- What putting it there requires.
+pub record CellFits (row : List ℤ) (k : ℕ) (memory : List ℕ) (at : ℕ) : Type 0 where
+  pub whence : k + 1 < length row
+  pub room : at < length memory
 
 -- The numbers of the fillers, as many as there can be.
 abbrev pub fillerNumbers : List ℤ
@@ -66,14 +69,14 @@ bytesLong z fac sdc msc = eqb fac 27 && (eqb sdc (z .sdcbytes) && eqb msc (z .ms
 abbrev pub cellsLong : Sizes → ℕ → ℕ → ℕ → Bool
 cellsLong z fac sdc msc = eqb fac (z .facnumbers) && (eqb sdc (z .sdcnumbers) && eqb msc (z .mscnumbers))
 
--- The number of settings and table, and 8 to 10: a memory of so many numbers, and the tests of 9 and 10.
+-- The number of settings and table, and 8 to 10: a memory of so many bytes, and the tests of 9 and 10.
 unfoldable pub lengthRefusal : ℕ → Sizes → ℕ → Bool → Bool → ℕ
-lengthRefusal r z numbers nine ten =
+lengthRefusal r z bytes nine ten =
     first (ltb 0 r) r
-    (first (not (eqb numbers (z .memory))) 8 (first (not nine) 9 (first (not ten) 10 0)))
+    (first (not (eqb bytes (z .memory))) 8 (first (not nine) 9 (first (not ten) 10 0)))
 
 -- The same by settings and table, and what follows: a number m for the tests after 10.
-unfoldable pub refusalThen : Scheme → List ℤ → Bool → Bool → ℕ → ℕ
+unfoldable pub refusalThen : Scheme → List ℕ → Bool → Bool → ℕ → ℕ
 refusalThen s memory nine ten m =
     first (ltb 0 (schemeRefusal s)) (schemeRefusal s)
     (first (not (eqb (length memory) (memoryLength (s .settings)))) 8 (first (not nine) 9 (first (not ten) 10 m)))

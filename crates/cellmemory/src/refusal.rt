@@ -1,8 +1,7 @@
 // Refusals, and the tests that they rest on. 01 "Operations".
 use channels::blocks::msc_constellation;
 use dispersal::bits::spare_zero;
-use mapping::PointTest;
-use mapping::tests::points_pass;
+use mapping::tests::bytes_pass;
 use settings::Settings;
 use settings::Sizes;
 use settings::answers;
@@ -37,14 +36,14 @@ pub fn cells_long(z: Sizes, fac: usize, sdc: usize, msc: usize) -> bool
         & ((sdc == z.sdcnumbers as usize) & (msc == z.mscnumbers as usize))
 }
 
-// The number of settings and table, and 8 to 10: a memory of so many numbers, and the tests of 9 and 10.
-pub fn length_refusal(number: u8, z: Sizes, numbers: usize, nine: bool, ten: bool) -> u8
-    ensures { λ r. ⌜ r ≡ lengthRefusal number z numbers nine ten ⌝ }
+// The number of settings and table, and 8 to 10: a memory of so many bytes, and the tests of 9 and 10.
+pub fn length_refusal(number: u8, z: Sizes, bytes: usize, nine: bool, ten: bool) -> u8
+    ensures { λ r. ⌜ r ≡ lengthRefusal number z bytes nine ten ⌝ }
 {
     if number != 0 {
         return number;
     }
-    if numbers != z.memory as usize {
+    if bytes != z.memory as usize {
         return 8;
     }
     if !nine {
@@ -90,7 +89,7 @@ pub fn spares_zero(s: Settings, sdc: &[u8], msc: &[u8]) -> bool
 }
 
 // 12: position and count are below the depth, and every memory cell is an MSC point, or (0, 0) where empty cells pass.
-pub fn in_order(state: State, empties: bool, memory: &[i16]) -> bool
+pub fn in_order(state: State, empties: bool, memory: &[u8]) -> bool
     requires { ⌜ Fits (state .scheme) (now memory) ⌝ }
     ensures { λ b. ⌜ b ≡ inOrder empties state (now (memory .entry)) ⌝ }
 {
@@ -102,11 +101,5 @@ pub fn in_order(state: State, empties: bool, memory: &[i16]) -> bool
     if depth <= state.count as usize {
         return false;
     }
-    let test = PointTest {
-        constellation: msc_constellation(s.msc),
-        depth: 1,
-        count: 0,
-        blank: empties,
-    };
-    points_pass(test, memory)
+    bytes_pass(msc_constellation(s.msc), empties, memory)
 }

@@ -1,4 +1,7 @@
 // Rows of MSC cells: what memory sends, and a row put back into memory. 01 "Cell interleaving"; 001 clause 7.6.
+use cellbytes::cells::cell_byte;
+use cellbytes::cells::imaginary;
+use cellbytes::cells::real;
 use interleaver::order::next_place;
 use interleaver::order::offset_of;
 use interleaver::order::size_of;
@@ -8,6 +11,7 @@ use settings::tables;
 use superframe::State;
 ghost use mathlib.Core.Path.{_≡_};
 ghost use Prim.Native.Nat.{_+_, _-_, _<_, min};
+ghost use lib.ListN.{length};
 ghost use Rattle.settings.specs.Accepted.{Accepted};
 ghost use Rattle.settings.specs.Sizes.{depth};
 ghost use Rattle.superframe.specs.Memory.{slotSize};
@@ -18,7 +22,7 @@ ghost use Rattle.cellmemory.specs.Contracts.{RowLent, CellFits, nextStat
 // The multiplication of the cell interleaver: t = 5.
 const T: usize = 5;
 
-// The numbers of a slot, of a row and of a multiplex frame's cells.
+// The numbers of a row and of a multiplex frame's cells.
 pub fn slot_size(s: Settings) -> usize
     requires { ⌜ Accepted s ⌝ }
     ensures { λ r. ⌜ r ≡ slotSize s ⌝ }
@@ -75,17 +79,17 @@ pub fn next_state(state: State) -> State
     }
 }
 
-// A cell's two numbers, from one list to another.
-fn copy_cell(from: &[i16], k: usize, to: &mut [i16], at: usize)
-    requires { ⌜ CellFits (now from) k (now to) at ⌝ }
-    ensures { λ r. ⌜ now (to .exit) ≡ cellPut (now (from .entry)) k (now (to .entry)) at ⌝ }
+// A cell's two numbers put into a row.
+fn send_cell(b: u8, row: &mut [i16], at: usize)
+    requires { ⌜ at + 1 < length (now row) ⌝ }
+    ensures { λ r. ⌜ now (row .exit) ≡ cellPut b (now (row .entry)) at ⌝ }
 {
-    to[at] = from[k];
-    to[at + 1] = from[k + 1];
+    row[at] = real(b);
+    row[at + 1] = imaginary(b);
 }
 
 // The sent cells of a frame whose own cells stand in memory at the position: what memory holds, whatever the count.
-pub fn send_row(state: State, memory: &[i16], out: &mut [i16])
+pub fn send_row(state: State, memory: &[u8], out: &mut [i16])
     requires { ⌜ RowLent state (now memory) (now out) ⌝ }
     ensures { λ r. ⌜ now (out .exit) ≡ sentRow (state .scheme .settings) (now (memory .entry)) (state .position) ⌝ }
 {
@@ -98,7 +102,7 @@ pub fn send_row(state: State, memory: &[i16], out: &mut [i16])
     let mut slot = state.position as usize;
     let mut i = 0;
     while i < n {
-        copy_cell(memory, slot * (2 * n) + 2 * place, out, 2 * i);
+        send_cell(memory[slot * n + place], out, 2 * i);
         place = next_place(T, n, s, q, place);
         slot = previous_slot(depth, slot);
         i += 1;
@@ -106,18 +110,18 @@ pub fn send_row(state: State, memory: &[i16], out: &mut [i16])
 }
 
 // A cell of a row put into memory, unless it is of a frame before the first.
-fn take_cell(delay: usize, count: usize, row: &[i16], k: usize, memory: &mut [i16], at: usize)
+fn take_cell(delay: usize, count: usize, row: &[i16], k: usize, memory: &mut [u8], at: usize)
     requires { ⌜ CellFits (now row) k (now memory) at ⌝ }
     ensures { λ r. ⌜ now (memory .exit) ≡ withCell delay count (now (row .entry)) k (now (memory .entry)) at ⌝ }
 {
     if count < delay {
         return;
     }
-    copy_cell(row, k, memory, at);
+    memory[at] = cell_byte(row[k], row[k + 1]);
 }
 
 // The numbers of a row put where the coder took them.
-pub fn take_row(state: State, row: &[i16], memory: &mut [i16])
+pub fn take_row(state: State, row: &[i16], memory: &mut [u8])
     requires { ⌜ RowLent state (now memory) (now row) ⌝ }
     ensures { λ r. ⌜ now (memory .exit) ≡ taken (state .scheme .settings) (progressOf state (now (memory .entry))) (now (row .entry)) ⌝ }
 {
@@ -132,7 +136,7 @@ pub fn take_row(state: State, row: &[i16], memory: &mut [i16])
     let mut delay = 0;
     let mut i = 0;
     while i < n {
-        take_cell(delay, count, row, 2 * i, memory, slot * (2 * n) + 2 * place);
+        take_cell(delay, count, row, 2 * i, memory, slot * n + place);
         place = next_place(T, n, s, q, place);
         slot = previous_slot(depth, slot);
         delay = next_modulo(depth, delay);

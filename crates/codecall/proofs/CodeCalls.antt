@@ -20,7 +20,7 @@ use Rattle.superframe.proofs.Calls.{bytes-fit, code-fits, code-accepts, code-re
 use Rattle.superframe.specs.Contracts.{CodeFits}
 
 -- Code's refusal from 1 to 10, and then 11 and 12.
-module _ (state : State) (memory : List ℤ) (fac sdc msc : List ℕ) (faccells sdccells msccells : List ℤ) (n : ℕ)
+module _ (state : State) (memory : List ℕ) (fac sdc msc : List ℕ) (faccells sdccells msccells : List ℤ) (n : ℕ)
     (g : n ≡ refusalThen (state .scheme) memory (byteLengths (state .scheme .settings) fac sdc msc) (cellLengths (state .scheme .settings) faccells sdccells msccells) 0) where
   code-is : refusalThen (state .scheme) memory (byteLengths (state .scheme .settings) fac sdc msc) (cellLengths (state .scheme .settings) faccells sdccells msccells)
       (first (not (sparesZero (state .scheme .settings) sdc msc)) 11 (first (not (inOrder false state memory)) 12 0))
@@ -57,22 +57,22 @@ module _ (state : State) (memory : List ℤ) (fac sdc msc : List ℕ) (faccells 
     code-none d t l u = sym (code-rest h ∙ rw (← k, t, ← l, u))
 
 -- A refusal leaves everything as it was.
-pub refused-call : (state : State) (memory : List ℤ) (c : CodeCall) (r : ℕ) → r ≡ codeRefusal state memory c → (r ≡ 0 → ⊥)
+pub refused-call : (state : State) (memory : List ℕ) (c : CodeCall) (r : ℕ) → r ≡ codeRefusal state memory c → (r ≡ 0 → ⊥)
     → codeYield (record { refusal = r; state = state }) memory (c .faccells) (c .sdccells) (c .msccells) ≡ codeOf state memory c
 unfolding codeRefused
 refused-call state memory c r e h = sym (code-refuses state memory c r (sym e) (omega arith))
 
 -- Number 0 gives the facts of acceptance, and what acceptance yields is what the call yields.
-pub passed-call : (state : State) (memory : List ℤ) (c : CodeCall) (r : ℕ) → r ≡ codeRefusal state memory c → r ≡ 0 → CodeFits state memory c
+pub passed-call : (state : State) (memory : List ℕ) (c : CodeCall) (r : ℕ) → r ≡ codeRefusal state memory c → r ≡ 0 → CodeFits state memory c
 passed-call state memory c r e h = code-fits state memory c (sym e ∙ h)
 
-pub done-call : (state : State) (memory : List ℤ) (c : CodeCall) (r : ℕ) (y : CodeYield) → r ≡ codeRefusal state memory c → r ≡ 0
+pub done-call : (state : State) (memory : List ℕ) (c : CodeCall) (r : ℕ) (y : CodeYield) → r ≡ codeRefusal state memory c → r ≡ 0
     → y ≡ codeAccepted state memory c → y ≡ codeOf state memory c
 done-call state memory c r y e h g = g ∙ sym (code-accepts state memory c (sym e ∙ h))
 
 -- What the parts of an accepted call yield.
-pub accepted-call : (state : State) (memory : List ℤ) (fac sdc msc : List ℕ) (faccells sdccells msccells : List ℤ)
-    (state′ : State) (memory′ faccells′ sdccells′ msccells′ : List ℤ) → MscCoded state msc memory state′ memory′ msccells′
+pub accepted-call : (state : State) (memory : List ℕ) (fac sdc msc : List ℕ) (faccells sdccells msccells : List ℤ)
+    (state′ : State) (memory′ : List ℕ) (faccells′ sdccells′ msccells′ : List ℤ) → MscCoded state msc memory state′ memory′ msccells′
     → faccells′ ≡ joined (map (cellsFrom (facBlock (state .scheme))) (parts 9 fac)) → sdccells′ ≡ cellsFrom (sdcBlock (state .scheme)) sdc
     → codeYield (record { refusal = 0; state = state′ }) memory′ faccells′ sdccells′ msccells′
     ≡ codeAccepted state memory (codeCall fac sdc msc faccells sdccells msccells)

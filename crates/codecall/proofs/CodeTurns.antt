@@ -1,21 +1,27 @@
 -- Coding frame after frame. Assumes nothing.
 use mathlib.Core.Path.{_≡_, refl, sym, ap, ap₂, _∙_}
 use mathlib.Core.List.{List, [], _∷_, _++_, map, append-nil, append-assoc}
-use Prim.Native.Nat.{ℕ, _+_, _-_, _*_, _≤_, _<_}
+use Prim.Native.Nat.{ℕ, _+_, _-_, _*_, _/_, _≤_, _<_}
 use native.Mathlib.Numerals.{add-one}
-use native.Mathlib.Nat.{mul-suc, mul-zero, mul-comm, zero-add}
+use native.Mathlib.Nat.{mul-suc, mul-zero, mul-comm, mul-left-comm, zero-add}
 use native.Mathlib.Omega.{arith}
 use lib.ListN.{length, take, drop, length-drop}
 use lib.IntN.{ℤ}
 use lib.Seq.{sets, length-sets, length-take-le, drop-length}
 use borrow.Rule.Slice.PartMut.{putMid, post-is}
 use Rattle.lists.specs.Lists.{table}
+use Rattle.lists.specs.Buffers.{Long}
 use Rattle.lists.proofs.Tables.{length-table, table-add, map-table}
+use Rattle.lists.proofs.Parts.{length-start, part-again}
+use Rattle.cellbytes.specs.CellBytes.{bytes}
+use Rattle.cellbytes.proofs.CellBytes.{length-bytes}
 use Rattle.settings.specs.declared.Settings.{Settings}
 use Rattle.settings.specs.Lengths.{nMux, nSfa}
 use Rattle.settings.specs.Cells.{facCells}
 use Rattle.settings.specs.Sizes.{depth, frameBytes}
 use Rattle.block.specs.Block.{cellsFrom}
+use Rattle.block.specs.Fits.{BlockLent}
+use Rattle.channels.proofs.Lent.{msc-lent}
 use Rattle.block.proofs.Blocks.{length-cells}
 use Rattle.channels.specs.Fac.{facBlock}
 use Rattle.channels.specs.Msc.{mscBlock}
@@ -25,11 +31,11 @@ use Rattle.superframe.specs.Memory.{stored, slotSize}
 use Rattle.superframe.specs.Interleaving.{Progress, advanced, afterFrames, sentRow, sentRows, fillers}
 use Rattle.superframe.specs.Call.{part, parts}
 use Rattle.superframe.specs.Code.{frameCells, progressOf, stateOf}
-use Rattle.superframe.proofs.Memory.{slot-before}
+use Rattle.superframe.proofs.Memory.{slot-before, length-stored}
 use Rattle.cellmemory.specs.Contracts.{StateFits, RowLent, nextState, fillerNumbers}
 use Rattle.cellmemory.proofs.Laid.{put-sets, take-sets, part-within, part-below, part-is, length-mid}
 use Rattle.cellmemory.proofs.Progress.{next-fits}
-use Rattle.codecall.specs.Contracts.{FrameFits, FrameCoded, MscFits, MscCoded, framesAfter, framesSent}
+use Rattle.codecall.specs.Contracts.{frameStored, FrameFits, FrameCoded, MscFits, MscCoded, framesAfter, framesSent}
 
 -- The numbers of a block's cells.
 pub fac-long : (s : Scheme) (bytes : List ℕ) → length (cellsFrom (facBlock s) bytes) ≡ 130
@@ -40,29 +46,53 @@ pub frame-long : (s : Scheme) (bytes : List ℕ) → length (cellsFrom (mscBlock
 unfolding cellsFrom mscBlock slotSize
 frame-long s bytes = length-cells (mscBlock s) _
 
--- A frame's cells in their slot: memory after them, and a row can be sent.
-module _ (state : State) (bytes : List ℕ) (memory row : List ℤ) (h : FrameFits state bytes memory row) (n : ℕ) (f : n ≡ slotSize (state .scheme .settings)) where
-  pub slot-within : state .position * n + n ≤ length memory
-  slot-within = rw f (omega (arith, h .lent .fits .slots, slot-before (slotSize (state .scheme .settings)) (state .position) (depth (state .scheme .settings)) (h .lent .fits .position)))
+-- A frame's cells in their slot: a working buffer has room for them, and memory has the slot.
+module _ (state : State) (input memory : List ℕ) (h : StateFits state memory) (i : length input ≡ frameBytes (state .scheme .settings))
+    (n : ℕ) (f : n ≡ slotSize (state .scheme .settings)) (buffer : List ℤ) (l : Long 12236 buffer) where
+  half : n / 2 ≡ nMux (state .scheme .settings)
+  unfolding slotSize
+  half = omega arith
 
-  module _ (last : List ℤ) (e : last ≡ cellsFrom (mscBlock (state .scheme)) bytes) where
-    stored-is : putMid (state .position * n) (state .position * n + n - state .position * n) memory last ≡ sets memory (state .position * n) last
-    stored-is =
-        let l : length last ≡ n = ap length e ∙ frame-long (state .scheme) bytes ∙ sym f in
-        put-sets (state .position * n) (state .position * n + n) memory last (omega arith) slot-within (omega arith)
+  pub frame-room : n ≤ length buffer
+  unfolding slotSize
+  frame-room = omega (arith, l .long, f, h .allowed .settings .ranges .muxMost)
 
-    pub frame-stored : putMid (state .position * n) (state .position * n + n - state .position * n) memory last
-        ≡ stored (slotSize (state .scheme .settings)) memory (state .position) (cellsFrom (mscBlock (state .scheme)) bytes)
-    unfolding stored
-    frame-stored = stored-is ∙ rw (f, e)
+  pub frame-lent : BlockLent (mscBlock (state .scheme)) input (take (n - 0) buffer)
+  unfolding slotSize
+  frame-lent = msc-lent (h .allowed) i (length-start n buffer frame-room ∙ f)
 
-    pub frame-sends : RowLent state (putMid (state .position * n) (state .position * n + n - state .position * n) memory last) row
-    frame-sends =
-        let w = h .lent .fits in
-        record {
-          fits = record { allowed = w .allowed; position = w .position; count = w .count; slots = ap length stored-is ∙ length-sets memory (state .position * n) last ∙ w .slots };
-          long = h .lent .long;
-        }
+  pub slot-within : state .position * (n / 2) + n / 2 ≤ length memory
+  slot-within =
+      rw half (omega (arith, h .slots, slot-before (nMux (state .scheme .settings)) (state .position) (depth (state .scheme .settings)) (h .position)))
+
+  module _ (coded : List ℤ) (k : length coded ≡ length (take (n - 0) buffer)) where
+    coded-long : length coded ≡ 2 * (n / 2)
+    unfolding slotSize
+    coded-long = k ∙ length-start n buffer frame-room ∙ omega (arith, f)
+
+    pub packs : length (take (n - 0) (coded ++ drop (n - 0) buffer))
+        ≡ 2 * length (take (state .position * (n / 2) + n / 2 - state .position * (n / 2)) (drop (state .position * (n / 2)) memory))
+    packs = rw (part-again buffer coded n frame-room k, length-mid (state .position * (n / 2)) (n / 2) memory slot-within) coded-long
+
+    pub frame-stored : (last : List ℕ) → last ≡ bytes (take (n - 0) (coded ++ drop (n - 0) buffer)) → coded ≡ cellsFrom (mscBlock (state .scheme)) input
+        → putMid (state .position * (n / 2)) (state .position * (n / 2) + n / 2 - state .position * (n / 2)) memory last ≡ frameStored state input memory
+    unfolding stored slotSize
+    frame-stored last e g =
+        let m = nMux (state .scheme .settings) in
+        let at : state .position * (2 * m) / 2 ≡ state .position * (n / 2) = omega (arith, mul-left-comm (state .position) 2 m, ap (λ x. state .position * x) half) in
+        let c : last ≡ bytes coded = e ∙ ap bytes (part-again buffer coded n frame-room k) in
+        let w : length last ≡ n / 2 = ap length c ∙ length-bytes coded ∙ omega (arith, coded-long) in
+        put-sets (state .position * (n / 2)) (state .position * (n / 2) + n / 2) memory last (omega arith) slot-within (omega arith) ∙ rw (at, c, g)
+
+-- Then a row can be sent.
+pub frame-sends : (state : State) (input memory memory′ : List ℕ) (row : List ℤ) → FrameFits state input memory row → memory′ ≡ frameStored state input memory
+    → RowLent state memory′ row
+frame-sends state input memory memory′ row h e =
+    let w = h .lent .fits in
+    record {
+      fits = record { allowed = w .allowed; position = w .position; count = w .count; slots = ap length e ∙ length-stored (slotSize (state .scheme .settings)) memory (state .position) (cellsFrom (mscBlock (state .scheme)) input) ∙ w .slots };
+      long = h .lent .long;
+    }
 
 -- One frame more: the progress after it, and the rows with its own.
 module _ (s : Settings) where
@@ -88,7 +118,7 @@ frames-more s msc i =
     map-table _ _ 0 (i + 1) ∙ table-add (λ k. cellsFrom (mscBlock s) (part (frameBytes (s .settings)) msc k)) 0 i 1 ∙ rw (zero-add i, map-table (cellsFrom (mscBlock s)) (part (frameBytes (s .settings)) msc) 0 i)
 
 -- What coding frame after frame holds before frame i: state, memory and rows are those after the first i frames.
-pub record Coding (state : State) (msc : List ℕ) (memory₀ cells₀ : List ℤ) (n len : ℕ) (memory cells : List ℤ) (after : State) (i : ℕ) : Type 0 where
+pub record Coding (state : State) (msc : List ℕ) (memory₀ : List ℕ) (cells₀ : List ℤ) (n len : ℕ) (memory : List ℕ) (cells : List ℤ) (after : State) (i : ℕ) : Type 0 where
   pub lent : MscFits state msc memory₀ cells₀
   pub numbers-are : n ≡ slotSize (state .scheme .settings)
   pub bytes-are : len ≡ frameBytes (state .scheme .settings)
@@ -100,7 +130,7 @@ pub record Coding (state : State) (msc : List ℕ) (memory₀ cells₀ : List �
   pub long : length cells ≡ length cells₀
   pub sent : take (n * i) cells ≡ framesSent state memory₀ (frames-to (state .scheme) msc i)
 
-module _ (state : State) (msc : List ℕ) (memory₀ cells₀ : List ℤ) (n len : ℕ) where
+module _ (state : State) (msc : List ℕ) (memory₀ : List ℕ) (cells₀ : List ℤ) (n len : ℕ) where
   pub coding-start : MscFits state msc memory₀ cells₀ → n ≡ slotSize (state .scheme .settings) → len ≡ frameBytes (state .scheme .settings)
       → Coding state msc memory₀ cells₀ n len memory₀ cells₀ state 0
   unfolding stateOf progressOf afterFrames sentRows table
@@ -118,7 +148,7 @@ module _ (state : State) (msc : List ℕ) (memory₀ cells₀ : List ℤ) (n len
         sent = rw mul-zero;
       }
 
-  module _ (memory cells : List ℤ) (after : State) (i : ℕ) (w : Coding state msc memory₀ cells₀ n len memory cells after i) where
+  module _ (memory : List ℕ) (cells : List ℤ) (after : State) (i : ℕ) (w : Coding state msc memory₀ cells₀ n len memory cells after i) where
     -- The rows lie within the cells.
     pub rows-within : 3 * n ≤ length cells
     unfolding slotSize
@@ -140,7 +170,7 @@ module _ (state : State) (msc : List ℕ) (memory₀ cells₀ : List ℤ) (n len
           input = length-mid (len * i) len msc (b .0) ∙ w .bytes-are ∙ ap frameBytes (sym settings-are);
         }
 
-    pub coding-turn : (memory′ row : List ℤ) (after′ : State) → i < 3
+    pub coding-turn : (memory′ : List ℕ) (row : List ℤ) (after′ : State) → i < 3
         → FrameCoded after (take (len * i + len - len * i) (drop (len * i) msc)) memory memory′ row → length memory′ ≡ length memory → after′ ≡ nextState after
         → Coding state msc memory₀ cells₀ n len memory′ (putMid (n * i) (n * i + n - n * i) cells row) after′ (i + 1)
     unfolding stateOf advanced progressOf

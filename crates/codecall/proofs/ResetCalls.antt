@@ -6,7 +6,6 @@ use mathlib.Core.List.{List}
 use Prim.Native.Nat.{ℕ, _≤_, _<_}
 use native.Mathlib.Omega.{arith}
 use lib.ListN.{length}
-use lib.IntN.{ℤ}
 use Rattle.lists.proofs.Counting.{below-or}
 use Rattle.settings.specs.declared.Sizes.{Sizes}
 use Rattle.settings.specs.Refusal.{first}
@@ -24,7 +23,7 @@ use Rattle.cellmemory.proofs.Chains.{scheme-refused, scheme-allowed}
 use Rattle.codecall.specs.Contracts.{resetYield}
 
 -- Where neither 9 nor 10 can apply, 1 to 8 are those of Reset.
-reset-is : (s : Scheme) (z : Sizes) → z ≡ sizesOf (s .settings) → (n : ℕ) → n ≡ schemeRefusal s → (memory : List ℤ)
+reset-is : (s : Scheme) (z : Sizes) → z ≡ sizesOf (s .settings) → (n : ℕ) → n ≡ schemeRefusal s → (memory : List ℕ)
     → lengthRefusal n z (length memory) true true ≡ resetRefusal s memory
 unfolding resetRefusal first
 reset-is s z e n f memory = go (below-or 0 (schemeRefusal s))
@@ -34,7 +33,7 @@ reset-is s z e n f memory = go (below-or 0 (schemeRefusal s))
     go (inr h) = scheme-allowed s z e n f (length memory) true true (omega arith)
 
 -- Reset from its refusal.
-module _ (old : State) (s : Scheme) (memory : List ℤ) (z : Sizes) (e : z ≡ sizesOf (s .settings)) (n : ℕ) (f : n ≡ schemeRefusal s)
+module _ (old : State) (s : Scheme) (memory : List ℕ) (z : Sizes) (e : z ≡ sizesOf (s .settings)) (n : ℕ) (f : n ≡ schemeRefusal s)
     (r : ℕ) (g : r ≡ lengthRefusal n z (length memory) true true) where
   is-zero : r ≡ 0 → resetRefusal s memory ≡ 0
   is-zero h = sym (reset-is s z e n f memory) ∙ sym g ∙ h
@@ -50,7 +49,7 @@ module _ (old : State) (s : Scheme) (memory : List ℤ) (z : Sizes) (e : z ≡ s
   pub reset-lent : (t : Scheme) → r ≡ 0 → t ≡ s → Fits t memory
   reset-lent t h j = rw j (reset-fits old s memory (is-zero h))
 
-  pub accepted-reset : (t : Scheme) (m : List ℤ) → r ≡ 0 → t ≡ s → m ≡ startMemory t
+  pub accepted-reset : (t : Scheme) (m : List ℕ) → r ≡ 0 → t ≡ s → m ≡ startMemory t
       → resetYield (record { refusal = 0; state = record { scheme = t; position = 0; count = 0 } }) m ≡ resetOf old s memory
   unfolding startState
   accepted-reset t m h j k = sym (reset-accepts old s memory (is-zero h) ∙ rw (k, j))

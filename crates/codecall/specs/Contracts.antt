@@ -17,7 +17,7 @@ use Rattle.superframe.specs.Reset.{ResetYield}
 use Rattle.cellmemory.specs.Contracts.{StateFits, RowLent}
 
 -- What a Reset yields, from its result and memory as it leaves it.
-abbrev pub resetYield : Done → List ℤ → ResetYield
+abbrev pub resetYield : Done → List ℕ → ResetYield
 resetYield done memory = record { done = done; memory = memory }
 
 -- What a Code call is lent, and what it yields.
@@ -25,35 +25,40 @@ abbrev pub codeCall : List ℕ → List ℕ → List ℕ → List ℤ → List �
 codeCall fac sdc msc faccells sdccells msccells =
     record { fac = fac; sdc = sdc; msc = msc; faccells = faccells; sdccells = sdccells; msccells = msccells }
 
-abbrev pub codeYield : Done → List ℤ → List ℤ → List ℤ → List ℤ → CodeYield
+abbrev pub codeYield : Done → List ℕ → List ℤ → List ℤ → List ℤ → CodeYield
 codeYield done memory faccells sdccells msccells =
     record { done = done; memory = memory; faccells = faccells; sdccells = sdccells; msccells = msccells }
 
+-- Memory with a frame's cells at the position.
+abbrev pub frameStored : State → List ℕ → List ℕ → List ℕ
+frameStored state input memory =
+    stored (slotSize (state .scheme .settings)) memory (state .position) (cellsFrom (mscBlock (state .scheme)) input)
+
 -- A frame's bytes, memory and a row.
-pub record FrameFits (state : State) (bytes : List ℕ) (memory row : List ℤ) : Type 0 where
+pub record FrameFits (state : State) (bytes memory : List ℕ) (row : List ℤ) : Type 0 where
   pub lent : RowLent state memory row
   pub input : length bytes ≡ frameBytes (state .scheme .settings)
 
 -- The frame's cells in memory, and the row that is sent then.
-pub record FrameCoded (state : State) (bytes : List ℕ) (memory memory′ row : List ℤ) : Type 0 where
-  pub held : memory′ ≡ stored (slotSize (state .scheme .settings)) memory (state .position) (cellsFrom (mscBlock (state .scheme)) bytes)
+pub record FrameCoded (state : State) (bytes memory memory′ : List ℕ) (row : List ℤ) : Type 0 where
+  pub held : memory′ ≡ frameStored state bytes memory
   pub sent : row ≡ sentRow (state .scheme .settings) memory′ (state .position)
 
 -- The packed bytes of three frames, memory, and room for the MSC sequence.
-pub record MscFits (state : State) (msc : List ℕ) (memory cells : List ℤ) : Type 0 where
+pub record MscFits (state : State) (msc memory : List ℕ) (cells : List ℤ) : Type 0 where
   pub fits : StateFits state memory
   pub input : length msc ≡ 3 * frameBytes (state .scheme .settings)
   pub numbers : length cells ≡ 2 * nSfa (state .scheme .settings)
 
 -- The progress after the first frames of a call, and the rows that they send.
-abbrev pub framesAfter : State → List ℤ → List (List ℤ) → Progress
+abbrev pub framesAfter : State → List ℕ → List (List ℤ) → Progress
 framesAfter state memory fs = afterFrames (state .scheme .settings) (progressOf state memory) fs
 
-abbrev pub framesSent : State → List ℤ → List (List ℤ) → List ℤ
+abbrev pub framesSent : State → List ℕ → List (List ℤ) → List ℤ
 framesSent state memory fs = sentRows (state .scheme .settings) (progressOf state memory) fs
 
 -- The state and memory after the frames, and their rows with the fillers.
-pub record MscCoded (state : State) (msc : List ℕ) (memory : List ℤ) (state′ : State) (memory′ cells : List ℤ) : Type 0 where
+pub record MscCoded (state : State) (msc memory : List ℕ) (state′ : State) (memory′ : List ℕ) (cells : List ℤ) : Type 0 where
   pub after : state′ ≡ stateOf (state .scheme) (framesAfter state memory (frameCells (state .scheme) msc))
   pub held : memory′ ≡ framesAfter state memory (frameCells (state .scheme) msc) .memory
   pub sent : cells ≡ framesSent state memory (frameCells (state .scheme) msc) ++ fillers (state .scheme .settings)

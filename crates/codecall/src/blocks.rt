@@ -1,5 +1,7 @@
 // The blocks of a Code call: the cells of the FAC blocks, and the rows and fillers of the multiplex frames. 01 "Buffers and state" and "Operations".
+use block::buffers::coordinate_buffer;
 use blockcoder::code::code_block;
+use cellbytes::cells::to_bytes;
 use cellmemory::fillers::write_fillers;
 use cellmemory::rows::next_state;
 use cellmemory::rows::send_row;
@@ -16,9 +18,11 @@ ghost use mathlib.Core.List.{map};
 ghost use lib.ListN.{length};
 ghost use Rattle.block.specs.Block.{cellsFrom};
 ghost use Rattle.patterns.specs.Loaded.{Allowed};
+ghost use Rattle.settings.specs.Sizes.{frameBytes};
+ghost use Rattle.cellmemory.specs.Contracts.{StateFits};
 ghost use Rattle.channels.specs.Fac.{facBlock};
 ghost use Rattle.superframe.specs.Call.{parts, joined};
-ghost use Rattle.codecall.specs.Contracts.{FrameFits, FrameCoded, MscFits, MscCoded};
+ghost use Rattle.codecall.specs.Contracts.{frameStored, FrameFits, FrameCoded, MscFits, MscCoded};
 
 // The cells of three FAC blocks.
 pub fn code_fac(s: Scheme, fac: &[u8], cells: &mut [i16])
@@ -36,20 +40,30 @@ pub fn code_fac(s: Scheme, fac: &[u8], cells: &mut [i16])
     }
 }
 
-// A frame's cells stored at the position, and the row that is sent then.
-fn code_frame(state: State, bytes: &[u8], memory: &mut [i16], row: &mut [i16])
-    requires { ⌜ FrameFits state (now bytes) (now memory) (now row) ⌝ }
-    ensures { λ r. ⌜ FrameCoded state (now (bytes .entry)) (now (memory .entry)) (now (memory .exit)) (now (row .exit)) ⌝ }
+// A frame's cells stored at the position, a byte for each.
+fn store_frame(state: State, bytes: &[u8], memory: &mut [u8])
+    requires { ⌜ StateFits state (now memory) × (length (now bytes) ≡ frameBytes (state .scheme .settings)) ⌝ }
+    ensures { λ r. ⌜ now (memory .exit) ≡ frameStored state (now (bytes .entry)) (now (memory .entry)) ⌝ }
 {
     let scheme = state.scheme;
     let n = slot_size(scheme.settings);
-    let at = state.position as usize * n;
-    code_block(msc_block(scheme), bytes, &mut memory[at..at + n]);
+    let mut frame = coordinate_buffer();
+    code_block(msc_block(scheme), bytes, &mut frame[0..n]);
+    let at = state.position as usize * (n / 2);
+    to_bytes(&frame[0..n], &mut memory[at..at + n / 2]);
+}
+
+// The same, and the row that is sent then.
+fn code_frame(state: State, bytes: &[u8], memory: &mut [u8], row: &mut [i16])
+    requires { ⌜ FrameFits state (now bytes) (now memory) (now row) ⌝ }
+    ensures { λ r. ⌜ FrameCoded state (now (bytes .entry)) (now (memory .entry)) (now (memory .exit)) (now (row .exit)) ⌝ }
+{
+    store_frame(state, bytes, memory);
     send_row(state, memory, row);
 }
 
 // The MSC sequence, three rows and the fillers, and the state after it.
-pub fn code_msc(state: State, msc: &[u8], memory: &mut [i16], cells: &mut [i16]) -> State
+pub fn code_msc(state: State, msc: &[u8], memory: &mut [u8], cells: &mut [i16]) -> State
     requires { ⌜ MscFits state (now msc) (now memory) (now cells) ⌝ }
     ensures { λ r. ⌜ MscCoded state (now (msc .entry)) (now (memory .entry)) r (now (memory .exit)) (now (cells .exit)) ⌝ }
 {

@@ -14,7 +14,7 @@ ghost use Rattle.superframe.specs.Reset.{resetOf};
 ghost use Rattle.codecall.specs.Contracts.{resetYield};
 
 // Acceptance fills memory with the cells of frames before the first, takes the settings and the table and sets position and count to 0; a refusal gives the old state back.
-pub fn reset_table(old: State, settings: Settings, table: &[u8], memory: &mut [i16]) -> Done
+pub fn reset_table(old: State, settings: Settings, table: &[u8], memory: &mut [u8]) -> Done
     ensures { λ r. ⌜ resetYield r (now (memory .exit)) ≡ resetOf old (schemeOf settings (now (table .entry))) (now (memory .entry)) ⌝ }
 {
     let number = refusal_with(settings, table);
@@ -39,7 +39,7 @@ pub fn reset_table(old: State, settings: Settings, table: &[u8], memory: &mut [i
 }
 
 // The same with the standard's table.
-pub fn reset(old: State, settings: Settings, memory: &mut [i16]) -> Done
+pub fn reset(old: State, settings: Settings, memory: &mut [u8]) -> Done
     ensures { λ r. ⌜ resetYield r (now (memory .exit)) ≡ resetOf old (standardScheme settings) (now (memory .entry)) ⌝ }
 {
     let table = standard_table();

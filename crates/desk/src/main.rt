@@ -68,7 +68,7 @@ fn fill(bytes: &mut [u8]) -> Next {
 }
 
 // A super frame whose bytes have come.
-fn pass(job: Job, state: State, bytes: &[u8], memory: &mut [i16], out: &mut [u8]) -> Turn {
+fn pass(job: Job, state: State, bytes: &[u8], memory: &mut [u8], out: &mut [u8]) -> Turn {
     let step = superframes::step(job, state, bytes, memory, out);
     let n = step.length;
     let written = io::write_all(STDOUT_FILENO, &out[0..n]);
@@ -81,7 +81,7 @@ fn pass(job: Job, state: State, bytes: &[u8], memory: &mut [i16], out: &mut [u8]
 }
 
 // The next super frame.
-fn take(job: Job, state: State, bytes: &mut [u8], memory: &mut [i16], out: &mut [u8]) -> Turn {
+fn take(job: Job, state: State, bytes: &mut [u8], memory: &mut [u8], out: &mut [u8]) -> Turn {
     let got = fill(bytes);
     match got {
         Next::On => pass(job, state, bytes, memory, out),
@@ -93,7 +93,7 @@ fn take(job: Job, state: State, bytes: &mut [u8], memory: &mut [i16], out: &mut 
 }
 
 // Super frames up to the first end. A loop that is proved to end counts its turns.
-fn run(job: Job, start: State, bytes: &mut [u8], memory: &mut [i16], out: &mut [u8]) {
+fn run(job: Job, start: State, bytes: &mut [u8], memory: &mut [u8], out: &mut [u8]) {
     let mut state = start;
     let mut count: u64 = 0;
     while count < u64::MAX {
@@ -111,7 +111,7 @@ fn run(job: Job, start: State, bytes: &mut [u8], memory: &mut [i16], out: &mut [
 }
 
 // A run from a reset; settings that it refuses are refused at the first super frame too.
-fn run_settings(job: Job, s: Settings, bytes: &mut [u8], memory: &mut [i16], out: &mut [u8]) {
+fn run_settings(job: Job, s: Settings, bytes: &mut [u8], memory: &mut [u8], out: &mut [u8]) {
     let old = State {
         scheme: standard_scheme(s),
         position: 0,

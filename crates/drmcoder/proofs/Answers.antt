@@ -37,20 +37,20 @@ pub read-refused : (a : Answer) (state : State) (bytes : List ℕ) (r number blo
 unfolding answerWord answerNumber answerBlock answerFrames stateRead
 read-refused a state bytes r number block e er = (rw e (omega arith), rw e refl)
 
-pub reset-right : (state settings table : List ℕ) (memory : List ℤ) (old : State) (s : Settings) (y : ResetYield) (r : ℕ) (state′ : List ℕ)
+pub reset-right : (state settings table : List ℕ) (memory : List ℕ) (old : State) (s : Settings) (y : ResetYield) (r : ℕ) (state′ : List ℕ)
     → length state ≡ 208 → length settings ≡ 10 → old ≡ stateOf state → s ≡ settingsOf settings → y ≡ resetOf old (schemeOf s table) memory
     → r ≡ y .done .refusal → state′ ≡ stateAfter (y .done) state → resetYields r state′ (y .memory) ≡ resetBytes state settings table memory
 unfolding resetBytes resetAnswered
 reset-right state settings table memory old s y r state′ hs ht eo es ey er e′ =
     rw (er, e′, ey, es, eo) (both-right _ _ _ _ _ _ hs ht)
 
-pub code-right : (state : List ℕ) (memory : List ℤ) (c : CodeCall) (old : State) (y : CodeYield) (r : ℕ) (state′ : List ℕ)
+pub code-right : (state : List ℕ) (memory : List ℕ) (c : CodeCall) (old : State) (y : CodeYield) (r : ℕ) (state′ : List ℕ)
     → length state ≡ 208 → old ≡ stateOf state → y ≡ codeOf old memory c → r ≡ y .done .refusal → state′ ≡ stateAfter (y .done) state
     → codeYields r state′ (y .memory) (y .faccells) (y .sdccells) (y .msccells) ≡ codeBytes state memory c
 unfolding codeBytes codeAnswered
 code-right state memory c old y r state′ hs eo ey er e′ = rw (er, e′, ey, eo, eq-eqb (length state) 208 hs)
 
-pub read-right : (state : List ℕ) (memory : List ℤ) (c : ReadCall) (old : State) (y : ReadYield) (r : ℕ) (state′ : List ℕ)
+pub read-right : (state : List ℕ) (memory : List ℕ) (c : ReadCall) (old : State) (y : ReadYield) (r : ℕ) (state′ : List ℕ)
     → length state ≡ 208 → old ≡ stateOf state → y ≡ readOf old memory c → r ≡ answerWord (y .reading .answer)
     → state′ ≡ stateRead (y .reading .answer) (y .reading .state) state
     → readYields r state′ (y .memory) (y .fac) (y .sdc) (y .msc) ≡ readBytes state memory c

@@ -19,12 +19,12 @@ use Rattle.drmcoder.specs.Bytes.{settingsOf, stateOf, stateBytes}
 pub record ResetBytes : Type 0 where
   pub answer : ℕ
   pub state : List ℕ
-  pub memory : List ℤ
+  pub memory : List ℕ
 
 pub record CodeBytes : Type 0 where
   pub answer : ℕ
   pub state : List ℕ
-  pub memory : List ℤ
+  pub memory : List ℕ
   pub faccells : List ℤ
   pub sdccells : List ℤ
   pub msccells : List ℤ
@@ -32,20 +32,20 @@ pub record CodeBytes : Type 0 where
 pub record ReadBytes : Type 0 where
   pub answer : ℕ
   pub state : List ℕ
-  pub memory : List ℤ
+  pub memory : List ℕ
   pub fac : List ℕ
   pub sdc : List ℕ
   pub msc : List ℕ
 
 -- The same from their parts.
-abbrev pub resetYields : ℕ → List ℕ → List ℤ → ResetBytes
+abbrev pub resetYields : ℕ → List ℕ → List ℕ → ResetBytes
 resetYields answer state memory = record { answer = answer; state = state; memory = memory }
 
-abbrev pub codeYields : ℕ → List ℕ → List ℤ → List ℤ → List ℤ → List ℤ → CodeBytes
+abbrev pub codeYields : ℕ → List ℕ → List ℕ → List ℤ → List ℤ → List ℤ → CodeBytes
 codeYields answer state memory faccells sdccells msccells =
     record { answer = answer; state = state; memory = memory; faccells = faccells; sdccells = sdccells; msccells = msccells }
 
-abbrev pub readYields : ℕ → List ℕ → List ℤ → List ℕ → List ℕ → List ℕ → ReadBytes
+abbrev pub readYields : ℕ → List ℕ → List ℕ → List ℕ → List ℕ → List ℕ → ReadBytes
 readYields answer state memory fac sdc msc =
     record { answer = answer; state = state; memory = memory; fac = fac; sdc = sdc; msc = msc }
 
@@ -57,7 +57,7 @@ stateAfter done bytes = cond (eqb (done .refusal) 0) (stateBytes (done .state)) 
 unfoldable pub resetAnswered : ResetYield → List ℕ → ResetBytes
 resetAnswered y state = resetYields (y .done .refusal) (stateAfter (y .done) state) (y .memory)
 
-unfoldable pub resetBytes : List ℕ → List ℕ → List ℕ → List ℤ → ResetBytes
+unfoldable pub resetBytes : List ℕ → List ℕ → List ℕ → List ℕ → ResetBytes
 resetBytes state settings table memory =
     cond (eqb (length state) 208 && eqb (length settings) 10)
     (resetAnswered (resetOf (stateOf state) (schemeOf (settingsOf settings) table) memory) state)
@@ -68,7 +68,7 @@ unfoldable pub codeAnswered : CodeYield → List ℕ → CodeBytes
 codeAnswered y state =
     codeYields (y .done .refusal) (stateAfter (y .done) state) (y .memory) (y .faccells) (y .sdccells) (y .msccells)
 
-unfoldable pub codeBytes : List ℕ → List ℤ → CodeCall → CodeBytes
+unfoldable pub codeBytes : List ℕ → List ℕ → CodeCall → CodeBytes
 codeBytes state memory c =
     cond (eqb (length state) 208) (codeAnswered (codeOf (stateOf state) memory c) state)
     (codeYields 255 state memory (c .faccells) (c .sdccells) (c .msccells))
@@ -88,7 +88,7 @@ readAnswered y state =
     readYields (answerWord (y .reading .answer)) (stateRead (y .reading .answer) (y .reading .state) state)
     (y .memory) (y .fac) (y .sdc) (y .msc)
 
-unfoldable pub readBytes : List ℕ → List ℤ → ReadCall → ReadBytes
+unfoldable pub readBytes : List ℕ → List ℕ → ReadCall → ReadBytes
 readBytes state memory c =
     cond (eqb (length state) 208) (readAnswered (readOf (stateOf state) memory c) state)
     (readYields (256 * 255) state memory (c .fac) (c .sdc) (c .msc))

@@ -54,7 +54,7 @@ fn finish_read(reading: Reading, bytes: &mut [u8]) -> u16
 }
 
 // Begins a run of settings and a table on a memory.
-fn reset_bytes(state: &mut [u8], settings: &[u8], table: &[u8], memory: &mut [i16]) -> u8
+fn reset_bytes(state: &mut [u8], settings: &[u8], table: &[u8], memory: &mut [u8]) -> u8
     ensures { λ r. ⌜ resetYields r (now (state .exit)) (now (memory .exit))
         ≡ resetBytes (now (state .entry)) (now (settings .entry)) (now (table .entry)) (now (memory .entry)) ⌝ }
 {
@@ -70,7 +70,7 @@ fn reset_bytes(state: &mut [u8], settings: &[u8], table: &[u8], memory: &mut [i1
 
 // Begins a run with the standard's table.
 #[no_mangle]
-pub extern "C" fn drm_reset(state: &mut [u8], settings: &[u8], memory: &mut [i16]) -> u8
+pub extern "C" fn drm_reset(state: &mut [u8], settings: &[u8], memory: &mut [u8]) -> u8
     ensures { λ r. ⌜ resetYields r (now (state .exit)) (now (memory .exit))
         ≡ resetBytes (now (state .entry)) (now (settings .entry)) table65 (now (memory .entry)) ⌝ }
 {
@@ -84,7 +84,7 @@ pub extern "C" fn drm_reset_table(
     state: &mut [u8],
     settings: &[u8],
     table: &[u8],
-    memory: &mut [i16],
+    memory: &mut [u8],
 ) -> u8
     ensures { λ r. ⌜ resetYields r (now (state .exit)) (now (memory .exit))
         ≡ resetBytes (now (state .entry)) (now (settings .entry)) (now (table .entry)) (now (memory .entry)) ⌝ }
@@ -96,7 +96,7 @@ pub extern "C" fn drm_reset_table(
 #[no_mangle]
 pub extern "C" fn drm_code(
     state: &mut [u8],
-    memory: &mut [i16],
+    memory: &mut [u8],
     fac: &[u8],
     sdc: &[u8],
     msc: &[u8],
@@ -128,7 +128,7 @@ pub extern "C" fn drm_code(
 #[no_mangle]
 pub extern "C" fn drm_read(
     state: &mut [u8],
-    memory: &mut [i16],
+    memory: &mut [u8],
     faccells: &[i16],
     sdccells: &[i16],
     msccells: &[i16],

@@ -52,7 +52,7 @@ pub extern "C" fn drm_lengths(settings: &[u8], lengths: &mut [u16]) -> u8
     put_lengths(answers::lengths(settings_of(settings)), lengths)
 }
 
-// The bytes of SDC and MSC, the numbers of FAC, SDC and MSC cells, and those of memory.
+// The bytes of SDC and MSC, the numbers of FAC, SDC and MSC cells, and the bytes of memory.
 #[no_mangle]
 pub extern "C" fn drm_sizes(settings: &[u8], sizes: &mut [u32]) -> u8
     ensures { λ r. ⌜ yielded r (now (sizes .exit)) ≡ sizesBytes (now (settings .entry)) (now (sizes .entry)) ⌝ }

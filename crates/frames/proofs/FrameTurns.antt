@@ -3,8 +3,8 @@ use mathlib.Core.Path.{_≡_, refl, sym, ap, ap₂, _∙_}
 use mathlib.Core.Bool.{Bool, true, false, cond}
 use mathlib.Core.Logic.{_⊎_, inl, inr}
 use mathlib.Core.List.{List, [], _∷_, _++_, map, append-nil, append-assoc}
-use Prim.Native.Nat.{ℕ, zero, suc, _+_, _-_, _*_, _%_, _≤_, _<_}
-use native.Mathlib.Nat.{suc-mul, mul-suc, mul-zero, zero-add, suc-add, add-comm, mod-lt, mod-eq-of-lt, mod-self}
+use Prim.Native.Nat.{ℕ, zero, suc, _+_, _-_, _*_, _/_, _%_, _≤_, _<_}
+use native.Mathlib.Nat.{suc-mul, mul-suc, mul-left-comm, mul-zero, zero-add, suc-add, add-comm, mod-lt, mod-eq-of-lt, mod-self}
 use native.Mathlib.Omega.{arith}
 use borrow.Author.Tests.{eq-eqb, ne-eqb}
 use borrow.Rule.Slice.PartMut.{putMid}
@@ -14,11 +14,18 @@ use lib.IntN.{ℤ}
 use lib.Dec.{eqb}
 use Rattle.lists.specs.Lists.{table}
 use Rattle.lists.proofs.Tables.{table-add}
+use Rattle.lists.specs.Buffers.{Long}
+use Rattle.lists.proofs.Parts.{length-start, part-again}
 use Rattle.lists.proofs.Counting.{below-or}
+use Rattle.cellbytes.specs.CellBytes.{numbers}
+use Rattle.cellbytes.proofs.CellBytes.{numbers-take, numbers-drop}
 use Rattle.settings.specs.declared.Settings.{Settings}
+use Rattle.settings.specs.Lengths.{nMux}
 use Rattle.settings.specs.Sizes.{depth, frameBytes}
 use Rattle.block.specs.declared.Block.{Block}
 use Rattle.block.specs.Reading.{given, bytesRead}
+use Rattle.block.specs.Fits.{BlockLent}
+use Rattle.channels.proofs.Lent.{msc-lent}
 use Rattle.blockcoder.specs.declared.Found.{Found}
 use Rattle.blockcoder.specs.declared.Found.the-variants.{Given, NoBits}
 use Rattle.blockcoder.specs.Contracts.{BlockRead, foundOf}
@@ -45,7 +52,7 @@ use Rattle.cellmemory.proofs.Ring.{slot-near, slot-far}
 use Rattle.cellmemory.proofs.Laid.{part-is, part-within, part-below, length-mid}
 use Rattle.cellmemory.proofs.Progress.{next-fits, memory-most}
 use Rattle.frames.specs.declared.Frames.{Frames}
-use Rattle.frames.specs.Contracts.{PlacesRead, FinishLent, FrameFinished, RowsLent, RowsRead}
+use Rattle.frames.specs.Contracts.{PlacesRead, SlotLent, FinishLent, FrameFinished, RowsLent, RowsRead}
 
 -- Bits give a block's cells exactly if that is what was found.
 is-given : Found → Bool
@@ -167,7 +174,7 @@ unfolding frameBytes bytesFor roundUp
 frames-most a = omega (arith, a .frameMost, a .ranges .muxMost)
 
 -- After a row, over the marks, the number of frames and the state before it.
-module _ (tests : List Bool) (k : ℕ) (state : State) (memory : List ℤ) (out : List ℕ)
+module _ (tests : List Bool) (k : ℕ) (state : State) (memory out : List ℕ)
     (h : FinishLent (record { given = tests; finished = k; after = state }) memory out) (after : State) (e : after ≡ nextState state) where
   abbrev frames : Frames
   frames = record { given = tests; finished = k; after = state }
@@ -182,34 +189,49 @@ module _ (tests : List Bool) (k : ℕ) (state : State) (memory : List ℤ) (out 
       record { state-is = e; read = λ fs g w. rw (none, append-nil fs) (g, w) }
 
   module _ (n len : ℕ) (u : n ≡ slotSize (state .scheme .settings)) (v : len ≡ frameBytes (state .scheme .settings)) where
+    half : n / 2 ≡ nMux (state .scheme .settings)
+    unfolding slotSize
+    half = omega arith
+
     position-is : after .position ≡ (state .position + 1) % depth (state .scheme .settings)
     unfolding stateOf advanced progressOf
     position-is = ap (λ (x : State). x .position) e
 
     -- The slot of the frame that is finished lies within memory, and the room for it within the output.
-    pub finish-within : (after .position * n + n ≤ length memory) × (length memory ≤ 61180)
+    pub finish-within : (after .position * (n / 2) + n / 2 ≤ length memory) × (length memory ≤ 30590)
     finish-within =
         let l : after .position < depth (state .scheme .settings) = rw position-is (mod-lt (state .position + 1) (omega (arith, h .fits .position))) in
-        (rw u (omega (arith, h .fits .slots, slot-before (slotSize (state .scheme .settings)) (after .position) (depth (state .scheme .settings)) l)), memory-most (h .fits))
+        (rw half (omega (arith, h .fits .slots, slot-before (nMux (state .scheme .settings)) (after .position) (depth (state .scheme .settings)) l)), memory-most (h .fits))
 
     pub finish-room : (len * k + len ≤ length out) × (length out ≤ 13767)
     finish-room =
         (part-within len k 3 (length out) (h .few) (h .room ∙ rw v), omega (arith, h .room, frames-most (h .fits .allowed .settings)))
 
+    pub slot-lent : SlotLent (state .scheme) (take (after .position * (n / 2) + n / 2 - after .position * (n / 2)) (drop (after .position * (n / 2)) memory))
+        (take (len * k + len - len * k) (drop (len * k) out))
+    slot-lent =
+        record {
+          allowed = h .fits .allowed;
+          cells = length-mid (after .position * (n / 2)) (n / 2) memory (finish-within .0) ∙ half;
+          room = length-mid (len * k) len out (finish-room .0) ∙ v;
+        }
+
     pub finish-one : (d : ℕ) → d ≡ depth (state .scheme .settings) → d ≤ state .count + 1 → (b : Bool) (last : List ℕ)
-        → GivenRead (mscBlock (state .scheme)) (take (after .position * n + n - after .position * n) (drop (after .position * n) memory))
+        → GivenRead (mscBlock (state .scheme)) (numbers (take (after .position * (n / 2) + n / 2 - after .position * (n / 2)) (drop (after .position * (n / 2)) memory)))
         (take (len * k + len - len * k) (drop (len * k) out)) b last
         → FrameFinished frames memory out (record { given = set tests k b; finished = k + 1; after = after }) (putMid (len * k) (len * k + len - len * k) out last)
     finish-one d f l b last r =
         let c = state .scheme in
         let s = c .settings in
-        let cells = take (after .position * n + n - after .position * n) (drop (after .position * n) memory) in
+        let m = nMux s in
+        let cells = numbers (take (after .position * (n / 2) + n / 2 - after .position * (n / 2)) (drop (after .position * (n / 2)) memory)) in
         let one : new ≡ cells ∷ [] =
-        unfold finishedBy progressOf slotOf in
+        unfold finishedBy progressOf slotOf slotSize in
         let last : state .count ≡ depth s - 1 = omega (arith, h .fits .count) in
         let p : slotBefore (depth s) (state .position) (depth s - 1) ≡ after .position = slot-next (depth s) (state .position) (h .fits .position) ∙ sym position-is in
-        let w : after .position * n + n - after .position * n ≡ slotSize s = omega (arith, u) in
-        rw (eq-eqb (state .count) (depth s - 1) last, p, w, u)
+        let w : after .position * (n / 2) + n / 2 - after .position * (n / 2) ≡ m = omega (arith, half) in
+        let at : after .position * (2 * m) ≡ 2 * (after .position * (n / 2)) = mul-left-comm (after .position) 2 m ∙ rw half in
+        rw (eq-eqb (state .count) (depth s - 1) last, p, w, numbers-take m (drop (after .position * (n / 2)) memory), numbers-drop (after .position * (n / 2)) memory, at)
         in
         record {
           state-is = e;
@@ -218,6 +240,22 @@ module _ (tests : List Bool) (k : ℕ) (state : State) (memory : List ℤ) (out 
             rw (one, v) (place-more (mscBlock c) (frameBytes s) (msc-recovers (h .fits .allowed)) fs (omega (arith, g, h .few)) tests out w k g cells b last (rw v at r)),
           );
         }
+
+-- A slot's numbers in a working buffer, as they are lent to be read.
+module _ (s : Scheme) (slot out : List ℕ) (h : SlotLent s slot out) (buffer : List ℤ) (l : Long 12236 buffer) where
+  pub slot-room : 2 * length slot ≤ length buffer
+  slot-room = omega (arith, l .long, h .cells, h .allowed .settings .ranges .muxMost)
+
+  pub slot-numbers : length (take (2 * length slot - 0) buffer) ≡ 2 * length slot
+  slot-numbers = length-start (2 * length slot) buffer slot-room
+
+  module _ (read : List ℤ) (k : length read ≡ length (take (2 * length slot - 0) buffer)) where
+    pub slot-block : BlockLent (mscBlock s) out (take (2 * length slot - 0) (read ++ drop (2 * length slot - 0) buffer))
+    slot-block = rw (part-again buffer read (2 * length slot) slot-room k) (msc-lent (h .allowed) (h .room) (k ∙ slot-numbers ∙ rw (h .cells)))
+
+    pub slot-given : (b : Bool) (out′ : List ℕ) → read ≡ numbers slot
+        → GivenRead (mscBlock s) (take (2 * length slot - 0) (read ++ drop (2 * length slot - 0) buffer)) out b out′ → GivenRead (mscBlock s) (numbers slot) out b out′
+    slot-given b out′ e g = rw (part-again buffer read (2 * length slot) slot-room k, e) at g
 
 -- One row more: the progress after it, and the frames with the one that it finishes.
 module _ (s : Settings) where
@@ -233,7 +271,7 @@ module _ (s : Settings) where
   finished-more q [] r = append-nil _
   finished-more q (g ∷ rs) r = rw (finished-more _ rs r, append-assoc)
 
-  finished-few : (q : Progress) (memory : List ℤ) → length (finishedBy s q memory) ≤ 1
+  finished-few : (q : Progress) (memory : List ℕ) → length (finishedBy s q memory) ≤ 1
   unfolding finishedBy
   finished-few q memory = go (eqb (q .count) (depth s - 1))
     where
@@ -249,14 +287,14 @@ rows-more : (s : Settings) (msc : List ℤ) (i : ℕ) → rows-to s msc (i + 1) 
 unfolding table
 rows-more s msc i = table-add (part (slotSize s) msc) 0 i 1 ∙ rw (zero-add i)
 
-abbrev rows-after : State → List ℤ → List ℤ → ℕ → Progress
+abbrev rows-after : State → List ℕ → List ℤ → ℕ → Progress
 rows-after state memory msc i = afterRows (state .scheme .settings) (progressOf state memory) (rows-to (state .scheme .settings) msc i)
 
-abbrev finished-to : State → List ℤ → List ℤ → ℕ → List (List ℤ)
+abbrev finished-to : State → List ℕ → List ℤ → ℕ → List (List ℤ)
 finished-to state memory msc i = finishedFrames (state .scheme .settings) (progressOf state memory) (rows-to (state .scheme .settings) msc i)
 
 -- What reading row after row holds before row i.
-pub record RowsReading (state : State) (msc memory₀ : List ℤ) (out₀ : List ℕ) (n : ℕ) (memory : List ℤ) (out : List ℕ) (tests : List Bool) (k : ℕ) (after : State)
+pub record RowsReading (state : State) (msc : List ℤ) (memory₀ out₀ : List ℕ) (n : ℕ) (memory out : List ℕ) (tests : List Bool) (k : ℕ) (after : State)
     (i : ℕ) : Type 0 where
   pub lent : RowsLent state msc memory₀ out₀
   pub numbers-are : n ≡ slotSize (state .scheme .settings)
@@ -270,7 +308,7 @@ pub record RowsReading (state : State) (msc memory₀ : List ℤ) (out₀ : List
   pub finished-is : k ≡ length (finished-to state memory₀ msc i)
   pub places : PlacesRead (mscBlock (state .scheme)) (frameBytes (state .scheme .settings)) (finished-to state memory₀ msc i) tests out
 
-module _ (state : State) (msc memory₀ : List ℤ) (out₀ : List ℕ) (n : ℕ) where
+module _ (state : State) (msc : List ℤ) (memory₀ out₀ : List ℕ) (n : ℕ) where
   pub reading-start : (tests : List Bool) → RowsLent state msc memory₀ out₀ → n ≡ slotSize (state .scheme .settings) → tests ≡ replicate 3 true
       → RowsReading state msc memory₀ out₀ n memory₀ out₀ tests 0 state 0
   unfolding stateOf progressOf afterRows finishedFrames table placedTests placedBytes joined
@@ -289,7 +327,7 @@ module _ (state : State) (msc memory₀ : List ℤ) (out₀ : List ℕ) (n : ℕ
         places = record { given-are = f; bytes-are = h .zeros };
       }
 
-  module _ (memory : List ℤ) (out : List ℕ) (tests : List Bool) (k : ℕ) (after : State) (i : ℕ) (w : RowsReading state msc memory₀ out₀ n memory out tests k after i) where
+  module _ (memory out : List ℕ) (tests : List Bool) (k : ℕ) (after : State) (i : ℕ) (w : RowsReading state msc memory₀ out₀ n memory out tests k after i) where
     settings-are : after .scheme .settings ≡ state .scheme .settings
     unfolding stateOf
     settings-are = ap (λ (x : State). x .scheme .settings) (w .state-is)
@@ -301,7 +339,7 @@ module _ (state : State) (msc memory₀ : List ℤ) (out₀ : List ℕ) (n : ℕ
     pub row-lent : i < 3 → RowLent after memory (take (n * i + n - n * i) (drop (n * i) msc))
     row-lent l = record { fits = w .fits; long = length-mid (n * i) n msc (row-within l) ∙ w .numbers-are ∙ ap slotSize (sym settings-are) }
 
-    module _ (l : i < 3) (memory′ : List ℤ) (e : memory′ ≡ taken (after .scheme .settings) (progressOf after memory) (take (n * i + n - n * i) (drop (n * i) msc)))
+    module _ (l : i < 3) (memory′ : List ℕ) (e : memory′ ≡ taken (after .scheme .settings) (progressOf after memory) (take (n * i + n - n * i) (drop (n * i) msc)))
         (m : length memory′ ≡ length memory) where
       pub row-finish : FinishLent (record { given = tests; finished = k; after = after }) memory′ out
       row-finish =

@@ -5,9 +5,12 @@ use mathlib.Core.Bool.{Bool, cond}
 use mathlib.Core.List.{List, _++_}
 use lib.ListN.{length, replicate}
 use lib.IntN.{ℤ}
+use Rattle.settings.specs.Lengths.{nMux}
 use Rattle.settings.specs.Sizes.{frameBytes}
 use Rattle.block.specs.declared.Block.{Block}
 use Rattle.block.specs.Reading.{given, bytesRead}
+use Rattle.channels.specs.declared.Scheme.{Scheme}
+use Rattle.channels.specs.Scheme.{SchemeAccepted}
 use Rattle.channels.specs.Msc.{mscBlock}
 use Rattle.superframe.specs.declared.State.{State}
 use Rattle.superframe.specs.Memory.{slotSize}
@@ -28,14 +31,20 @@ pub record PlacesRead (k : Block) (n : ℕ) (blocks : List (List ℤ)) (tests : 
   pub given-are : tests ≡ placedTests k blocks
   pub bytes-are : out ≡ placedBytes k n blocks
 
+-- The bytes of a slot, and room for the bytes of its frame.
+pub record SlotLent (s : Scheme) (slot out : List ℕ) : Type 0 where
+  pub allowed : SchemeAccepted s
+  pub cells : length slot ≡ nMux (s .settings)
+  pub room : length out ≡ frameBytes (s .settings)
+
 -- A row has been taken, and there is room for the frame that it finishes.
-pub record FinishLent (frames : Frames) (memory : List ℤ) (out : List ℕ) : Type 0 where
+pub record FinishLent (frames : Frames) (memory out : List ℕ) : Type 0 where
   pub fits : StateFits (frames .after) memory
   pub room : length out ≡ 3 * frameBytes (frames .after .scheme .settings)
   pub few : frames .finished < 3
 
 -- Where the frames before were read into their places, that frame is read into the next one.
-pub record FrameFinished (frames : Frames) (memory : List ℤ) (out : List ℕ) (r : Frames) (out′ : List ℕ) : Type 0 where
+pub record FrameFinished (frames : Frames) (memory out : List ℕ) (r : Frames) (out′ : List ℕ) : Type 0 where
   pub state-is : r .after ≡ nextState (frames .after)
   pub read : let s = frames .after .scheme in
       let new = finishedBy (s .settings) (progressOf (frames .after) memory) memory in
@@ -43,13 +52,13 @@ pub record FrameFinished (frames : Frames) (memory : List ℤ) (out : List ℕ) 
       → (r .finished ≡ length (fs ++ new)) × PlacesRead (mscBlock s) (frameBytes (s .settings)) (fs ++ new) (r .given) out′
 
 -- Three rows, state and memory in order, and room for three frames of zeros.
-pub record RowsLent (state : State) (msc memory : List ℤ) (out : List ℕ) : Type 0 where
+pub record RowsLent (state : State) (msc : List ℤ) (memory out : List ℕ) : Type 0 where
   pub fits : StateFits state memory
   pub rows : 3 * slotSize (state .scheme .settings) ≤ length msc
   pub zeros : out ≡ replicate (3 * frameBytes (state .scheme .settings)) 0
 
 -- The frames that three rows finish, and state and memory after them.
-pub record RowsRead (state : State) (msc memory : List ℤ) (r : Frames) (memory′ : List ℤ) (out′ : List ℕ) : Type 0 where
+pub record RowsRead (state : State) (msc : List ℤ) (memory : List ℕ) (r : Frames) (memory′ out′ : List ℕ) : Type 0 where
   pub state-is : r .after ≡ stateOf (state .scheme) (afterRows (state .scheme .settings) (progressOf state memory) (rowsOf (state .scheme .settings) msc))
   pub held : memory′ ≡ afterRows (state .scheme .settings) (progressOf state memory) (rowsOf (state .scheme .settings) msc) .memory
   pub finished-is : r .finished ≡ length (finishedFrames (state .scheme .settings) (progressOf state memory) (rowsOf (state .scheme .settings) msc))

@@ -76,7 +76,7 @@ unfolding codeLent
 code-call z bytes fac sdc msc h ef es em =
     rw (past 27 (z .sdcbytes), ef, front-blank (pos 0) (z .sdcnumbers) 1692 sdc es (h .sdcnumbers), front-blank (pos 0) (z .mscnumbers) 36712 msc em (h .mscnumbers))
 
-pub code-called : (state : State) (z : Sizes) (memory : List ℤ) (bytes out : List ℕ) (c : CodeCall) (y : JobYield) → z ≡ sizesOf (state .scheme .settings) → c ≡ codeLent z bytes
+pub code-called : (state : State) (z : Sizes) (memory : List ℕ) (bytes out : List ℕ) (c : CodeCall) (y : JobYield) → z ≡ sizesOf (state .scheme .settings) → c ≡ codeLent z bytes
     → y ≡ codeWritten (codeOf state memory c) out → y ≡ jobCall Code state memory bytes out
 unfolding jobCall
 code-called state z memory bytes out c y e f h = h ∙ ap (λ c. codeWritten (codeOf state memory c) out) (f ∙ ap (λ z. codeLent z bytes) e)
@@ -88,12 +88,12 @@ unfolding readLent
 read-call z cells fac sdc msc h ef es em =
     rw (past 390 (z .sdcnumbers), ef, front-blank 0 (z .sdcbytes) 210 sdc es (h .sdcbytes), front-blank 0 (z .mscbytes) 13767 msc em (h .mscbytes))
 
-pub read-called : (state : State) (z : Sizes) (memory cells : List ℤ) (bytes out : List ℕ) (c : ReadCall) (y : JobYield) → z ≡ sizesOf (state .scheme .settings) → cells ≡ bytesCells bytes
+pub read-called : (state : State) (z : Sizes) (memory : List ℕ) (cells : List ℤ) (bytes out : List ℕ) (c : ReadCall) (y : JobYield) → z ≡ sizesOf (state .scheme .settings) → cells ≡ bytesCells bytes
     → c ≡ readLent z cells → y ≡ readAnswered (readOf state memory c) out → y ≡ jobCall Read state memory bytes out
 unfolding jobCall
 read-called state z memory cells bytes out c y e f g h = h ∙ rw (g, f, e)
 
-pub place-called : (state : State) (z : Sizes) (memory cells grid : List ℤ) (bytes out : List ℕ) (n : ℕ) (y : JobYield) → z ≡ sizesOf (state .scheme .settings) → cells ≡ bytesCells bytes
+pub place-called : (state : State) (z : Sizes) (memory : List ℕ) (cells grid : List ℤ) (bytes out : List ℕ) (n : ℕ) (y : JobYield) → z ≡ sizesOf (state .scheme .settings) → cells ≡ bytesCells bytes
     → grid ≡ replicate 62235 (pos 0) → n ≡ gridSizes (state .scheme .settings) .numbers
     → y ≡ gridWritten (placeOf (state .scheme .settings) (cellsFrom (take 390 cells) (take (390 + z .sdcnumbers - 390) (drop 390 cells)) (drop (390 + z .sdcnumbers) cells)) (take (n - 0) grid)) state memory out
     → y ≡ jobCall Grid state memory bytes out
@@ -101,7 +101,7 @@ unfolding jobCall cellsIn
 place-called state z memory cells grid bytes out n y e f g k h =
     h ∙ rw (past 390 (z .sdcnumbers), front-blank (pos 0) n 62235 grid g (rw k (grid-most (state .scheme .settings))), f, e, k)
 
-pub take-called : (state : State) (z : Sizes) (memory fac sdc msc grid : List ℤ) (bytes out : List ℕ) (y : JobYield) → Enough z → z ≡ sizesOf (state .scheme .settings) → grid ≡ bytesCells bytes
+pub take-called : (state : State) (z : Sizes) (memory : List ℕ) (fac sdc msc grid : List ℤ) (bytes out : List ℕ) (y : JobYield) → Enough z → z ≡ sizesOf (state .scheme .settings) → grid ≡ bytesCells bytes
     → fac ≡ replicate 390 (pos 0) → sdc ≡ replicate 1692 (pos 0) → msc ≡ replicate 36712 (pos 0)
     → y ≡ cellsWritten (takeOf (state .scheme .settings) grid (cellsFrom fac (take (z .sdcnumbers - 0) sdc) (take (z .mscnumbers - 0) msc))) state memory out
     → y ≡ jobCall Ungrid state memory bytes out
@@ -191,7 +191,7 @@ unfolding allSizes
 sizes-number s h = rw (sizes-accepts s h)
 
 -- Number 0 says that the buffers are of the right lengths; any other is the answer.
-module _ (job : Job) (state : State) (z : Sizes) (memory : List ℤ) (bytes out : List ℕ) (r g i o n : ℕ)
+module _ (job : Job) (state : State) (z : Sizes) (memory : List ℕ) (bytes out : List ℕ) (r g i o n : ℕ)
     (er : r ≡ schemeRefusal (state .scheme)) (ez : z ≡ sizesOf (state .scheme .settings)) (eg : g ≡ gridLength (state .scheme .settings)) (ei : i ≡ inputLength job z g) (eo : o ≡ outputLength job z g)
     (en : n ≡ lengthRefusal r z (length memory) (eqb (length bytes) i) (leb o (length out))) where
   number-is : n ≡ jobRefusal job state memory bytes out

@@ -56,7 +56,7 @@ none-most Read n g h = omega arith
 none-most Grid n g h = omega arith
 none-most Ungrid n g h = h
 
-none-memory : (n : ℕ) → noSizes n .memory ≤ 61180
+none-memory : (n : ℕ) → noSizes n .memory ≤ 30590
 unfolding noSizes
 none-memory n = omega arith
 
@@ -67,7 +67,7 @@ rooms job s z g i m e eg ei em = go (eqb (refusal s) 0) refl
     low : g ≤ 124470
     low = rw eg (length-most s)
 
-    within : inputLength job z g ≤ 124470 → z .memory ≤ 61180 → Rooms job s (record { input = i; memory = m })
+    within : inputLength job z g ≤ 124470 → z .memory ≤ 30590 → Rooms job s (record { input = i; memory = m })
     within a b =
         record {
           input = ei ∙ ap₂ (inputLength job) e eg;

@@ -56,11 +56,11 @@ pub record Enough (z : Sizes) : Type 0 where
   pub facnumbers : z .facnumbers ≡ 390
   pub sdcnumbers : z .sdcnumbers ≤ 1692
   pub mscnumbers : z .mscnumbers ≤ 36712
-  pub memory : z .memory ≤ 61180
+  pub memory : z .memory ≤ 30590
 
 -- Nor more than the program has.
 pub record Rooms (job : Job) (s : Settings) (r : Space) : Type 0 where
   pub input : r .input ≡ inputLength job (sizesOf s) (gridLength s)
   pub memory : r .memory ≡ sizesOf s .memory
   pub inputmost : r .input ≤ 124470
-  pub memorymost : r .memory ≤ 61180
+  pub memorymost : r .memory ≤ 30590

@@ -28,19 +28,19 @@ use Rattle.jobs.specs.Output.{cellOutput, blockOutput}
 -- All that a job yields for a super frame: its answer, and memory and the output buffer as it leaves them.
 pub record JobYield : Type 0 where
   pub step : Step
-  pub memory : List ℤ
+  pub memory : List ℕ
   pub out : List ℕ
 
-abbrev pub jobYield : Step → List ℤ → List ℕ → JobYield
+abbrev pub jobYield : Step → List ℕ → List ℕ → JobYield
 jobYield step memory out = record { step = step; memory = memory; out = out }
 
 -- A super frame that went through: bytes from the start of the buffer on, and their number.
-unfoldable pub through : State → List ℤ → List ℕ → List ℕ → JobYield
+unfoldable pub through : State → List ℕ → List ℕ → List ℕ → JobYield
 through state memory bytes out =
     jobYield (record { outcome = Through; state = state; length = length bytes }) memory (sets out 0 bytes)
 
 -- One that was refused: nothing is written.
-unfoldable pub refused : ℕ → ℕ → State → List ℤ → List ℕ → JobYield
+unfoldable pub refused : ℕ → ℕ → State → List ℕ → List ℕ → JobYield
 refused number block state memory out =
     jobYield (record { outcome = Refused number block; state = state; length = 0 }) memory out
 
@@ -81,7 +81,7 @@ codeLent z bytes =
     }
 
 -- What goes out by the number of a refusal, 0 for acceptance.
-unfoldable pub answered : ℕ → State → List ℤ → List ℕ → List ℕ → JobYield
+unfoldable pub answered : ℕ → State → List ℕ → List ℕ → List ℕ → JobYield
 answered number state memory bytes out = cond (eqb number 0) (through state memory bytes out) (refused number 0 state memory out)
 
 unfoldable pub codeWritten : CodeYield → List ℕ → JobYield
@@ -120,15 +120,15 @@ blankCells z =
       msc = replicate (z .mscnumbers) (pos 0);
     }
 
-unfoldable pub gridWritten : PlaceYield → State → List ℤ → List ℕ → JobYield
+unfoldable pub gridWritten : PlaceYield → State → List ℕ → List ℕ → JobYield
 gridWritten y state memory out = answered (y .answer) state memory (cellBytes (y .grid)) out
 
-unfoldable pub cellsWritten : TakeYield → State → List ℤ → List ℕ → JobYield
+unfoldable pub cellsWritten : TakeYield → State → List ℕ → List ℕ → JobYield
 cellsWritten y state memory out =
     answered (y .answer) state memory (cellOutput (y .cells .fac) (y .cells .sdc) (y .cells .msc)) out
 
 -- The call of a job on buffers of the right lengths.
-unfoldable pub jobCall : Job → State → List ℤ → List ℕ → List ℕ → JobYield
+unfoldable pub jobCall : Job → State → List ℕ → List ℕ → List ℕ → JobYield
 jobCall Code state memory bytes out = codeWritten (codeOf state memory (codeLent (sizesOf (state .scheme .settings)) bytes)) out
 jobCall Read state memory bytes out = readAnswered (readOf state memory (readLent (sizesOf (state .scheme .settings)) (bytesCells bytes))) out
 jobCall Grid state memory bytes out =
@@ -141,14 +141,14 @@ jobCall Ungrid state memory bytes out =
     cellsWritten (takeOf (state .scheme .settings) (bytesCells bytes) (blankCells (sizesOf (state .scheme .settings)))) state memory out
 
 -- 1 to 10: an input of a super frame's length, and an output with room.
-unfoldable pub jobRefusal : Job → State → List ℤ → List ℕ → List ℕ → ℕ
+unfoldable pub jobRefusal : Job → State → List ℕ → List ℕ → List ℕ → ℕ
 jobRefusal job state memory bytes out =
     let z = sizesOf (state .scheme .settings) in
     let grid = gridLength (state .scheme .settings) in
     lengthRefusal (schemeRefusal (state .scheme)) z (length memory) (eqb (length bytes) (inputLength job z grid)) (leb (outputLength job z grid) (length out))
 
 -- What a job yields for a super frame, for every input.
-unfoldable pub jobOf : Job → State → List ℤ → List ℕ → List ℕ → JobYield
+unfoldable pub jobOf : Job → State → List ℕ → List ℕ → List ℕ → JobYield
 jobOf job state memory bytes out =
     cond (eqb (jobRefusal job state memory bytes out) 0) (jobCall job state memory bytes out)
     (refused (jobRefusal job state memory bytes out) 0 state memory out)

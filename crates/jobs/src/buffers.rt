@@ -6,10 +6,10 @@ ghost use lib.ListN.{length, replicate};
 ghost use lib.IntN.{pos};
 ghost use Rattle.jobs.specs.Contracts.{Numbers};
 
-pub fn memory() -> [i16; 61180]
-    ensures { λ r. ⌜ r ≡ replicate 61180 (pos 0) ⌝ }
+pub fn memory() -> [u8; 30590]
+    ensures { λ r. ⌜ r ≡ replicate 30590 0 ⌝ }
 {
-    [0i16; 61180]
+    [0u8; 30590]
 }
 
 pub fn fac_bytes() -> [u8; 27]

@@ -26,7 +26,7 @@ ghost use Rattle.jobs.specs.SuperFrame.{jobYield, answered, gridWritten,
 // What the output is after placing: the bytes of the grid, or nothing where the call was refused.
 fn write_grid(number: u8, state: State, grid: &[i16], out: &mut [u8]) -> Step
     requires { ⌜ 2 * length (now grid) ≤ length (now out) ⌝ }
-    ensures { λ r. ⌜ ((memory : List ℤ) → jobYield r memory (now (out .exit))
+    ensures { λ r. ⌜ ((memory : List ℕ) → jobYield r memory (now (out .exit))
         ≡ answered number state memory (cellBytes (now (grid .entry))) (now (out .entry))) ⌝ }
     ensures { λ r. ⌜ r .length ≤ length (now (out .entry)) ⌝ }
 {
@@ -44,7 +44,7 @@ fn write_grid(number: u8, state: State, grid: &[i16], out: &mut [u8]) -> Step
 // Placing a super frame's cells, of which those of the MSC start at a place, on a grid.
 fn place_with(state: State, cells: &[i16], at: usize, grid: &mut [i16], out: &mut [u8]) -> Step
     requires { ⌜ GridRoom at (now cells) (now grid) (now out) ⌝ }
-    ensures { λ r. ⌜ ((memory : List ℤ) → jobYield r memory (now (out .exit))
+    ensures { λ r. ⌜ ((memory : List ℕ) → jobYield r memory (now (out .exit))
         ≡ gridWritten
         (placeOf (state .scheme .settings)
         (cellsFrom (List·take 390 (now (cells .entry))) (List·take (at - 390) (drop 390 (now (cells .entry)))) (drop at (now (cells .entry))))
@@ -65,7 +65,7 @@ fn place_with(state: State, cells: &[i16], at: usize, grid: &mut [i16], out: &mu
 // The job `grid` on buffers of the right lengths.
 pub fn place_bytes(state: State, z: Sizes, bytes: &[u8], out: &mut [u8]) -> Step
     requires { ⌜ Lent Job.Grid state z (now bytes) (now out) ⌝ }
-    ensures { λ r. ⌜ ((memory : List ℤ) → jobYield r memory (now (out .exit)) ≡ jobCall Job.Grid state memory (now (bytes .entry)) (now (out .entry))) ⌝ }
+    ensures { λ r. ⌜ ((memory : List ℕ) → jobYield r memory (now (out .exit)) ≡ jobCall Job.Grid state memory (now (bytes .entry)) (now (out .entry))) ⌝ }
     ensures { λ r. ⌜ r .length ≤ length (now (out .entry)) ⌝ }
 {
     let cells = numbers_in(bytes);
@@ -86,7 +86,7 @@ fn take_with(
     out: &mut [u8],
 ) -> Step
     requires { ⌜ 2 * length (now fac) + 2 * length (now sdc) + 2 * length (now msc) ≤ length (now out) ⌝ }
-    ensures { λ r. ⌜ ((memory : List ℤ) → jobYield r memory (now (out .exit))
+    ensures { λ r. ⌜ ((memory : List ℕ) → jobYield r memory (now (out .exit))
         ≡ cellsWritten
         (takeOf (state .scheme .settings) (now (grid .entry)) (cellsFrom (now (fac .entry)) (now (sdc .entry)) (now (msc .entry))))
         state memory (now (out .entry))) ⌝ }
@@ -99,7 +99,7 @@ fn take_with(
 // The job `ungrid` on buffers of the right lengths.
 pub fn take_bytes(state: State, z: Sizes, bytes: &[u8], out: &mut [u8]) -> Step
     requires { ⌜ Lent Job.Ungrid state z (now bytes) (now out) ⌝ }
-    ensures { λ r. ⌜ ((memory : List ℤ) → jobYield r memory (now (out .exit)) ≡ jobCall Job.Ungrid state memory (now (bytes .entry)) (now (out .entry))) ⌝ }
+    ensures { λ r. ⌜ ((memory : List ℕ) → jobYield r memory (now (out .exit)) ≡ jobCall Job.Ungrid state memory (now (bytes .entry)) (now (out .entry))) ⌝ }
     ensures { λ r. ⌜ r .length ≤ length (now (out .entry)) ⌝ }
 {
     let grid = numbers_in(bytes);

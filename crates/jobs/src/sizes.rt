@@ -7,7 +7,7 @@ ghost use mathlib.Core.Path.{_≡_};
 ghost use Rattle.jobs.specs.SuperFrame.{blocksLength, cellsLength, gridLength, inputLength, outputLength};
 ghost use Rattle.jobs.specs.Contracts.{Rooms};
 
-// What a program lends for a super frame of settings: bytes of input, and numbers of memory.
+// What a program lends for a super frame of settings: bytes of input, and bytes of memory.
 pub struct Space {
     pub input: usize,
     pub memory: usize,

@@ -36,7 +36,7 @@ ghost use Rattle.jobs.specs.Output.{cellOutput};
 
 // Nothing is written where a call was refused.
 pub fn refused(number: u8, state: State) -> Step
-    ensures { λ r. ⌜ ((memory : List ℤ) (out : List ℕ) → jobYield r memory out ≡ SuperFrame·refused number 0 state memory out) ⌝ }
+    ensures { λ r. ⌜ ((memory : List ℕ) (out : List ℕ) → jobYield r memory out ≡ SuperFrame·refused number 0 state memory out) ⌝ }
     ensures { λ r. ⌜ r .length ≡ 0 ⌝ }
 {
     Step {
@@ -56,7 +56,7 @@ pub fn write_cells(
     out: &mut [u8],
 ) -> Step
     requires { ⌜ 2 * length (now fac) + 2 * length (now sdc) + 2 * length (now msc) ≤ length (now out) ⌝ }
-    ensures { λ r. ⌜ ((memory : List ℤ) → jobYield r memory (now (out .exit))
+    ensures { λ r. ⌜ ((memory : List ℕ) → jobYield r memory (now (out .exit))
         ≡ answered number state memory (cellOutput (now (fac .entry)) (now (sdc .entry)) (now (msc .entry))) (now (out .entry))) ⌝ }
     ensures { λ r. ⌜ r .length ≤ length (now (out .entry)) ⌝ }
 {
@@ -76,7 +76,7 @@ fn code_with(
     state: State,
     bytes: &[u8],
     at: usize,
-    memory: &mut [i16],
+    memory: &mut [u8],
     fac: &mut [i16],
     sdc: &mut [i16],
     msc: &mut [i16],
@@ -106,7 +106,7 @@ fn code_with(
 }
 
 // The job `code` on buffers of the right lengths.
-fn code_bytes(state: State, z: Sizes, bytes: &[u8], memory: &mut [i16], out: &mut [u8]) -> Step
+fn code_bytes(state: State, z: Sizes, bytes: &[u8], memory: &mut [u8], out: &mut [u8]) -> Step
     requires { ⌜ Lent Job.Code state z (now bytes) (now out) ⌝ }
     ensures { λ r. ⌜ jobYield r (now (memory .exit)) (now (out .exit))
         ≡ jobCall Job.Code state (now (memory .entry)) (now (bytes .entry)) (now (out .entry)) ⌝ }
@@ -133,7 +133,7 @@ fn code_bytes(state: State, z: Sizes, bytes: &[u8], memory: &mut [i16], out: &mu
 // What the output is after Read: FAC, SDC and the finished frames, or nothing where the call was refused.
 fn write_read(reading: Reading, fac: &[u8], sdc: &[u8], msc: &[u8], out: &mut [u8]) -> Step
     requires { ⌜ length (now fac) + length (now sdc) + 1 + length (now msc) ≤ length (now out) ⌝ }
-    ensures { λ r. ⌜ ((memory : List ℤ) → jobYield r memory (now (out .exit))
+    ensures { λ r. ⌜ ((memory : List ℕ) → jobYield r memory (now (out .exit))
         ≡ readWritten (reading .answer) (readYield reading memory (now (fac .entry)) (now (sdc .entry)) (now (msc .entry))) (now (out .entry))) ⌝ }
     ensures { λ r. ⌜ r .length ≤ length (now (out .entry)) ⌝ }
 {
@@ -161,7 +161,7 @@ fn read_with(
     state: State,
     cells: &[i16],
     at: usize,
-    memory: &mut [i16],
+    memory: &mut [u8],
     fac: &mut [u8],
     sdc: &mut [u8],
     msc: &mut [u8],
@@ -190,7 +190,7 @@ fn read_with(
 }
 
 // The job `read` on buffers of the right lengths.
-fn read_bytes(state: State, z: Sizes, bytes: &[u8], memory: &mut [i16], out: &mut [u8]) -> Step
+fn read_bytes(state: State, z: Sizes, bytes: &[u8], memory: &mut [u8], out: &mut [u8]) -> Step
     requires { ⌜ Lent Job.Read state z (now bytes) (now out) ⌝ }
     ensures { λ r. ⌜ jobYield r (now (memory .exit)) (now (out .exit))
         ≡ jobCall Job.Read state (now (memory .entry)) (now (bytes .entry)) (now (out .entry)) ⌝ }
@@ -217,7 +217,7 @@ fn read_bytes(state: State, z: Sizes, bytes: &[u8], memory: &mut [i16], out: &mu
 }
 
 // A super frame of a job: its bytes come in, and what is to be written stands first in the output; a refusal leaves everything as it was.
-pub fn step(job: Job, state: State, bytes: &[u8], memory: &mut [i16], out: &mut [u8]) -> Step
+pub fn step(job: Job, state: State, bytes: &[u8], memory: &mut [u8], out: &mut [u8]) -> Step
     ensures { λ r. ⌜ jobYield r (now (memory .exit)) (now (out .exit)) ≡ jobOf job state (now (memory .entry)) (now (bytes .entry)) (now (out .entry)) ⌝ }
     ensures { λ r. ⌜ r .length ≤ length (now (out .entry)) ⌝ }
 {

@@ -27,6 +27,10 @@ cellPasses test cells i =
 unfoldable pub pointsPass : PointTest → List ℤ → Bool
 pointsPass test cells = every (table (cellPasses test cells) 0 (length cells / 2))
 
--- The test that every cell is a point of constellation c.
+-- The test that every cell is a point of constellation c, or (0, 0) where such cells pass; none is ignored.
+abbrev pub allCells : ℕ → Bool → PointTest
+allCells c blank = record { constellation = c; depth = 1; count = 0; blank = blank }
+
+-- The test that every cell is a point.
 abbrev pub pointsOnly : ℕ → PointTest
-pointsOnly c = record { constellation = c; depth = 1; count = 0; blank = false }
+pointsOnly c = allCells c false

@@ -1,10 +1,13 @@
 // The one test of points: FAC and SDC cells, sent rows (refusal 13) and memory (refusal 12). 01 "Operations".
 use crate::PointTest;
 use crate::points::low_digits;
+use cellbytes::cells::imaginary;
+use cellbytes::cells::real;
 ghost use mathlib.Core.Path.{_≡_};
 ghost use mathlib.Core.Bool.{_&&_, _||_};
 ghost use Prim.Native.Nat.{_+_, _%_, _<_};
-ghost use Rattle.mapping.specs.PointTests.{isBlank, pointsPass};
+ghost use Rattle.cellbytes.specs.CellBytes.{numbers};
+ghost use Rattle.mapping.specs.PointTests.{isBlank, pointsPass, allCells};
 ghost use Rattle.mapping.specs.Contracts.{inTable, Holds};
 
 // The coordinates of an axis by their four lowest binary digits; 1 stands where there is none, since a number with those digits isn't 1.
@@ -67,6 +70,20 @@ pub fn points_pass(test: PointTest, cells: &[i16]) -> bool
             & ((test.count < delay)
                 | cell_passes(&known, test.blank, cells[2 * i], cells[2 * i + 1]));
         delay = next_delay(test.depth, delay);
+        i += 1;
+    }
+    passed
+}
+
+// Every cell of a memory passes, whatever came before.
+pub fn bytes_pass(c: u8, blank: bool, cells: &[u8]) -> bool
+    ensures { λ r. ⌜ r ≡ pointsPass (allCells c blank) (numbers (now (cells .entry))) ⌝ }
+{
+    let known = coordinates(c);
+    let mut passed = true;
+    let mut i = 0;
+    while i < cells.len() {
+        passed = passed & cell_passes(&known, blank, real(cells[i]), imaginary(cells[i]));
         i += 1;
     }
     passed

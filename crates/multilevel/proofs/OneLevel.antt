@@ -12,10 +12,11 @@ use Rattle.component.specs.Codeword.{encode, tailBits}
 use Rattle.component.specs.Decoding.{codedLength, segment}
 use Rattle.patterns.specs.Contracts.{patternOf, Held}
 use Rattle.component.specs.Coding.{Encodes, Encoded}
-use Rattle.multilevel.specs.Contracts.{added, codedWithTail, Room, AddsPart, CodesA, CodedA, CodesB, CodesLevel}
+use Rattle.multilevel.specs.Contracts.{codedWithTail, CodesA, CodedA, CodesB, CodesLevel}
+use Rattle.labels.specs.Contracts.{added, Room, AddsPart}
 use Rattle.component.proofs.Register.{after-low}
 use Rattle.component.proofs.Codeword.{encode-bits, codeword-bits, codeword-one, codeword-two, length-tail}
-use Rattle.multilevel.proofs.Weights.{added-length, added-front, added-rest, added-behind}
+use Rattle.labels.proofs.Weights.{added-length, added-front, added-rest, added-behind}
 use Rattle.block.specs.declared.Level.{Level}
 use Rattle.block.specs.Levels.{codedA, codedB, mixed, stream}
 use Rattle.block.specs.Reading.{sizeA, sizeB}

@@ -6,38 +6,17 @@ use native.Mathlib.Omega.{arith}
 use lib.Dec.{lit<}
 use lib.ListN.{length, take, drop, length-append, length-drop}
 use lib.Seq.{length-take-le, take-all}
-use borrow.Author.Tests.{ne-eqb}
 use Rattle.lists.proofs.Parts.{from-start}
 use Rattle.patterns.specs.declared.Pattern.{Pattern}
 use Rattle.component.specs.Decoding.{codedLength, decode}
 use Rattle.patterns.specs.Contracts.{patternOf, Held}
 use Rattle.component.specs.Coding.{Decodes, Decoded}
-use Rattle.interleaver.specs.Deinterleaving.{deinterleaved}
-use Rattle.multilevel.specs.Contracts.{Takes, TakesPart, ReadsPart, PartRead, ReadsLevel, LevelRead}
+use Rattle.multilevel.specs.Contracts.{ReadsPart, PartRead, ReadsLevel, LevelRead}
 use Rattle.block.specs.Reading.{taken, unmixed, sizeA, sizeB, inputA, inputB}
 use Rattle.component.proofs.Register.{after-low}
 use Rattle.component.proofs.Decoding.{decode-bits}
-use Rattle.multilevel.proofs.Weights.{take-taken, drop-taken}
+use Rattle.labels.proofs.Weights.{take-taken, drop-taken}
 use Rattle.block.specs.declared.Level.{Level}
-use Rattle.multilevel.proofs.Parts.{cycles}
-
--- what taking them out requires
-pub takes : {t w : ℕ} {labels out : List ℕ} → TakesPart t w labels out → (t ≡ 0 → ⊥) → (length labels ≡ 0 → ⊥) → Takes t w labels out
-takes R p q =
-    record {
-      lends = record { fits = record { cycles = cycles (R .mixes) p q; high = R .high; small = R .small }; same = R .same };
-      weighs = R .weighs;
-    }
-
--- a part's bits put back where t is 0, and where it is not
-module _ (t : ℕ) (v : List ℕ) where
-  pub unmixed-plain : t ≡ 0 → unmixed t v ≡ v
-  unfolding unmixed
-  unmixed-plain e = rw e
-
-  pub unmixed-cycle : (t ≡ 0 → ⊥) → unmixed t v ≡ deinterleaved 0 t v
-  unfolding unmixed
-  unmixed-cycle p = rw (ne-eqb t 0 p)
 
 -- a part can be decoded from the bits that were taken out
 pub decodes : {p : Pattern} {r t w : ℕ} {labels coded out coded′ : List ℕ} → ReadsPart p r t w labels coded out → length coded′ ≡ length coded

@@ -1,66 +1,23 @@
 -- The parts of a level in the working buffers: their coded bits, added to labels and taken out of them. Assumes nothing.
-use Prim.Native.Nat.{ℕ, _+_, _*_, _≤_, _<_}
-use mathlib.Core.Path.{_≡_, sym, _∙_}
+use Prim.Native.Nat.{ℕ, _+_, _≤_, _<_}
+use mathlib.Core.Path.{_≡_}
 use mathlib.Core.Logic.{_⊎_, inl, inr}
 use mathlib.Core.List.{List}
 use native.Mathlib.Omega.{arith}
 use lib.ListN.{length, getD, take, drop, length-take, length-drop, List·getD-eq-default}
 use lib.Seq.{sets, sets-eq, length-sets, getD-take, getD-drop, take-at}
-use borrow.Author.Tests.{ne-eqb}
 use Rattle.component.specs.Codeword.{encode, tailBits}
 use Rattle.patterns.specs.declared.Pattern.{Pattern}
 use Rattle.component.specs.Decoding.{codedLength, segment}
 use Rattle.patterns.specs.Contracts.{patternOf, Held}
 use Rattle.component.specs.Coding.{Encodes, Encoded}
 use Rattle.block.specs.declared.Level.{Level}
-use Rattle.interleaver.specs.Interleaving.{interleaved}
-use Rattle.interleaver.specs.Deinterleaving.{Cycles}
-use Rattle.multilevel.specs.Contracts.{Adds, codedWithTail, Room, AddsPart, EncodesB}
+use Rattle.multilevel.specs.Contracts.{codedWithTail, EncodesB}
+use Rattle.labels.specs.Contracts.{Room}
 use Rattle.lists.proofs.Counting.{below-or}
 use Rattle.component.proofs.Sets.{sets-append}
 use Rattle.component.proofs.Register.{after-low}
 use Rattle.component.proofs.Codeword.{length-encode, codeword-two, length-tail, bits-tail}
-use Rattle.lists.proofs.Tables.{Filled}
-use Rattle.multilevel.proofs.Weights.{weighed-le}
-use Rattle.block.specs.Levels.{mixed}
-use Rattle.block.specs.Fits.{Mixes, plain, empty, cycle}
-
--- the next sum stays below 256
-pub sum-fits : {t w : ℕ} {bits d : List ℕ} {f : ℕ → ℕ} {out : List ℕ} {i : ℕ} → AddsPart t w bits d → Filled 0 f d out i
-    → getD out i 0 + w * getD bits i 0 < 256
-sum-fits {t} {w} {bits} {d} {f} {out} {i} R F = omega (arith, weighed-le w (getD bits i 0) (R .input .bit i), R .room .sums i, F .rest i (omega arith))
-
--- bits that are interleaved and not none have a cycle
-pub cycles : {t n : ℕ} → Mixes t n → (t ≡ 0 → ⊥) → (n ≡ 0 → ⊥) → Cycles t n
-cycles (plain e) p q = absurd (p e)
-cycles (empty e) p q = absurd (q e)
-cycles (cycle c) p q = c
-
--- what adding interleaved bits requires, where they are interleaved and not none
-pub adds : {t w : ℕ} {bits d : List ℕ} → AddsPart t w bits d → (t ≡ 0 → ⊥) → (length bits ≡ 0 → ⊥) → Adds t w bits d
-adds R p q =
-    record {
-      lends = record {
-        fits = record {
-          cycles = rw (R .same) (cycles (R .mixes) p (λ e. q (R .same ∙ e)));
-          high = omega (arith, R .room .high, R .same);
-          small = R .room .small;
-        };
-        same = sym (R .same);
-      };
-      bit = R .input .bit;
-      room = R .room .sums;
-    }
-
-module _ (t : ℕ) (v : List ℕ) where
-  -- a part's bits where t is 0, and where it is not
-  pub mixed-plain : t ≡ 0 → mixed t v ≡ v
-  unfolding mixed
-  mixed-plain e = rw e
-
-  pub mixed-cycle : (t ≡ 0 → ⊥) → mixed t v ≡ interleaved 0 t v
-  unfolding mixed
-  mixed-cycle p = rw (ne-eqb t 0 p)
 
 -- there is room in the first labels, and in those after them
 pub room-take : {t w : ℕ} {d : List ℕ} (n : ℕ) → Room t w d → Room t w (take n d)

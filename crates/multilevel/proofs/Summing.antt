@@ -9,10 +9,11 @@ use lib.ListN.{length, getD, List·getD-eq-default}
 use lib.Pow.{pow-mono}
 use Rattle.component.specs.Bits.{Bits}
 use Rattle.lists.specs.Lists.{table}
-use Rattle.multilevel.specs.Contracts.{added, levelAt, streamAt, stepped, LevelThere, LevelsThere, none, more, CodesAt, CodesLevels}
+use Rattle.multilevel.specs.Contracts.{levelAt, streamAt, stepped, LevelThere, LevelsThere, none, more, CodesAt, CodesLevels}
+use Rattle.labels.specs.Contracts.{added}
 use Rattle.lists.proofs.Counting.{below-or}
 use Rattle.lists.proofs.Tables.{length-table, getD-table, table-is}
-use Rattle.multilevel.proofs.Weights.{weighed-le, added-length, added-at}
+use Rattle.labels.proofs.Weights.{weighed-le, added-length, added-at}
 use Rattle.block.specs.Mapping.{labelAt}
 use Rattle.block.specs.declared.Level.{Level}
 use Rattle.block.proofs.Levels.{bits-stream}

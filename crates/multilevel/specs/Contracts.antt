@@ -1,5 +1,5 @@
 -- What the functions that code and read levels require and promise: nothing of 01 is stated here.
-use Prim.Native.Nat.{ℕ, zero, suc, _+_, _*_, _≤_, _<_, _/_, _%_, _^_}
+use Prim.Native.Nat.{ℕ, zero, suc, _+_, _*_, _≤_, _<_, _/_, _%_}
 use mathlib.Core.Path.{_≡_}
 use mathlib.Core.Bool.{Bool, true, false, cond}
 use mathlib.Core.List.{List, [], _∷_}
@@ -14,31 +14,11 @@ use Rattle.component.specs.Register.{after}
 use Rattle.component.specs.Codeword.{encode, codeword, tailBits}
 use Rattle.component.specs.Decoding.{codedLength, segment, decode}
 use Rattle.patterns.specs.Contracts.{patternOf, Held}
-use Rattle.interleaver.specs.Deinterleaving.{Lends}
 use Rattle.lists.specs.Lists.{table}
 use lib.Seq.{sets}
 use Rattle.block.specs.Block.{oneAxis}
 use Rattle.block.specs.Reading.{taken, unmixed, inputA, inputB}
-
--- A level's bits, times their weight, are added to the labels.
-unfoldable pub added : ℕ → List ℕ → List ℕ → List ℕ
-added weight bits labels = table (λ i. getD labels i 0 + weight * getD bits i 0) 0 (length labels)
-
--- A weight is a power of two.
-pub record Weight (weight : ℕ) : Type 0 where
-  pub digit : ℕ
-  pub power : weight ≡ 2 ^ digit
-
--- What adding interleaved bits requires: bits, and labels that stay below 256.
-pub record Adds (t weight : ℕ) (bits labels : List ℕ) : Type 0 where
-  pub lends : Lends t bits labels
-  pub bit : (k : ℕ) → getD bits k 0 < 2
-  pub room : (k : ℕ) → getD labels k 0 + weight < 256
-
--- What taking interleaved bits out of labels requires.
-pub record Takes (t weight : ℕ) (labels out : List ℕ) : Type 0 where
-  pub lends : Lends t labels out
-  pub weighs : Weight weight
+use Rattle.labels.specs.Contracts.{Room, TakesPart, Weight, added}
 
 -- What the code would find past the last of a block's places.
 abbrev pub noPattern : Pattern
@@ -122,19 +102,6 @@ codedWithTail l register bits = codeword register (segment (patternOf (l .patter
 abbrev pub sizeWithTail : Level → ℕ → ℕ
 sizeWithTail l n = codedLength (patternOf (l .patternb)) 0 n + codedLength (patternOf (l .tail)) 0 6
 
--- ThreeBits that a level's bits can be added to: few enough for the interleaver, and below 256 with the weight.
-pub record Room (t weight : ℕ) (labels : List ℕ) : Type 0 where
-  pub small : t < 64
-  pub high : length labels ≤ 16384
-  pub sums : (k : ℕ) → getD labels k 0 + weight < 256
-
--- What adding a part's bits to as many labels requires.
-pub record AddsPart (t weight : ℕ) (bits labels : List ℕ) : Type 0 where
-  pub mixes : Mixes t (length labels)
-  pub same : length bits ≡ length labels
-  pub input : Bits bits
-  pub room : Room t weight labels
-
 -- What coding part A and adding it to the first of the labels requires.
 pub record CodesA (l : Level) (weight : ℕ) (bits coded labels : List ℕ) : Type 0 where
   pub held : Held (l .patterna)
@@ -175,14 +142,6 @@ pub record CodesLevel (l : Level) (weight : ℕ) (a b coded labels : List ℕ) :
   pub buffer : length labels ≤ length coded
   pub high : length labels ≤ 16384
   pub sums : (k : ℕ) → getD labels k 0 + weight < 256
-
--- What taking a part's bits out of as many labels requires.
-pub record TakesPart (t weight : ℕ) (labels out : List ℕ) : Type 0 where
-  pub mixes : Mixes t (length labels)
-  pub small : t < 64
-  pub high : length labels ≤ 16384
-  pub same : length out ≡ length labels
-  pub weighs : Weight weight
 
 -- What reading a part requires: all coded bits of the input bits wanted are there.
 pub record ReadsPart (p : Pattern) (register t weight : ℕ) (labels coded out : List ℕ) : Type 0 where

@@ -1,16 +1,17 @@
 // The levels of a block coded, interleaved and added up as labels. 01 "Partition" to "Bit interleaving".
-use crate::bits::add_part;
 use crate::places::bits_before;
 use block::Block;
 use block::Level;
 use block::buffers::cell_buffer;
 use component::code::Coder;
 use component::code::encode;
+use labels::bits::add_part;
 ghost use mathlib.Core.Path.{_≡_};
 ghost use lib.ListN.{length};
 ghost use lib.Seq.{sets};
 ghost use Rattle.lists.specs.Lists.{table};
-ghost use Rattle.multilevel.specs.Contracts.{added, streamAt, stepped, CodesAt, CodesLevels, codedWithTail, CodesA, CodedA, EncodesB, CodesB, CodesLevel};
+ghost use Rattle.multilevel.specs.Contracts.{streamAt, stepped, CodesAt, CodesLevels, codedWithTail, CodesA, CodedA, EncodesB, CodesB, CodesLevel};
+ghost use Rattle.labels.specs.Contracts.{added};
 ghost use Rattle.block.specs.Levels.{mixed, stream};
 ghost use Rattle.block.specs.Mapping.{labelAt};
 

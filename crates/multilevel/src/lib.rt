@@ -1,5 +1,4 @@
 // Levels of a block: coded into labels and read from them.
-pub mod bits;
 pub mod code;
 pub mod places;
 pub mod read;

@@ -1,5 +1,4 @@
 // The levels of a block read from labels: their bits taken out, put back to their places and decoded. 01 "Operations".
-use crate::bits::take_part;
 use crate::places::bits_before;
 use block::Block;
 use block::HMMIX;
@@ -8,6 +7,7 @@ use block::buffers::axis_buffer;
 use block::buffers::cell_buffer;
 use component::code::coded_length;
 use component::code::decode;
+use labels::bits::take_part;
 use patterns::Pattern;
 ghost use mathlib.Core.Path.{_≡_};
 ghost use Prim.Native.Nat.{_^_, _<_};

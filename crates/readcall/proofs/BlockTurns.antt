@@ -78,7 +78,7 @@ blocks-same : {g h : List Bool} {m n : ℕ} {a b : State} → g ≡ h → m ≡ 
     → _≡_ {A = Blocks} (record { given = g; finished = m; after = a }) (record { given = h; finished = n; after = b })
 blocks-same e f i = rw (e, f, i)
 
-module _ (state : State) (memory : List ℤ) (c : ReadCall) (h : BlocksLent state memory c) where
+module _ (state : State) (memory : List ℕ) (c : ReadCall) (h : BlocksLent state memory c) where
   pub fac-lent-is : Allowed (state .scheme .table) × (length (c .faccells) ≡ 390) × (c .fac ≡ replicate 27 0)
   unfolding facCells
   fac-lent-is = (h .fits .allowed .table, h .cells .faclong, h .fac)
@@ -90,7 +90,7 @@ module _ (state : State) (memory : List ℤ) (c : ReadCall) (h : BlocksLent stat
   pub sdc-long : length (c .sdc) ≡ sdcBytes (state .scheme .settings)
   sdc-long = ap length (h .sdc) ∙ length-replicate {A = ℕ} (sdcBytes (state .scheme .settings)) 0
 
-  pub blocks-read : (f : List Bool) (d : Bool) (r : Frames) (memory′ : List ℤ) (fac′ sdc′ msc′ : List ℕ) → PlacesRead (facBlock (state .scheme)) 9 (parts 130 (c .faccells)) f fac′
+  pub blocks-read : (f : List Bool) (d : Bool) (r : Frames) (memory′ fac′ sdc′ msc′ : List ℕ) → PlacesRead (facBlock (state .scheme)) 9 (parts 130 (c .faccells)) f fac′
       → GivenRead (sdcBlock (state .scheme)) (c .sdccells) (c .sdc) d sdc′ → RowsRead state (c .msccells) memory r memory′ msc′
       → BlocksRead state memory c
       (record {

@@ -63,7 +63,7 @@ kept-given k n [] h = refl
 kept-given k n (f ∷ fs) h = rw (and-left (given k f) _ h, kept-given k n fs (and-right (given k f) _ h))
 
 -- 1 to 10, and then 12.
-module _ (state : State) (memory faccells sdccells msccells : List ℤ) (fac sdc msc : List ℕ) (n : ℕ)
+module _ (state : State) (memory : List ℕ) (faccells sdccells msccells : List ℤ) (fac sdc msc : List ℕ) (n : ℕ)
     (g : n ≡ refusalThen (state .scheme) memory (cellLengths (state .scheme .settings) faccells sdccells msccells) (byteLengths (state .scheme .settings) fac sdc msc) 0) where
   order-is : refusalThen (state .scheme) memory (cellLengths (state .scheme .settings) faccells sdccells msccells) (byteLengths (state .scheme .settings) fac sdc msc)
       (first (not (inOrder false state memory)) 12 0)
@@ -87,7 +87,7 @@ module _ (state : State) (memory faccells sdccells msccells : List ℤ) (fac sdc
     order-none t = sym (order-rest ∙ rw t)
 
 -- A refusal leaves everything as it was.
-module _ (state : State) (memory : List ℤ) (c : ReadCall) where
+module _ (state : State) (memory : List ℕ) (c : ReadCall) where
   refused-is : (r b : ℕ) → answerOf state memory c ≡ Refused r b → 0 < r
       → readYield (record { answer = Refused r b; state = state }) memory (c .fac) (c .sdc) (c .msc) ≡ readOf state memory c
   unfolding readRefused
@@ -125,7 +125,7 @@ module _ (state : State) (memory : List ℤ) (c : ReadCall) where
       passes-points l = record { order = sym e ∙ h; points = fault-nowhere _ f fault-is l }
 
 -- What is known of a call that no number from 1 to 13 refuses.
-module _ (state : State) (memory : List ℤ) (c : ReadCall) (w : ReadPasses state memory c) where
+module _ (state : State) (memory : List ℕ) (c : ReadCall) (w : ReadPasses state memory c) where
   facts : ReadFits state memory c
   facts = read-fits state memory c (w .order)
 
@@ -136,8 +136,8 @@ module _ (state : State) (memory : List ℤ) (c : ReadCall) (w : ReadPasses stat
   unfolding memoryLength
   in-order = record { allowed = allowed; position = facts .order .position; count = facts .order .count; slots = facts .fits .long }
 
-  pub numbers-most : length memory ≤ 61180
-  numbers-most = memory-most in-order
+  pub bytes-most : length memory ≤ 30590
+  bytes-most = memory-most in-order
 
   pub sdc-most : length (c .sdc) ≤ 210
   unfolding sdcBytes bytesFor roundUp
@@ -150,7 +150,7 @@ module _ (state : State) (memory : List ℤ) (c : ReadCall) (w : ReadPasses stat
   fac-room = facts .bytes .faclong
 
   -- Its cells, a copy of memory and buffers of zeros.
-  pub blocks-lent : (work : List ℤ) (fac sdc msc : List ℕ) → work ≡ memory → fac ≡ replicate 27 0 → sdc ≡ replicate (length (c .sdc)) 0 → msc ≡ replicate (length (c .msc)) 0
+  pub blocks-lent : (work fac sdc msc : List ℕ) → work ≡ memory → fac ≡ replicate 27 0 → sdc ≡ replicate (length (c .sdc)) 0 → msc ≡ replicate (length (c .msc)) 0
       → BlocksLent state work (readCall (c .faccells) (c .sdccells) (c .msccells) fac sdc msc)
   blocks-lent work fac sdc msc e f g h =
       record {
@@ -173,7 +173,7 @@ module _ (state : State) (memory : List ℤ) (c : ReadCall) (w : ReadPasses stat
   marks-are = rw (length-table, append-nil (map (given (facBlock (state .scheme))) (facsOf c)), append-assoc)
 
   -- Its blocks were read on a copy of memory and into other buffers.
-  module _ (work : List ℤ) (fac sdc msc : List ℕ) (same : work ≡ memory) (r : Blocks) (work′ : List ℤ) (fac′ sdc′ msc′ : List ℕ)
+  module _ (work fac sdc msc : List ℕ) (same : work ≡ memory) (r : Blocks) (work′ fac′ sdc′ msc′ : List ℕ)
       (B : BlocksRead state work (readCall (c .faccells) (c .sdccells) (c .msccells) fac sdc msc) r work′ fac′ sdc′ msc′) (f : Fault) (e : f ≡ faultOf (r .given)) where
     blocks-are : r ≡ blocksOf state memory c
     unfolding blocksOf
@@ -212,7 +212,7 @@ module _ (state : State) (memory : List ℤ) (c : ReadCall) (w : ReadPasses stat
       frames-given : every (map (given (mscBlock (state .scheme))) frames) ≡ true
       frames-given = and-right (given (sdcBlock (state .scheme)) (c .sdccells)) (every (map (given (mscBlock (state .scheme))) frames)) rest-given
 
-      pub accepted-blocks : (memory″ : List ℤ) (fac″ sdc″ msc″ : List ℕ) → memory″ ≡ work′ → fac″ ≡ fac′ → sdc″ ≡ sdc′ → msc″ ≡ msc′
+      pub accepted-blocks : (memory″ fac″ sdc″ msc″ : List ℕ) → memory″ ≡ work′ → fac″ ≡ fac′ → sdc″ ≡ sdc′ → msc″ ≡ msc′
           → readYield (record { answer = Finished (r .finished); state = r .after }) memory″ fac″ sdc″ msc″ ≡ readOf state memory c
       unfolding blocksOf readAccepted handedOut placedBytes keptBytes parts
       accepted-blocks memory″ fac″ sdc″ msc″ a b d m =

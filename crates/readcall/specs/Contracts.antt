@@ -28,11 +28,11 @@ abbrev pub readCall : List ℤ → List ℤ → List ℤ → List ℕ → List �
 readCall faccells sdccells msccells fac sdc msc =
     record { faccells = faccells; sdccells = sdccells; msccells = msccells; fac = fac; sdc = sdc; msc = msc }
 
-abbrev pub readYield : Reading → List ℤ → List ℕ → List ℕ → List ℕ → ReadYield
+abbrev pub readYield : Reading → List ℕ → List ℕ → List ℕ → List ℕ → ReadYield
 readYield reading memory fac sdc msc = record { reading = reading; memory = memory; fac = fac; sdc = sdc; msc = msc }
 
 -- The cells of a call, state and memory in order, and bytes that are zero.
-pub record BlocksLent (state : State) (memory : List ℤ) (c : ReadCall) : Type 0 where
+pub record BlocksLent (state : State) (memory : List ℕ) (c : ReadCall) : Type 0 where
   pub fits : StateFits state memory
   pub cells : CellsFit (state .scheme .settings) (c .faccells) (c .sdccells) (c .msccells)
   pub fac : c .fac ≡ replicate 27 0
@@ -43,11 +43,11 @@ pub record BlocksLent (state : State) (memory : List ℤ) (c : ReadCall) : Type 
 abbrev pub facsOf : ReadCall → List (List ℤ)
 facsOf c = parts (2 * facCells) (c .faccells)
 
-abbrev pub framesOf : State → List ℤ → ReadCall → List (List ℤ)
+abbrev pub framesOf : State → List ℕ → ReadCall → List (List ℤ)
 framesOf state memory c = finishedFrames (state .scheme .settings) (progressOf state memory) (rowsOf (state .scheme .settings) (c .msccells))
 
 -- What reading every block of a call gives: each block in its place, and the state after the rows.
-unfoldable pub blocksOf : State → List ℤ → ReadCall → Blocks
+unfoldable pub blocksOf : State → List ℕ → ReadCall → Blocks
 blocksOf state memory c =
     let s = state .scheme in
     record {
@@ -56,7 +56,7 @@ blocksOf state memory c =
       after = stateOf s (afterRows (s .settings) (progressOf state memory) (rowsOf (s .settings) (c .msccells)));
     }
 
-pub record BlocksRead (state : State) (memory : List ℤ) (c : ReadCall) (r : Blocks) (memory′ : List ℤ) (fac′ sdc′ msc′ : List ℕ) : Type 0 where
+pub record BlocksRead (state : State) (memory : List ℕ) (c : ReadCall) (r : Blocks) (memory′ fac′ sdc′ msc′ : List ℕ) : Type 0 where
   pub blocks : r ≡ blocksOf state memory c
   pub held : memory′ ≡ afterRows (state .scheme .settings) (progressOf state memory) (rowsOf (state .scheme .settings) (c .msccells)) .memory
   pub fac : fac′ ≡ placedBytes (facBlock (state .scheme)) 9 (facsOf c)
@@ -64,6 +64,6 @@ pub record BlocksRead (state : State) (memory : List ℤ) (c : ReadCall) (r : Bl
   pub msc : msc′ ≡ placedBytes (mscBlock (state .scheme)) (frameBytes (state .scheme .settings)) (framesOf state memory c)
 
 -- A call that no number from 1 to 13 refuses.
-pub record ReadPasses (state : State) (memory : List ℤ) (c : ReadCall) : Type 0 where
+pub record ReadPasses (state : State) (memory : List ℕ) (c : ReadCall) : Type 0 where
   pub order : orderRefusal state memory c ≡ 0
   pub points : every (pointTests (state .scheme) (state .count) c) ≡ true

@@ -40,7 +40,7 @@ pub fn read_blocks(
     faccells: &[i16],
     sdccells: &[i16],
     msccells: &[i16],
-    memory: &mut [i16],
+    memory: &mut [u8],
     fac: &mut [u8],
     sdc: &mut [u8],
     msc: &mut [u8],

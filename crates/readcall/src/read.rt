@@ -1,6 +1,6 @@
 // The call Read. 01 "Buffers and state" and "Operations".
 use crate::places::read_blocks;
-use block::buffers::MOST_MEMORY;
+use block::buffers::MOST_CELLS;
 use block::buffers::MOST_MSC_BYTES;
 use block::buffers::MOST_SDC_BYTES;
 use cellmemory::refusal;
@@ -10,7 +10,6 @@ use faults::Fault;
 use faults::lowest::lost_fault;
 use faults::lowest::point_fault;
 use lists::bytes::copy as copy_bytes;
-use lists::numbers::copy as copy_numbers;
 use settings::answers;
 use settings::tables::FAC_BYTES;
 use superframe::Answer;
@@ -30,7 +29,7 @@ fn read_lengths(
     faccells: &[i16],
     sdccells: &[i16],
     msccells: &[i16],
-    memory: &[i16],
+    memory: &[u8],
     fac: &[u8],
     sdc: &[u8],
     msc: &[u8],
@@ -52,7 +51,7 @@ fn order_refusal(
     faccells: &[i16],
     sdccells: &[i16],
     msccells: &[i16],
-    memory: &[i16],
+    memory: &[u8],
     fac: &[u8],
     sdc: &[u8],
     msc: &[u8],
@@ -80,10 +79,10 @@ fn order_refusal(
 }
 
 // Working buffers for the largest settings, each from a function of its own: proofs then take its length and do not write it out.
-fn memory_buffer() -> [i16; MOST_MEMORY]
-    ensures { λ r. ⌜ Long 61180 r ⌝ }
+fn memory_buffer() -> [u8; 5 * MOST_CELLS]
+    ensures { λ r. ⌜ Long 30590 r ⌝ }
 {
-    [0i16; MOST_MEMORY]
+    [0u8; 5 * MOST_CELLS]
 }
 
 fn fac_buffer() -> [u8; 3 * FAC_BYTES]
@@ -110,7 +109,7 @@ fn read_whole(
     faccells: &[i16],
     sdccells: &[i16],
     msccells: &[i16],
-    memory: &mut [i16],
+    memory: &mut [u8],
     fac: &mut [u8],
     sdc: &mut [u8],
     msc: &mut [u8],
@@ -127,7 +126,7 @@ fn read_whole(
     let n = memory.len();
     let b = sdc.len();
     let m = msc.len();
-    copy_numbers(memory, &mut work[0..n]);
+    copy_bytes(memory, &mut work[0..n]);
     let blocks = read_blocks(
         state,
         faccells,
@@ -144,7 +143,7 @@ fn read_whole(
         let answer = Answer::Refused(14, block);
         return Reading { answer, state };
     }
-    copy_numbers(&work[0..n], memory);
+    copy_bytes(&work[0..n], memory);
     copy_bytes(&facwork, fac);
     copy_bytes(&sdcwork[0..b], sdc);
     copy_bytes(&mscwork[0..m], msc);
@@ -162,7 +161,7 @@ pub fn read(
     faccells: &[i16],
     sdccells: &[i16],
     msccells: &[i16],
-    memory: &mut [i16],
+    memory: &mut [u8],
     fac: &mut [u8],
     sdc: &mut [u8],
     msc: &mut [u8],

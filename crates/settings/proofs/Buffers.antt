@@ -32,12 +32,12 @@ pub depth-short : (s : Settings) (n : ℕ) → (s .interleaving ≡ 0 → ⊥) �
 unfolding depth
 depth-short s n e = rw (ne-eqb (s .interleaving) 0 e) (sym (one-mul n))
 
--- The memory is at most ten numbers for each cell.
-pub memory-low : (s : Settings) → Accepted s → depth s * (2 * nMux s) ≤ 61180
+-- The memory is at most five bytes for each cell.
+pub memory-low : (s : Settings) → Accepted s → depth s * nMux s ≤ 30590
 unfolding depth
 memory-low s a = low (eqb (s .interleaving) 0)
   where
-    low : (b : Bool) → cond b 5 1 * (2 * nMux s) ≤ 61180
+    low : (b : Bool) → cond b 5 1 * nMux s ≤ 30590
     low true = omega (arith, a .ranges .muxMost)
     low false = omega (arith, a .ranges .muxMost)
 
@@ -47,7 +47,7 @@ pub record Sized (s : Settings) (sdc bytes frame sfa memory : ℕ) : Type 0 wher
   pub isBytes : bytes ≡ sdcBytes s
   pub isFrame : frame ≡ frameBytes s
   pub isSfa : sfa ≡ nSfa s
-  pub isMemory : memory ≡ depth s * (2 * nMux s)
+  pub isMemory : memory ≡ depth s * nMux s
 
 pub is-allSizes : (s : Settings) (sdc bytes frame sfa memory : ℕ) → Sized s sdc bytes frame sfa memory
     → record { refusal = 0; sdcbytes = bytes; mscbytes = 3 * frame; facnumbers = 390; sdcnumbers = 2 * sdc; mscnumbers = 2 * sfa; memory = memory }
@@ -75,7 +75,7 @@ pub record Few (s : Settings) : Type 0 where
   pub sdcBytesFew : sdcBytes s ≤ 8192
   pub frameFew : frameBytes s ≤ 8192
   pub sfaFew : nSfa s ≤ 18356
-  pub memoryFew : depth s * (2 * nMux s) ≤ 61180
+  pub memoryFew : depth s * nMux s ≤ 30590
 
 pub few : (s : Settings) → Accepted s → Few s
 unfolding sdcBytes frameBytes

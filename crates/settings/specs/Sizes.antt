@@ -24,7 +24,7 @@ frameBytes s = bytesFor (frameBits s)
 unfoldable pub sdcBytes : Settings → ℕ
 sdcBytes s = bytesFor (lSdc s)
 
--- One call carries three FAC blocks (390 numbers), one SDC block and three multiplex frames; memory has a slot of N_MUX cells for each frame of the depth.
+-- One call carries three FAC blocks (390 numbers), one SDC block and three multiplex frames; memory has a slot of N_MUX cells for each frame of the depth, a byte for each (02 S-7).
 unfoldable pub noSizes : ℕ → Sizes
 noSizes r =
     record { refusal = r; sdcbytes = 0; mscbytes = 0; facnumbers = 0; sdcnumbers = 0; mscnumbers = 0; memory = 0 }
@@ -38,7 +38,7 @@ allSizes s =
       facnumbers = 3 * (2 * facCells);
       sdcnumbers = 2 * nSdc s;
       mscnumbers = 2 * nSfa s;
-      memory = depth s * (2 * nMux s);
+      memory = depth s * nMux s;
     }
 
 unfoldable pub sizesOf : Settings → Sizes

@@ -99,16 +99,16 @@ pub fn frame_bytes(s: Settings) -> usize
     bytes_for(frame_bits(s))
 }
 
-// The numbers of memory: a slot of N_MUX cells for each frame of the depth.
-pub fn memory_numbers(s: Settings) -> usize
+// The bytes of memory: a slot of N_MUX cells for each frame of the depth.
+pub fn memory_bytes(s: Settings) -> usize
     requires { ⌜ Accepted s ⌝ }
-    ensures { λ r. ⌜ r ≡ depth s * (2 * nMux s) ⌝ }
+    ensures { λ r. ⌜ r ≡ depth s * nMux s ⌝ }
 {
-    let numbers = 2 * tables::n_mux(s.mode, s.occupancy);
+    let cells = tables::n_mux(s.mode, s.occupancy);
     if s.interleaving == 0 {
-        5 * numbers
+        5 * cells
     } else {
-        numbers
+        cells
     }
 }
 
@@ -120,7 +120,7 @@ fn all_sizes(s: Settings) -> Sizes
     let sdc_bytes = bytes_for(formulas::sdc_bits(s.sdc, sdc));
     let frame = frame_bytes(s);
     let sfa = tables::n_sfa(s.mode, s.occupancy);
-    let memory = memory_numbers(s);
+    let memory = memory_bytes(s);
     Sizes {
         refusal: 0,
         sdcbytes: sdc_bytes as u32,

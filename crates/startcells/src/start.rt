@@ -2,14 +2,15 @@
 use block::buffers::MOST_BYTES;
 use block::buffers::coordinate_buffer;
 use blockcoder::code::code_block;
+use cellbytes::cells::to_bytes;
 use cellmemory::rows::slot_size;
 use channels::Scheme;
 use channels::blocks::msc_block;
-use lists::numbers::copy;
 use settings::answers;
 ghost use mathlib.Core.Path.{_≡_};
-ghost use Prim.Native.Nat.{_*_};
+ghost use Prim.Native.Nat.{_*_, _/_, _%_};
 ghost use lib.ListN.{length, replicate};
+ghost use Rattle.cellbytes.specs.CellBytes.{bytes};
 ghost use Rattle.channels.specs.Scheme.{SchemeAccepted};
 ghost use Rattle.superframe.specs.Memory.{slotSize, startFrame};
 ghost use Rattle.superframe.specs.Call.{joined};
@@ -33,21 +34,21 @@ fn start_frame(s: Scheme, frame: &mut [i16])
     code_block(msc_block(s), &zeros[0..n], frame);
 }
 
-// A frame laid into each of so many slots.
-fn lay_frame(frame: &[i16], slots: usize, memory: &mut [i16])
-    requires { ⌜ length (now memory) ≡ slots * length (now frame) ⌝ }
-    ensures { λ r. ⌜ now (memory .exit) ≡ joined (replicate slots (now (frame .entry))) ⌝ }
+// A frame laid into each of so many slots, a byte for each cell.
+fn lay_frame(frame: &[i16], slots: usize, memory: &mut [u8])
+    requires { ⌜ (length (now frame) % 2 ≡ 0) × (length (now memory) ≡ slots * (length (now frame) / 2)) ⌝ }
+    ensures { λ r. ⌜ now (memory .exit) ≡ joined (replicate slots (bytes (now (frame .entry)))) ⌝ }
 {
-    let n = frame.len();
+    let n = frame.len() / 2;
     let mut i = 0;
     while i < slots {
-        copy(frame, &mut memory[n * i..n * i + n]);
+        to_bytes(frame, &mut memory[n * i..n * i + n]);
         i += 1;
     }
 }
 
 // The frame is coded once and laid into every slot.
-pub fn fill_memory(s: Scheme, memory: &mut [i16])
+pub fn fill_memory(s: Scheme, memory: &mut [u8])
     requires { ⌜ Fits s (now memory) ⌝ }
     ensures { λ r. ⌜ now (memory .exit) ≡ startMemory s ⌝ }
 {

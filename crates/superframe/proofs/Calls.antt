@@ -70,7 +70,7 @@ module _ (s : Settings) where
   unfolding cellLengths
   fit-cells fac sdc msc h = both (eq-eqb _ _ (h .faclong)) (both (eq-eqb _ _ (h .sdclong)) (eq-eqb _ _ (h .msclong)))
 
-pub ordered : (empties : Bool) (state : State) (memory : List ℤ) → inOrder empties state memory ≡ true → Ordered empties state memory
+pub ordered : (empties : Bool) (state : State) (memory : List ℕ) → inOrder empties state memory ≡ true → Ordered empties state memory
 unfolding inOrder
 ordered empties state memory h =
     let D = depth (state .scheme .settings) in
@@ -82,12 +82,12 @@ ordered empties state memory h =
       cells = and-right (ltb (state .count) D) _ r;
     }
 
-pub in-order : (empties : Bool) (state : State) (memory : List ℤ) → Ordered empties state memory → inOrder empties state memory ≡ true
+pub in-order : (empties : Bool) (state : State) (memory : List ℕ) → Ordered empties state memory → inOrder empties state memory ≡ true
 unfolding inOrder
 in-order empties state memory h = both (lt-ltb _ _ (h .position)) (both (lt-ltb _ _ (h .count)) (h .cells))
 
 -- Reset: 0 exactly if the settings are allowed and memory has their length.
-module _ (old : State) (s : Scheme) (memory : List ℤ) where
+module _ (old : State) (s : Scheme) (memory : List ℕ) where
   pub reset-fits : resetRefusal s memory ≡ 0 → Fits s memory
   unfolding resetRefusal
   reset-fits h =
@@ -111,7 +111,7 @@ module _ (old : State) (s : Scheme) (memory : List ℤ) where
   reset-refuses r h p = rw (ne-eqb (resetRefusal s memory) 0 (λ e. omega arith), h)
 
 -- Code: 0 exactly if all the facts hold.
-module _ (state : State) (memory : List ℤ) (c : CodeCall) where
+module _ (state : State) (memory : List ℕ) (c : CodeCall) where
   pub code-fits : codeRefusal state memory c ≡ 0 → CodeFits state memory c
   unfolding codeRefusal
   code-fits h =
@@ -146,7 +146,7 @@ module _ (state : State) (memory : List ℤ) (c : CodeCall) where
   code-refuses r h p = rw (ne-eqb (codeRefusal state memory c) 0 (λ e. omega arith), h)
 
 -- Read: no number up to 12 exactly if all the facts hold.
-module _ (state : State) (memory : List ℤ) (c : ReadCall) where
+module _ (state : State) (memory : List ℕ) (c : ReadCall) where
   pub read-fits : orderRefusal state memory c ≡ 0 → ReadFits state memory c
   unfolding orderRefusal
   read-fits h =

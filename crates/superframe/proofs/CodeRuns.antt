@@ -8,7 +8,6 @@ use native.Mathlib.Decide.{ℕ-discrete}
 use native.Mathlib.Omega.{arith}
 use lib.ListN.{length, getD, drop, length-drop, length-append, List·getD-append}
 use lib.Seq.{getD-drop, drop-drop, drop-at}
-use lib.IntN.{ℤ}
 use borrow.Author.Tests.{ne-eqb, eq-eqb}
 use Rattle.lists.specs.Lists.{table}
 use Rattle.lists.proofs.Tables.{length-table, table-at, table-ext, table-from}
@@ -24,10 +23,10 @@ use Rattle.channels.specs.Sdc.{sdcBlock}
 use Rattle.channels.specs.Msc.{mscBlock}
 use Rattle.superframe.specs.Interleaving.{Progress, afterFrames, sentRows, fillers}
 use Rattle.superframe.specs.declared.State.{State}
-use Rattle.superframe.specs.Call.{part, parts, joined, facBytes, memoryLength}
+use Rattle.superframe.specs.Call.{part, parts, joined, facBytes}
 use Rattle.superframe.specs.Code.{CodeCall, codeRefusal, codeAccepted, codeRefused, codeOf, progressOf, stateOf, frameCells, byteLengths, cellLengths, sparesZero}
 use Rattle.superframe.specs.Contracts.{Fits, Ordered}
-use Rattle.superframe.specs.Runs.{Bits, noBits, bitsOf, codes, brought, sent, refusals}
+use Rattle.superframe.specs.Runs.{Bits, noBits, bitsOf, codes, brought, sent, refusals, stateAfter, memoryAfter}
 use Rattle.superframe.specs.Standard.{standardRow, superFrame}
 use Rattle.superframe.specs.WholeRuns.{runNumber}
 use Rattle.block.proofs.Blocks.{bits-block}
@@ -238,35 +237,49 @@ of-a-run true true false = refl
 of-a-run true false d = refl
 of-a-run false b d = refl
 
-run-refusal : (state : State) (memory : List ℤ) (c : CodeCall) → Fits (state .scheme) memory → Ordered false state memory → runNumber (codeRefusal state memory c) ≡ true
+run-refusal : (state : State) (memory : List ℕ) (c : CodeCall) → Fits (state .scheme) memory → Ordered false state memory → runNumber (codeRefusal state memory c) ≡ true
 unfolding codeRefusal first
 run-refusal state memory c f o =
     let s = state .scheme in
     rw (f .scheme, eq-eqb _ _ (f .long), in-order false state memory o)
     (of-a-run (byteLengths (s .settings) (c .fac) (c .sdc) (c .msc)) (cellLengths (s .settings) (c .faccells) (c .sdccells) (c .msccells)) (sparesZero (s .settings) (c .sdc) (c .msc)))
 
--- A list of calls from super frame m on, whose memory keeps the frames before: its cells are the standard's super frames, and it is refused by 9, 10 or 11 only.
+-- State and memory of a run of a scheme: neither is refused.
+pub record Standing (s : Scheme) (state : State) (memory : List ℕ) : Type 0 where
+  pub scheme : state .scheme ≡ s
+  pub fits : Fits s memory
+  pub order : Ordered false state memory
+
+-- A list of calls from super frame m on, whose memory keeps the frames before: its cells are the standard's super frames, it is refused by 9, 10 or 11 only,
+-- and so is every call after it.
 module _ (s : Scheme) (c : Coding s) (allowed : schemeRefusal s ≡ 0) (B : Bits) (w : Whole s B) where
+  keeps-standing : (m : ℕ) (q : Progress) → Keeps s (frameAt s (B .frames)) storedAge (3 * m) q → 3 * m ≤ length (B .frames) → Standing s (stateOf s q) (q .memory)
+  unfolding stateOf
+  keeps-standing m q K low =
+      record {
+        scheme = refl;
+        fits = record { scheme = allowed; long = K .long };
+        order = keeps-ordered false s c (frameAt s (B .frames)) storedAge (λ d i. refl) (3 * m) q K (λ i h. frame-good false s c (B .frames) i (all-at (w .frameBits) i (omega arith)));
+      }
+
   keeps-run : (m : ℕ) (q : Progress) → Keeps s (frameAt s (B .frames)) storedAge (3 * m) q → 3 * m ≤ length (B .frames) → (call : CodeCall)
       → runNumber (codeRefusal (stateOf s q) (q .memory) call) ≡ true
-  unfolding stateOf memoryLength
-  keeps-run m q K low call =
-      run-refusal (stateOf s q) (q .memory) call
-      (record { scheme = allowed; long = K .long })
-      (keeps-ordered false s c (frameAt s (B .frames)) storedAge (λ d i. refl) (3 * m) q K (λ i h. frame-good false s c (B .frames) i (all-at (w .frameBits) i (omega arith))))
+  unfolding stateOf
+  keeps-run m q K low call = let S = keeps-standing m q K low in run-refusal (stateOf s q) (q .memory) call (S .fits) (S .order)
 
   abbrev Coded : List CodeCall → Progress → Type 0
   Coded calls q =
       (m : ℕ) → Keeps s (frameAt s (B .frames)) storedAge (3 * m) q → 3 * m ≤ length (B .frames) → Ahead B m (brought (stateOf s q) (q .memory) calls)
       → (sent (stateOf s q) (q .memory) calls ≡ table (superFrame s B) m (length (brought (stateOf s q) (q .memory) calls .sdc)))
       × (every (map runNumber (refusals (stateOf s q) (q .memory) calls)) ≡ true)
+      × Standing s (stateAfter (stateOf s q) (q .memory) calls) (memoryAfter (stateOf s q) (q .memory) calls)
 
   coded-none : (q : Progress) → Coded [] q
-  unfolding sent brought refusals noBits table every
-  coded-none q m K low A = (refl, refl)
+  unfolding sent brought refusals stateAfter memoryAfter noBits table every
+  coded-none q m K low A = (refl, refl, keeps-standing m q K low)
 
   coded-accepted : (call : CodeCall) (calls : List CodeCall) (q : Progress) → codeRefusal (stateOf s q) (q .memory) call ≡ 0 → Coded calls (coded s q call) → Coded (call ∷ calls) q
-  unfolding sent refusals codes codeAccepted coded stateOf progressOf table every bringing
+  unfolding sent refusals stateAfter memoryAfter codes codeAccepted coded stateOf progressOf table every bringing
   coded-accepted call calls q h next m K low A =
       let rest = brought (stateOf s (coded s q call)) (coded s q call .memory) calls in
       let a : Ahead B m (bringing s call rest) = rw (brought-accepted s q call calls h) at A in
@@ -274,14 +287,16 @@ module _ (s : Scheme) (c : Coding s) (allowed : schemeRefusal s ≡ 0) (B : Bits
       let run = keeps-run m q K low call in (
         rw (brought-accepted s q call calls h, code-accepts (stateOf s q) (q .memory) call h) (ap₂ _∷_ (frame-of s B m call rest a c q K) (n .0)),
         rw (code-accepts (stateOf s q) (q .memory) call h) (both (rw h at run) (n .1)),
+        rw (code-accepts (stateOf s q) (q .memory) call h) (n .2),
       )
 
   coded-refused : (call : CodeCall) (calls : List CodeCall) (q : Progress) → 0 < codeRefusal (stateOf s q) (q .memory) call → Coded calls q → Coded (call ∷ calls) q
-  unfolding sent refusals codeRefused every
+  unfolding sent refusals stateAfter memoryAfter codeRefused every
   coded-refused call calls q h same m K low A =
       let n = same m K low (rw (brought-refused s q call calls h) at A) in (
         rw (brought-refused s q call calls h, not-coded s q call calls h, refused s q call calls h) (n .0),
         rw (refused s q call calls h) (both (keeps-run m q K low call) (n .1)),
+        rw (refused s q call calls h) (n .2),
       )
 
   pub all-coded : (calls : List CodeCall) (q : Progress) → Coded calls q

@@ -15,11 +15,11 @@ use Rattle.superframe.specs.Interleaving.{Progress, sentPlace, delay, sl
 use Rattle.superframe.specs.Call.{joined}
 use Rattle.superframe.specs.Standard.{standardRow}
 use Rattle.lists.proofs.Tables.{table-ext}
-use Rattle.superframe.proofs.Memory.{length-stored, stored-same, stored-other}
-use Rattle.superframe.proofs.Slots.{slot-zero, slot-once, slot-next, next-low}
+use Rattle.superframe.proofs.Memory.{numbers-long, slot-even, length-stored, stored-same, stored-other}
+use Rattle.superframe.proofs.Slots.{slot-low, slot-zero, slot-once, slot-next, next-low}
 use Rattle.superframe.proofs.Places.{delay-low, sent-low}
 use Rattle.superframe.proofs.Coding.{Coding, depth-low}
-use Rattle.superframe.proofs.History.{frameAt, frame-long, aged, aged-zero, aged-suc, earlier-aged, Keeps}
+use Rattle.superframe.proofs.History.{frameAt, frame-long, frame-small, aged, aged-zero, aged-suc, earlier-aged, Keeps}
 
 -- In the coder's memory every number of a slot is of the frame that was stored there.
 abbrev pub storedAge : ℕ → ℕ → ℕ
@@ -37,9 +37,10 @@ module _ (s : Scheme) (c : Coding s) (F : List (List ℕ)) where
         ≡ getD (aged s (frameAt s F) (suc f) e) (sentPlace (nMux (s .settings)) k) (pos 0)
     newest zero k h b =
         rw (slot-zero (depth (s .settings)) (q .position) (K .low), aged-zero s (frameAt s F) f)
-        (stored-same (slotSize (s .settings)) (depth (s .settings)) (q .memory) (K .long) (q .position) (frameAt s F f) (sentPlace (nMux (s .settings)) k) (K .low) (frame-long s F f) (place-low k))
+        (stored-same (slotSize (s .settings)) (depth (s .settings)) (q .memory) (numbers-long (s .settings) (q .memory) (K .long)) (slot-even (s .settings)) (q .position) (frameAt s F f) (sentPlace (nMux (s .settings)) k) (K .low) (frame-long s F f) (frame-small s F f _) (place-low k))
     newest (suc d) k h b =
-        stored-other (slotSize (s .settings)) (depth (s .settings)) (q .memory) (K .long) (q .position) (slotBefore (depth (s .settings)) (q .position) (suc d)) (frameAt s F f) (sentPlace (nMux (s .settings)) k)
+        stored-other (slotSize (s .settings)) (depth (s .settings)) (q .memory) (numbers-long (s .settings) (q .memory) (K .long)) (slot-even (s .settings)) (q .position) (slotBefore (depth (s .settings)) (q .position) (suc d)) (frameAt s F f) (sentPlace (nMux (s .settings)) k)
+        (slot-low (depth (s .settings)) (q .position) (K .low) (suc d))
         (λ e. apart (slot-once (depth (s .settings)) (q .position) (K .low) (suc d) 0 h (depth-low (s .settings)) (e ∙ sym (slot-zero (depth (s .settings)) (q .position) (K .low)))))
         (frame-long s F f) (place-low k)
         ∙ K .number d k (omega arith) b
@@ -61,7 +62,7 @@ module _ (s : Scheme) (c : Coding s) (F : List (List ℕ)) where
     unfolding advanced
     coder-keeps =
         record {
-          long = length-stored (slotSize (s .settings)) (depth (s .settings)) (q .memory) (K .long) (q .position) (frameAt s F f);
+          long = length-stored (slotSize (s .settings)) (q .memory) (q .position) (frameAt s F f) ∙ K .long;
           low = next-low (depth (s .settings)) (q .position) (K .low);
           counted = omega (arith, K .counted);
           number = λ d k h b. rw (slot-next (depth (s .settings)) (q .position) (K .low) d h) (newest d k h b);

@@ -1,10 +1,11 @@
--- What the laws of runs use of a settings' coding: of each kind of block that reading undoes coding, and of the sizes how they fit.
+-- What the laws of runs use of a scheme's coding: of each kind of block that reading undoes coding, and of the sizes how they fit.
 use Prim.Native.Nat.{ℕ, zero, suc, _+_, _*_, _%_, _≤_, _<_}
-use mathlib.Core.Path.{_≡_}
+use mathlib.Core.Path.{_≡_, refl}
+use mathlib.Core.Logic.{inl, inr}
 use mathlib.Core.Bool.{Bool, true, false, cond}
-use mathlib.Core.List.{List, [], _∷_, _++_}
+use mathlib.Core.List.{List, [], _∷_, _++_, map}
 use native.Mathlib.Omega.{arith}
-use lib.ListN.{length, getD}
+use lib.ListN.{length, getD, List·getD-eq-default}
 use lib.IntN.{ℤ, pos}
 use lib.Dec.{eqb}
 use Rattle.settings.specs.declared.Settings.{Settings}
@@ -12,7 +13,13 @@ use Rattle.channels.specs.declared.Scheme.{Scheme}
 use Rattle.settings.specs.Cells.{facCells}
 use Rattle.settings.specs.Lengths.{nMux, nSfa, nSdc, lSdc}
 use Rattle.settings.specs.Sizes.{depth, frameBits, frameBytes, sdcBytes}
-use Rattle.block.specs.Mapping.{Constellation, axis}
+use Rattle.lists.specs.Lists.{table}
+use Rattle.lists.specs.Bools.{every}
+use Rattle.lists.specs.Same.{sameNumber}
+use Rattle.cellbytes.specs.TwosComplement.{modulo, twosComplement}
+use Rattle.cellbytes.specs.CellBytes.{signed, fourBits}
+use Rattle.cellbytes.specs.Contracts.{Small}
+use Rattle.block.specs.Mapping.{Constellation, constellation, coordinate, qam4, qam16, standard64, symmetric64, mapped, axis}
 use Rattle.block.specs.declared.Block.{Block}
 use Rattle.block.specs.Block.{bitCount, cellsOf, pointsOf}
 use Rattle.block.specs.Points.{onAxis, isPoint, arePoints}
@@ -26,7 +33,11 @@ use Rattle.superframe.specs.Runs.{bitsOf}
 use Rattle.block.specs.Fits.{BlockBits}
 use Rattle.block.specs.Reads.{ReadsBytes}
 use Rattle.block.proofs.Blocks.{length-cells}
-use Rattle.lists.proofs.Bools.{both, table-every}
+use Rattle.lists.proofs.Bools.{both, and-left, and-right, table-every}
+use Rattle.lists.proofs.Counting.{below-or}
+use Rattle.lists.proofs.Tables.{getD-table}
+use Rattle.lists.proofs.Same.{sameNumber-true}
+use Rattle.cellbytes.proofs.CellBytes.{small-pos}
 
 -- Bits of a block, each of a list.
 pub data AllBits (k : Block) : List (List ℕ) → Type 0 where
@@ -73,6 +84,37 @@ sdc-long s x = length-cells (sdcBlock s) x
 pub msc-long : (s : Scheme) (x : List ℕ) → length (cellsOf (mscBlock s) x) ≡ slotSize (s .settings)
 unfolding mscBlock slotSize
 msc-long s x = length-cells (mscBlock s) x
+
+-- Coordinates are numbers that four bits hold, and so are all numbers of a block's cells, whatever its bits.
+isSmall : ℤ → Bool
+isSmall v = sameNumber (signed (fourBits v)) v
+
+small-in : (l : List ℤ) → every (map isSmall l) ≡ true → (n : ℕ) → Small (getD l n (pos 0))
+unfolding isSmall every
+small-in [] h n = small-pos 0 (omega arith)
+small-in (v ∷ l) h zero = record { back = sameNumber-true _ v (and-left (sameNumber (signed (fourBits v)) v) (every (map isSmall l)) h) }
+small-in (v ∷ l) h (suc n) = small-in l (and-right (sameNumber (signed (fourBits v)) v) (every (map isSmall l)) h) n
+
+coordinate-small : (c : ℕ) → (every (map isSmall (constellation c .real)) ≡ true) × (every (map isSmall (constellation c .imaginary)) ≡ true)
+unfolding constellation qam4 qam16 standard64 symmetric64 table coordinate isSmall sameNumber signed fourBits twosComplement modulo every
+coordinate-small zero = (refl, refl)
+coordinate-small (suc zero) = (refl, refl)
+coordinate-small (suc (suc zero)) = (refl, refl)
+coordinate-small (suc (suc (suc zero))) = (refl, refl)
+coordinate-small (suc (suc (suc (suc zero)))) = (refl, refl)
+coordinate-small (suc (suc (suc (suc (suc c))))) = (refl, refl)
+
+axis-small : (b : Bool) (c n : ℕ) → Small (getD (cond b (constellation c .real) (constellation c .imaginary)) n (pos 0))
+axis-small true c n = small-in (constellation c .real) (coordinate-small c .0) n
+axis-small false c n = small-in (constellation c .imaginary) (coordinate-small c .1) n
+
+pub cells-small : (k : Block) (x : List ℕ) (j : ℕ) → Small (getD (cellsOf k x) j (pos 0))
+unfolding cellsOf mapped axis pointsOf
+cells-small k x j =
+    elim (below-or j (2 * k .cells)) [
+      | inl h ↦ rw (getD-table (pos 0) _ (2 * k .cells) j h) (axis-small (eqb (j % 2) 0) (k .constellation) _)
+      | inr h ↦ rw (List·getD-eq-default (cellsOf k x) (pos 0) {n = j} (rw (length-cells k x) h)) (small-pos 0 (omega arith))
+    ]
 
 -- The depth is at least 1 and at most 5.
 pub depth-low : (s : Settings) → 1 ≤ depth s

@@ -217,11 +217,11 @@ module _ (s : Scheme) (C : Coding s) (q : Progress) (c : ReadCall) where
   blocks-mean b = (fails-given b, given-fails b)
 
 -- A row finishes a frame if D - 1 frames were seen before it; so rows finish count + rows - (D - 1) frames.
-finished-none : (s : Settings) (q : Progress) (m : List ℤ) → q .count < depth s - 1 → finishedBy s q m ≡ []
+finished-none : (s : Settings) (q : Progress) (m : List ℕ) → q .count < depth s - 1 → finishedBy s q m ≡ []
 unfolding finishedBy
 finished-none s q m h = rw (ne-eqb (q .count) (depth s - 1) (λ e. omega arith))
 
-finished-one : (s : Settings) (q : Progress) (m : List ℤ) → q .count ≡ depth s - 1 → length (finishedBy s q m) ≡ 1
+finished-one : (s : Settings) (q : Progress) (m : List ℕ) → q .count ≡ depth s - 1 → length (finishedBy s q m) ≡ 1
 unfolding finishedBy
 finished-one s q m h = rw (eq-eqb (q .count) (depth s - 1) h)
 
@@ -241,7 +241,7 @@ unfolding rowsOf parts
 three-rows s cells = length-table _ 0 3
 
 -- Three rows finish count + 3 - (D - 1) frames.
-pub count-is : (state : State) (memory : List ℤ) (c : ReadCall) → state .count < depth (state .scheme .settings)
+pub count-is : (state : State) (memory : List ℕ) (c : ReadCall) → state .count < depth (state .scheme .settings)
     → length (finishedOf state memory c) ≡ state .count + 3 - (depth (state .scheme .settings) - 1)
 unfolding finishedOf progressOf
 count-is state memory c h =

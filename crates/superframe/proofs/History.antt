@@ -4,9 +4,10 @@ use mathlib.Core.Path.{_≡_, refl, sym, ap, _∙_}
 use mathlib.Core.Logic.{inl, inr}
 use mathlib.Core.Bool.{Bool, true, _&&_, _||_}
 use mathlib.Core.List.{List, [], _∷_, append-nil}
-use native.Mathlib.Nat.{zero-add, mul-comm, sub-zero, suc-sub-suc, div-add-mod', mod-lt, div-lt-iff-lt-mul}
+use native.Mathlib.Nat.{zero-add, mul-comm, mul-left-comm, sub-zero, suc-sub-suc, div-add-mod', mod-lt, div-lt-iff-lt-mul}
 use native.Mathlib.Omega.{arith}
-use lib.ListN.{length, getD, replicate, length-replicate}
+use lib.ListN.{length, getD, drop, replicate, length-replicate}
+use lib.Seq.{getD-take, getD-drop}
 use lib.IntN.{ℤ, pos}
 use lib.Dec.{lit<}
 use borrow.Author.Tests.{le-leb, lt-leb}
@@ -20,9 +21,9 @@ use Rattle.block.specs.Block.{cellsOf, pointsOf, bitCount}
 use Rattle.lists.specs.Bools.{every}
 use Rattle.block.specs.Points.{isPoint}
 use Rattle.channels.specs.Msc.{mscBlock}
-use Rattle.superframe.specs.Memory.{slotSize, numberIn, startFrame, slotOf}
+use Rattle.superframe.specs.Memory.{slotSize, numberIn, startFrame}
 use Rattle.superframe.specs.Interleaving.{Progress, sentPlace, delay, slotBefore}
-use Rattle.superframe.specs.Call.{part, joined, isEmpty, memoryCell}
+use Rattle.superframe.specs.Call.{part, joined, memoryLength, isEmpty, memoryCell}
 use Rattle.superframe.specs.Reset.{startMemory}
 use Rattle.superframe.specs.Code.{stateOf}
 use Rattle.superframe.specs.Contracts.{Ordered}
@@ -30,13 +31,16 @@ use Rattle.superframe.specs.Standard.{earlierCells, standardRow}
 use Rattle.lists.proofs.Tables.{getD-table, replicate-table}
 use Rattle.lists.proofs.Bools.{or-right, every-table}
 use Rattle.superframe.proofs.Lists.{part-joined, length-joined}
-use Rattle.superframe.proofs.Memory.{getD-slot}
+use Rattle.superframe.proofs.Memory.{packed-at, slot-before}
 use Rattle.superframe.proofs.Slots.{slot-low, slot-cover}
 use Rattle.superframe.proofs.Places.{sent-real, sent-imaginary, cell-sent, sent-low}
+use Rattle.cellbytes.specs.CellBytes.{numbers, bytes}
+use Rattle.cellbytes.specs.Contracts.{Small}
+use Rattle.cellbytes.proofs.CellBytes.{length-bytes, real-at, imaginary-at}
 use Rattle.block.specs.Fits.{BlockBits}
 use Rattle.component.specs.Bits.{Bits}
 use Rattle.component.proofs.Bits.{bits-nil, bits-cons}
-use Rattle.superframe.proofs.Coding.{Coding, msc-long, depth-low, point-at}
+use Rattle.superframe.proofs.Coding.{Coding, msc-long, cells-small, depth-low, point-at}
 
 -- The frames G before frame f, newest first.
 unfoldable pub past : (ℕ → List ℤ) → ℕ → List (List ℤ)
@@ -81,9 +85,10 @@ module _ (s : Scheme) (G : ℕ → List ℤ) where
   aged-all P start (suc f) each zero = each f (omega arith)
   aged-all P start (suc f) each (suc d) = aged-all P start f (λ i h. each i (omega arith)) d
 
--- Rows R carry frames G: each frame has the numbers of a slot, and number k of row f is of the frame sent that many rows before, where there is one.
+-- Rows R carry frames G: each frame has the numbers of a slot, which four bits hold, and number k of row f is of the frame sent that many rows before, where there is one.
 pub record Carries (s : Scheme) (G R : ℕ → List ℤ) : Type 0 where
   pub long : (f : ℕ) → length (G f) ≡ slotSize (s .settings)
+  pub small : (f k : ℕ) → Small (getD (G f) k (pos 0))
   pub number : (f k : ℕ) → k < slotSize (s .settings) → delay (depth (s .settings)) k ≤ f
       → getD (R f) k (pos 0) ≡ getD (G (f - delay (depth (s .settings)) k)) (sentPlace (nMux (s .settings)) k) (pos 0)
 
@@ -94,6 +99,10 @@ frameAt s F f = cellsOf (mscBlock s) (getD F f [])
 pub frame-long : (s : Scheme) (F : List (List ℕ)) (f : ℕ) → length (frameAt s F f) ≡ slotSize (s .settings)
 unfolding frameAt
 frame-long s F f = msc-long s (getD F f [])
+
+pub frame-small : (s : Scheme) (F : List (List ℕ)) (f k : ℕ) → Small (getD (frameAt s F f) k (pos 0))
+unfolding frameAt
+frame-small s F f k = cells-small (mscBlock s) (getD F f []) k
 
 -- The standard's sent cells by age; so the standard's rows carry a run's frames.
 pub earlier-aged : (s : Scheme) (F : List (List ℕ)) (f d : ℕ) → earlierCells s F f d ≡ aged s (frameAt s F) (suc f) d
@@ -112,11 +121,11 @@ standard-aged s F f k h =
     ∙ rw (earlier-aged s F f (delay (depth (s .settings)) k))
 
 pub standard-carries : (s : Scheme) (F : List (List ℕ)) → Carries s (frameAt s F) (standardRow s F)
-standard-carries s F = record { long = frame-long s F; number = λ f k h d. standard-aged s F f k h ∙ rw (aged-run s (frameAt s F) f (delay (depth (s .settings)) k) d) }
+standard-carries s F = record { long = frame-long s F; small = frame-small s F; number = λ f k h d. standard-aged s F f k h ∙ rw (aged-run s (frameAt s F) f (delay (depth (s .settings)) k) d) }
 
 -- What memory keeps before frame f, if the number at sent place k of the slot written d + 1 frames before the position is of the frame of age a d k.
 pub record Keeps (s : Scheme) (G : ℕ → List ℤ) (a : ℕ → ℕ → ℕ) (f : ℕ) (q : Progress) : Type 0 where
-  pub long : length (q .memory) ≡ depth (s .settings) * slotSize (s .settings)
+  pub long : length (q .memory) ≡ memoryLength (s .settings)
   pub low : q .position < depth (s .settings)
   pub counted : q .count ≡ min f (depth (s .settings) - 1)
   pub number : (d k : ℕ) → d < depth (s .settings) → k < slotSize (s .settings)
@@ -124,19 +133,42 @@ pub record Keeps (s : Scheme) (G : ℕ → List ℤ) (a : ℕ → ℕ → ℕ) (
       ≡ getD (aged s G f (a d k)) (sentPlace (nMux (s .settings)) k) (pos 0)
 
 -- A start frame in every slot.
-start-table : (s : Scheme) → startMemory s ≡ joined (table (λ i. startFrame s) 0 (depth (s .settings)))
-unfolding startMemory
-start-table s = ap joined (replicate-table (startFrame s) 0 (depth (s .settings)))
+startNumbers : Scheme → List ℤ
+startNumbers s = joined (table (λ i. startFrame s) 0 (depth (s .settings)))
 
-pub start-memory : (s : Scheme) → length (startMemory s) ≡ depth (s .settings) * slotSize (s .settings)
-start-memory s = ap length (start-table s) ∙ length-joined (slotSize (s .settings)) (λ i. startFrame s) 0 (depth (s .settings)) (λ i x y. start-long s)
+start-table : (s : Scheme) → startMemory s ≡ bytes (startNumbers s)
+unfolding startMemory startNumbers
+start-table s = ap (λ l. bytes (joined l)) (replicate-table (startFrame s) 0 (depth (s .settings)))
+
+start-numbers : (s : Scheme) → length (startNumbers s) ≡ depth (s .settings) * slotSize (s .settings)
+unfolding startNumbers
+start-numbers s = length-joined (slotSize (s .settings)) (λ i. startFrame s) 0 (depth (s .settings)) (λ i x y. start-long s)
+
+-- Slots of two numbers a cell.
+slots-cells : (s : Settings) → depth s * slotSize s ≡ 2 * memoryLength s
+unfolding slotSize memoryLength
+slots-cells s = mul-left-comm (depth s) 2 (nMux s)
+
+pub start-memory : (s : Scheme) → length (startMemory s) ≡ memoryLength (s .settings)
+start-memory s = ap length (start-table s) ∙ length-bytes (startNumbers s) ∙ omega (arith, start-numbers s, slots-cells (s .settings))
+
+start-at : (s : Scheme) (slot r : ℕ) → slot < depth (s .settings) → r < slotSize (s .settings)
+    → getD (startNumbers s) (slot * slotSize (s .settings) + r) (pos 0) ≡ getD (startFrame s) r (pos 0)
+unfolding startNumbers part
+start-at s slot r h b =
+    let n = slotSize (s .settings) in
+    let e = part-joined n (λ i. startFrame s) 0 (depth (s .settings)) (λ i x y. start-long s) [] slot h in
+    rw (mul-comm slot n, ← getD-drop (n * slot) (startNumbers s) r (pos 0), ← getD-take n (drop (n * slot) (startNumbers s)) r (pos 0) b)
+    (ap (λ l. getD l r (pos 0)) (rw append-nil at e))
 
 pub start-number : (s : Scheme) (slot r : ℕ) → slot < depth (s .settings) → r < slotSize (s .settings) → numberIn (slotSize (s .settings)) (startMemory s) slot r ≡ getD (startFrame s) r (pos 0)
-unfolding slotOf part
+unfolding numberIn startFrame
 start-number s slot r h b =
-    let e = part-joined (slotSize (s .settings)) (λ i. startFrame s) 0 (depth (s .settings)) (λ i x y. start-long s) [] slot h in
-    let m : slotOf (slotSize (s .settings)) (startMemory s) slot ≡ startFrame s = rw (start-table s, mul-comm slot (slotSize (s .settings))) (rw append-nil at e) in
-    sym (getD-slot (slotSize (s .settings)) (depth (s .settings)) (startMemory s) (start-memory s) slot r b) ∙ ap (λ l. getD l r (pos 0)) m
+    let n = slotSize (s .settings) in
+    let l = start-numbers s in
+    ap (λ m. getD (numbers m) (slot * n + r) (pos 0)) (start-table s)
+    ∙ packed-at (startNumbers s) (omega (arith, slots-cells (s .settings))) (slot * n + r) (omega (arith, slot-before n slot (depth (s .settings)) h))
+    ∙ rw (start-at s slot r h b) (cells-small (mscBlock s) _ r .back)
 
 -- After a reset no frame has been seen, and memory keeps start frames.
 pub keeps-start : (s : Scheme) (c : Coding s) (G : ℕ → List ℤ) (a : ℕ → ℕ → ℕ) → Keeps s G a 0 (record { memory = startMemory s; position = 0; count = 0 })
@@ -221,7 +253,7 @@ module _ (empties : Bool) (s : Scheme) (c : Coding s) (G : ℕ → List ℤ) (a 
           let e : i / n * n + i % n ≡ i = div-add-mod' i n in
           let re : i / n * (2 * n) + 2 * (i % n) ≡ 2 * i = omega arith in
           let im : i / n * (2 * n) + (2 * (i % n) + 1) ≡ 2 * i + 1 = omega arith in
-          rw (re, im) at (keeps-cell f q K ok (i / n) (i % n) (div-lt-iff-lt-mul (omega arith) .1 h) (mod-lt i (omega arith)))
+          rw (re, im, real-at (q .memory) i, imaginary-at (q .memory) i) at (keeps-cell f q K ok (i / n) (i % n) (div-lt-iff-lt-mul (omega arith) .1 h) (mod-lt i (omega arith)))
 
   -- Position, count and memory are those that 12 lets pass.
   pub keeps-ordered : (f : ℕ) (q : Progress) → Keeps s G a f q → ((i : ℕ) → i < f → Good empties s (G i)) → Ordered empties (stateOf s q) (q .memory)

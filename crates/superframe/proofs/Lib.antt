@@ -12,6 +12,7 @@ pub mod CodeRuns
 pub mod ReadCalls
 pub mod ReadRuns
 pub mod Runs
+pub mod Moments
 pub mod SameBits
 pub mod WholeRuns
 pub mod Faults

@@ -49,7 +49,7 @@ use Rattle.superframe.proofs.Runs.{begun-allowed}
 use Rattle.superframe.proofs.Sendable.{sent-is, sent-nowhere}
 
 -- Rows that agree wherever a number is not ignored are taken alike.
-taken-same : (s : Settings) (position count : ℕ) (one two : List ℤ) (n k : ℕ) (memory : List ℤ)
+taken-same : (s : Settings) (position count : ℕ) (one two : List ℤ) (n k : ℕ) (memory : List ℕ)
     → ((j : ℕ) → k ≤ j → j < k + n → delay (depth s) j ≤ count → getD one j (pos 0) ≡ getD two j (pos 0))
     → takenFrom s position count one k n memory ≡ takenFrom s position count two k n memory
 unfolding takenFrom
@@ -58,7 +58,7 @@ taken-same s position count one two (suc n) k memory h =
     ap (takenFrom s position count one (suc k) n) step
     ∙ taken-same s position count one two n (suc k) _ (λ j x y. h j (omega arith) (omega arith))
   where
-    at : ℤ → List ℤ
+    at : ℤ → List ℕ
     at v = replaced (slotSize s) memory (slotBefore (depth s) position (delay (depth s) k)) (sentPlace (nMux s) k) v
 
     step : cond (leb (delay (depth s) k) count) (at (getD one k (pos 0))) memory ≡ cond (leb (delay (depth s) k) count) (at (getD two k (pos 0))) memory
@@ -104,7 +104,7 @@ points-same s count one two h = ap every (table-ext _ _ 0 (nMux (s .settings)) (
         ]
 
 -- Read calls that differ in ignored cells only: each of their tests, and what they yield.
-module _ (state : State) (memory : List ℤ) (one two : ReadCall) (D : DifferIgnored (state .scheme .settings) (state .count) one two) where
+module _ (state : State) (memory : List ℕ) (one two : ReadCall) (D : DifferIgnored (state .scheme .settings) (state .count) one two) where
   order-same : orderRefusal state memory one ≡ orderRefusal state memory two
   unfolding orderRefusal cellLengths byteLengths
   order-same = rw (D .fac, D .sdc, D .long, D .facOut, D .sdcOut, D .mscOut)

@@ -27,7 +27,7 @@ use Rattle.channels.specs.Sdc.{sdcBlock}
 use Rattle.channels.specs.Msc.{mscBlock}
 use Rattle.superframe.specs.Memory.{slotSize}
 use Rattle.superframe.specs.Interleaving.{Progress, delay, afterRows, finishedFrames, fillers}
-use Rattle.superframe.specs.Call.{part, parts, joined, facBytes, memoryLength}
+use Rattle.superframe.specs.Call.{part, parts, joined, facBytes}
 use Rattle.superframe.specs.Code.{progressOf, stateOf}
 use Rattle.superframe.specs.Read.{ReadCall, answerNumber, answerFrames, rowsOf, fillersOf, rowCell, rowPoints, countAt, pointTests, givenTests, orderRefusal, handedOut, readAccepted, readOf}
 use Rattle.superframe.specs.Contracts.{BytesFit}
@@ -154,7 +154,7 @@ module _ (s : Scheme) (c : Coding s) (B : Bits) (w : Whole s B) (m : ℕ) (low :
   module _ (allowed : schemeRefusal s ≡ 0) (q : Progress) (K : Keeps s (frameAt s (B .frames)) (sentAge (depth (s .settings))) (3 * m) q) (fac sdc msc : List ℕ) (bytes : BytesFit (s .settings) fac sdc msc) where
     -- No number up to 12 refuses the call.
     fed-order : orderRefusal (stateOf s q) (q .memory) (feeding (superFrame s B m) fac sdc msc) ≡ 0
-    unfolding stateOf feeding memoryLength
+    unfolding stateOf feeding
     fed-order =
         fits-read (stateOf s q) (q .memory) (feeding (superFrame s B m) fac sdc msc)
         (record {

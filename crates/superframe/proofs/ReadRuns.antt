@@ -7,7 +7,6 @@ use mathlib.Core.List.{List, [], _∷_, _++_, map}
 use native.Mathlib.Nat.{add-zero, sub-self}
 use native.Mathlib.Omega.{arith}
 use lib.ListN.{length, getD, replicate, length-replicate}
-use lib.IntN.{ℤ}
 use lib.Dec.{eqb}
 use Rattle.lists.specs.Lists.{table}
 use Rattle.channels.specs.declared.Scheme.{Scheme}
@@ -29,7 +28,7 @@ use Rattle.superframe.proofs.CodeRuns.{Whole}
 use Rattle.superframe.proofs.ReadCalls.{feeding, readOn, handing, Reading, fed-reading}
 
 -- A call that is not accepted leaves state and memory, and hands out nothing.
-module _ (state : State) (memory : List ℤ) (c : ReadCall) (h : reads state memory c ≡ false) where
+module _ (state : State) (memory : List ℕ) (c : ReadCall) (h : reads state memory c ≡ false) where
   kept : readOf state memory c ≡ readRefused state memory c
   unfolding readOf reads readAccepted answerNumber
   kept = go (eqb (answerNumber (answerOf state memory c)) 0) refl

@@ -17,9 +17,12 @@ use Rattle.lists.proofs.Counting.{below-or, Among}
 use Rattle.channels.specs.declared.Scheme.{Scheme}
 use Rattle.settings.specs.Lengths.{nMux}
 use Rattle.settings.specs.Sizes.{depth}
+use Rattle.cellbytes.specs.CellBytes.{numbers}
+use Rattle.cellbytes.specs.Contracts.{Small}
+use Rattle.superframe.specs.Call.{memoryLength}
 use Rattle.superframe.specs.Memory.{slotSize, numberIn, replaced, slotOf}
 use Rattle.superframe.specs.Interleaving.{Progress, sentPlace, delay, slotBefore, advanced, takenFrom, taken, finishedBy, afterRows, finishedFrames}
-use Rattle.superframe.proofs.Memory.{length-replaced, replaced-same, replaced-other, length-slot, getD-slot}
+use Rattle.superframe.proofs.Memory.{numbers-long, length-replaced, replaced-same, replaced-other, length-slot, getD-slot}
 use Rattle.superframe.proofs.Slots.{slot-low, slot-zero, slot-once, slot-next, slot-last, next-low}
 use Rattle.superframe.proofs.Places.{delay-low, delay-cell, sent-low, sent-once, sent-cover}
 use Rattle.superframe.proofs.Coding.{Coding, depth-low}
@@ -31,78 +34,79 @@ module _ (s : Scheme) (c : Coding s) (position count : ℕ) (row : List ℤ) whe
   place-low k = sent-low (nMux (s .settings)) (c .big) k
 
   -- Memory after number k of the row: replaced where it is wanted.
-  step : ℕ → List ℤ → List ℤ
+  step : ℕ → List ℕ → List ℕ
   step k memory =
       cond (leb (delay (depth (s .settings)) k) count)
       (replaced (slotSize (s .settings)) memory (slotBefore (depth (s .settings)) position (delay (depth (s .settings)) k)) (sentPlace (nMux (s .settings)) k) (getD row k (pos 0)))
       memory
 
-  step-wanted : (k : ℕ) (memory : List ℤ) → delay (depth (s .settings)) k ≤ count
+  step-wanted : (k : ℕ) (memory : List ℕ) → delay (depth (s .settings)) k ≤ count
       → step k memory ≡ replaced (slotSize (s .settings)) memory (slotBefore (depth (s .settings)) position (delay (depth (s .settings)) k)) (sentPlace (nMux (s .settings)) k) (getD row k (pos 0))
   unfolding step
   step-wanted k memory h = rw (le-leb (delay (depth (s .settings)) k) count h)
 
-  step-ignored : (k : ℕ) (memory : List ℤ) → count < delay (depth (s .settings)) k → step k memory ≡ memory
+  step-ignored : (k : ℕ) (memory : List ℕ) → count < delay (depth (s .settings)) k → step k memory ≡ memory
   unfolding step
   step-ignored k memory h = rw (lt-leb (delay (depth (s .settings)) k) count h)
 
-  length-step : (k : ℕ) (memory : List ℤ) → length memory ≡ depth (s .settings) * slotSize (s .settings) → length (step k memory) ≡ depth (s .settings) * slotSize (s .settings)
+  length-step : (k : ℕ) (memory : List ℕ) → length memory ≡ memoryLength (s .settings) → length (step k memory) ≡ memoryLength (s .settings)
   length-step k memory long =
       elim (below-or count (delay (depth (s .settings)) k)) [
         | inl h ↦ ap length (step-ignored k memory h) ∙ long
-        | inr h ↦ ap length (step-wanted k memory h) ∙ length-replaced (slotSize (s .settings)) (depth (s .settings)) memory long _ _ _
+        | inr h ↦ ap length (step-wanted k memory h) ∙ length-replaced (slotSize (s .settings)) memory _ _ _ ∙ long
       ]
 
   -- A number of the row leaves every other place as it was.
-  step-other : (k : ℕ) (memory : List ℤ) → length memory ≡ depth (s .settings) * slotSize (s .settings) → (slot r : ℕ) → r < slotSize (s .settings)
+  step-other : (k : ℕ) (memory : List ℕ) → length memory ≡ memoryLength (s .settings) → (slot r : ℕ) → slot < depth (s .settings) → r < slotSize (s .settings)
       → (slot ≡ slotBefore (depth (s .settings)) position (delay (depth (s .settings)) k) → r ≡ sentPlace (nMux (s .settings)) k → count < delay (depth (s .settings)) k)
       → numberIn (slotSize (s .settings)) (step k memory) slot r ≡ numberIn (slotSize (s .settings)) memory slot r
-  step-other k memory long slot r b h =
+  step-other k memory long slot r o b h =
       elim (below-or count (delay (depth (s .settings)) k)) [
         | inl x ↦ ap (λ m. numberIn (slotSize (s .settings)) m slot r) (step-ignored k memory x)
         | inr x ↦
             ap (λ m. numberIn (slotSize (s .settings)) m slot r) (step-wanted k memory x)
-            ∙ replaced-other (slotSize (s .settings)) (depth (s .settings)) memory long _ slot _ r _ (place-low k) b (λ e g. let y = h e g in omega arith)
+            ∙ replaced-other (slotSize (s .settings)) (depth (s .settings)) memory (numbers-long (s .settings) memory long) _ slot _ r _ o (place-low k) b (λ e g. let y = h e g in omega arith)
       ]
 
-  length-taken : (n k : ℕ) (memory : List ℤ) → length memory ≡ depth (s .settings) * slotSize (s .settings) → length (takenFrom (s .settings) position count row k n memory) ≡ depth (s .settings) * slotSize (s .settings)
+  length-taken : (n k : ℕ) (memory : List ℕ) → length memory ≡ memoryLength (s .settings) → length (takenFrom (s .settings) position count row k n memory) ≡ memoryLength (s .settings)
   unfolding takenFrom step
   length-taken zero k memory long = long
   length-taken (suc n) k memory long = length-taken n (suc k) (step k memory) (length-step k memory long)
 
   -- A place to which no number from k on goes keeps what it has.
-  miss : (n k : ℕ) (memory : List ℤ) → length memory ≡ depth (s .settings) * slotSize (s .settings) → (slot r : ℕ) → r < slotSize (s .settings)
+  miss : (n k : ℕ) (memory : List ℕ) → length memory ≡ memoryLength (s .settings) → (slot r : ℕ) → slot < depth (s .settings) → r < slotSize (s .settings)
       → ((j : ℕ) → k ≤ j → j < k + n → slot ≡ slotBefore (depth (s .settings)) position (delay (depth (s .settings)) j) → r ≡ sentPlace (nMux (s .settings)) j → count < delay (depth (s .settings)) j)
       → numberIn (slotSize (s .settings)) (takenFrom (s .settings) position count row k n memory) slot r ≡ numberIn (slotSize (s .settings)) memory slot r
   unfolding takenFrom step
-  miss zero k memory long slot r b h = refl
-  miss (suc n) k memory long slot r b h =
-      miss n (suc k) (step k memory) (length-step k memory long) slot r b (λ j x y. h j (omega arith) (omega arith))
-      ∙ step-other k memory long slot r b (h k (omega arith) (omega arith))
+  miss zero k memory long slot r o b h = refl
+  miss (suc n) k memory long slot r o b h =
+      miss n (suc k) (step k memory) (length-step k memory long) slot r o b (λ j x y. h j (omega arith) (omega arith))
+      ∙ step-other k memory long slot r o b (h k (omega arith) (omega arith))
 
   -- No later number goes to the place of number k.
   once : (k i : ℕ) → k < slotSize (s .settings) → i < slotSize (s .settings) → k < i → sentPlace (nMux (s .settings)) k ≡ sentPlace (nMux (s .settings)) i → ⊥
   unfolding slotSize
   once k i a b h e = let g : k ≡ i = sent-once (nMux (s .settings)) (c .big) k i a b e in omega arith
 
-  landed : (n k : ℕ) (memory : List ℤ) → length memory ≡ depth (s .settings) * slotSize (s .settings) → position < depth (s .settings) → k + suc n ≤ slotSize (s .settings) → delay (depth (s .settings)) k ≤ count
+  landed : (n k : ℕ) (memory : List ℕ) → length memory ≡ memoryLength (s .settings) → position < depth (s .settings) → k + suc n ≤ slotSize (s .settings) → Small (getD row k (pos 0)) → delay (depth (s .settings)) k ≤ count
       → numberIn (slotSize (s .settings)) (takenFrom (s .settings) position count row (suc k) n (step k memory)) (slotBefore (depth (s .settings)) position (delay (depth (s .settings)) k)) (sentPlace (nMux (s .settings)) k) ≡ getD row k (pos 0)
-  landed n k memory long low z w =
-      miss n (suc k) (step k memory) (length-step k memory long) _ (sentPlace (nMux (s .settings)) k) (place-low k)
+  landed n k memory long low z v w =
+      miss n (suc k) (step k memory) (length-step k memory long) _ (sentPlace (nMux (s .settings)) k) (slot-low (depth (s .settings)) position low (delay (depth (s .settings)) k)) (place-low k)
       (λ i a b _ e. absurd (once k i (omega arith) (omega arith) a e))
       ∙ ap (λ m. numberIn (slotSize (s .settings)) m (slotBefore (depth (s .settings)) position (delay (depth (s .settings)) k)) (sentPlace (nMux (s .settings)) k)) (step-wanted k memory w)
-      ∙ replaced-same (slotSize (s .settings)) (depth (s .settings)) memory long _ _ _ (slot-low (depth (s .settings)) position low (delay (depth (s .settings)) k)) (place-low k)
+      ∙ replaced-same (slotSize (s .settings)) (depth (s .settings)) memory (numbers-long (s .settings) memory long) _ _ _ v (slot-low (depth (s .settings)) position low (delay (depth (s .settings)) k)) (place-low k)
 
   -- A number that is wanted lands where the coder took it, and stays.
-  hit : (n k : ℕ) (memory : List ℤ) → length memory ≡ depth (s .settings) * slotSize (s .settings) → position < depth (s .settings) → (j : ℕ) → k ≤ j → j < k + n → k + n ≤ slotSize (s .settings)
+  hit : (n k : ℕ) (memory : List ℕ) → length memory ≡ memoryLength (s .settings) → position < depth (s .settings) → (j : ℕ) → k ≤ j → j < k + n → k + n ≤ slotSize (s .settings)
+      → Small (getD row j (pos 0))
       → delay (depth (s .settings)) j ≤ count
       → numberIn (slotSize (s .settings)) (takenFrom (s .settings) position count row k n memory) (slotBefore (depth (s .settings)) position (delay (depth (s .settings)) j)) (sentPlace (nMux (s .settings)) j) ≡ getD row j (pos 0)
   unfolding takenFrom step
-  hit zero k memory long low j x y z w = absurd (omega arith)
-  hit (suc n) k memory long low j x y z w =
+  hit zero k memory long low j x y z v w = absurd (omega arith)
+  hit (suc n) k memory long low j x y z v w =
       elim (ℕ-discrete j k) [
-        | yes e ↦ rw e (landed n k memory long low z (rw e at w))
-        | no e ↦ hit n (suc k) (step k memory) (length-step k memory long) low j (omega arith) (omega arith) (omega arith) w
+        | yes e ↦ rw e (landed n k memory long low z (rw e at v) (rw e at w))
+        | no e ↦ hit n (suc k) (step k memory) (length-step k memory long) low j (omega arith) (omega arith) (omega arith) v w
       ]
 
 -- In the reader's memory the number at sent place k of the slot written d + 1 frames before the position is of that frame if it has been sent, else of the frame that stood there before.
@@ -182,7 +186,7 @@ module _ (s : Scheme) (c : Coding s) (G R : ℕ → List ℤ) (carry : Carries s
               | inl x ↦ kept (λ y. x)
               | inr x ↦
                   rw (sent-in (depth (s .settings)) e k (omega arith), g)
-                  (hit s c (q .position) (q .count) (R f) (slotSize (s .settings)) 0 (q .memory) (K .long) (K .low) k (omega arith) (omega arith) (omega arith) (omega (arith, K .counted))
+                  (hit s c (q .position) (q .count) (R f) (slotSize (s .settings)) 0 (q .memory) (K .long) (K .low) k (omega arith) (omega arith) (omega arith) (rw (carry .number f k b (omega arith)) (carry .small _ _)) (omega (arith, K .counted))
                   ∙ carry .number f k b (omega arith)
                   ∙ ap (λ l. getD l (sentPlace (nMux (s .settings)) k) (pos 0)) (sym (aged-run s G f (delay (depth (s .settings)) k) (omega arith))))
             ]
@@ -192,7 +196,7 @@ module _ (s : Scheme) (c : Coding s) (G R : ℕ → List ℤ) (carry : Carries s
           → numberIn (slotSize (s .settings)) (taken (s .settings) q (R f)) (slotBefore (depth (s .settings)) (q .position) e) (sentPlace (nMux (s .settings)) k)
           ≡ getD (aged s G (suc f) (sentAge (depth (s .settings)) e k)) (sentPlace (nMux (s .settings)) k) (pos 0)
       kept w =
-          miss s c (q .position) (q .count) (R f) (slotSize (s .settings)) 0 (q .memory) (K .long) _ (sentPlace (nMux (s .settings)) k) (place-low s c (q .position) (q .count) (R f) k)
+          miss s c (q .position) (q .count) (R f) (slotSize (s .settings)) 0 (q .memory) (K .long) _ (sentPlace (nMux (s .settings)) k) (slot-low (depth (s .settings)) (q .position) (K .low) e) (place-low s c (q .position) (q .count) (R f) k)
           (λ j x y t g.
           let i : k ≡ j = same-place k j b (omega arith) g in
           let o = slot-once (depth (s .settings)) (q .position) (K .low) e (delay (depth (s .settings)) j) h (delay-low (depth (s .settings)) j (depth-low (s .settings))) t in
@@ -217,13 +221,13 @@ module _ (s : Scheme) (c : Coding s) (G R : ℕ → List ℤ) (carry : Carries s
   finished-frame =
       ext-getD (pos 0) _ _
       (long ∙ sym (aged-all s G (λ l. length l ≡ slotSize (s .settings)) (start-long s) (suc f) (λ i _. carry .long i) (depth (s .settings) - 1)))
-      (λ r b. let h = rw long at b in getD-slot (slotSize (s .settings)) (depth (s .settings)) (taken (s .settings) q (R f)) kept _ r h ∙ number r h (covers s c r h))
+      (λ r b. let h = rw long at b in getD-slot (slotSize (s .settings)) (depth (s .settings)) (taken (s .settings) q (R f)) slots _ r h ∙ number r h (covers s c r h))
     where
-      kept : length (taken (s .settings) q (R f)) ≡ depth (s .settings) * slotSize (s .settings)
-      kept = length-taken s c (q .position) (q .count) (R f) (slotSize (s .settings)) 0 (q .memory) (K .long)
+      slots : length (numbers (taken (s .settings) q (R f))) ≡ depth (s .settings) * slotSize (s .settings)
+      slots = numbers-long (s .settings) _ (length-taken s c (q .position) (q .count) (R f) (slotSize (s .settings)) 0 (q .memory) (K .long))
 
       long : length (slotOf (slotSize (s .settings)) (taken (s .settings) q (R f)) (slotBefore (depth (s .settings)) (q .position) (depth (s .settings) - 1))) ≡ slotSize (s .settings)
-      long = length-slot (slotSize (s .settings)) (depth (s .settings)) (taken (s .settings) q (R f)) kept _ (slot-low (depth (s .settings)) (q .position) (K .low) (depth (s .settings) - 1))
+      long = length-slot (slotSize (s .settings)) (depth (s .settings)) (taken (s .settings) q (R f)) slots _ (slot-low (depth (s .settings)) (q .position) (K .low) (depth (s .settings) - 1))
 
       number : (r : ℕ) → r < slotSize (s .settings) → Among (sentPlace (nMux (s .settings))) (slotSize (s .settings)) r
           → numberIn (slotSize (s .settings)) (taken (s .settings) q (R f)) (slotBefore (depth (s .settings)) (q .position) (depth (s .settings) - 1)) r ≡ getD (aged s G (suc f) (depth (s .settings) - 1)) r (pos 0)
@@ -242,7 +246,7 @@ module _ (s : Scheme) (c : Coding s) (G R : ℕ → List ℤ) (carry : Carries s
   reader-after zero f q K = rw add-zero K
   reader-after (suc n) f q K = rw (add-suc, ← suc-add) (reader-after n (suc f) _ (reader-keeps s c G R carry f q K))
 
-  none-finished : (f : ℕ) (q : Progress) (m : List ℤ) → Keeps s G (sentAge (depth (s .settings))) f q → f < depth (s .settings) - 1 → finishedBy (s .settings) q m ≡ []
+  none-finished : (f : ℕ) (q : Progress) (m : List ℕ) → Keeps s G (sentAge (depth (s .settings))) f q → f < depth (s .settings) - 1 → finishedBy (s .settings) q m ≡ []
   unfolding finishedBy
   none-finished f q m K h = let d : q .count ≡ depth (s .settings) - 1 → ⊥ = λ g. omega (arith, K .counted) in rw ne-eqb
 

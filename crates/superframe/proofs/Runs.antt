@@ -14,14 +14,14 @@ use Rattle.lists.specs.Bools.{every}
 use Rattle.superframe.specs.Interleaving.{Progress}
 use Rattle.superframe.specs.Reset.{resetRefusal, startState, startMemory}
 use Rattle.superframe.specs.Code.{stateOf}
-use Rattle.superframe.specs.Runs.{Begun, stateAt, memoryAt, Bits, brought, sent, refusals, Run, bits, cells}
+use Rattle.superframe.specs.Runs.{Begun, stateAt, memoryAt, Bits, brought, sent, refusals, stateAfter, memoryAfter, Run, bits, cells, stateNow, memoryNow}
 use Rattle.superframe.specs.Standard.{superFrame, standard}
 use Rattle.superframe.specs.WholeRuns.{standardCells, runNumber}
 use Rattle.superframe.proofs.Coding.{Coding}
 use Rattle.superframe.proofs.History.{frameAt, Keeps, keeps-start}
 use Rattle.superframe.proofs.Coder.{storedAge}
 use Rattle.superframe.proofs.Calls.{reset-fits, reset-accepts, reset-refuses}
-use Rattle.superframe.proofs.CodeRuns.{Whole, Ahead, brought-whole, all-coded}
+use Rattle.superframe.proofs.CodeRuns.{Standing, Whole, Ahead, brought-whole, all-coded}
 
 -- Memory, position and count after an accepted Reset.
 unfoldable pub startOf : Scheme → Progress
@@ -75,6 +75,8 @@ module _ (coding : (s : Scheme) → schemeRefusal s ≡ 0 → Coding s) where
         ≡ table (superFrame (run .begun .scheme) (bits run)) 0
         (length (brought (stateOf (run .begun .scheme) (startOf (run .begun .scheme))) (startOf (run .begun .scheme) .memory) (run .calls) .sdc)))
         × (every (map runNumber (refusals (stateOf (run .begun .scheme) (startOf (run .begun .scheme))) (startOf (run .begun .scheme) .memory) (run .calls))) ≡ true)
+        × Standing (run .begun .scheme) (stateAfter (stateOf (run .begun .scheme) (startOf (run .begun .scheme))) (startOf (run .begun .scheme) .memory) (run .calls))
+        (memoryAfter (stateOf (run .begun .scheme) (startOf (run .begun .scheme))) (startOf (run .begun .scheme) .memory) (run .calls))
     coded-run =
         all-coded (run .begun .scheme) (coded-by (run .begun)) (begun-allowed (run .begun)) (bits run) bits-whole (run .calls) (startOf (run .begun .scheme)) 0
         (begun-keeps (run .begun) (frameAt (run .begun .scheme) (bits run .frames)) storedAge) (omega arith) ahead
@@ -90,3 +92,8 @@ module _ (coding : (s : Scheme) → schemeRefusal s ≡ 0 → Coding s) where
     -- A call of a run is refused by 9, 10 or 11 only.
     pub run-refuses : every (map runNumber (refusals (stateAt (run .begun)) (memoryAt (run .begun)) (run .calls))) ≡ true
     run-refuses = rw (begun-state (run .begun), begun-memory (run .begun)) (coded-run .1)
+
+    -- At every moment of a run neither its state nor its memory is refused.
+    pub run-stands : Standing (run .begun .scheme) (stateNow run) (memoryNow run)
+    unfolding stateNow memoryNow
+    run-stands = rw (begun-state (run .begun), begun-memory (run .begun)) (coded-run .2)

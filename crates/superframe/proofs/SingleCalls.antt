@@ -85,7 +85,7 @@ module _ (s : Scheme) (C : Coding s) (frames : List (List ℤ)) (few : length fr
       ∙ rw e
 
 -- An accepted call's bytes give the cells.
-hands-out : (state : State) (memory : List ℤ) (c : ReadCall) → Coding (state .scheme) → ReadFits state memory c → every (givenTests (state .scheme) (progressOf state memory) c) ≡ true
+hands-out : (state : State) (memory : List ℕ) (c : ReadCall) → Coding (state .scheme) → ReadFits state memory c → every (givenTests (state .scheme) (progressOf state memory) c) ≡ true
     → HandsOut (state .scheme) (finishedOf state memory c) c (readAccepted state memory c)
 unfolding readAccepted finishedOf
 hands-out state memory c C F g =
@@ -128,7 +128,7 @@ unfolding frameCells
 three-frames s msc = ap length (map-parts (cellsFrom (mscBlock s)) (frameBytes (s .settings)) msc) ∙ length-table _ 0 3
 
 -- What an accepted Code call leaves.
-pub code-sends : (state : State) (memory : List ℤ) (c : CodeCall) → Coding (state .scheme) → Sends (state .scheme) c (codeAccepted state memory c)
+pub code-sends : (state : State) (memory : List ℕ) (c : CodeCall) → Coding (state .scheme) → Sends (state .scheme) c (codeAccepted state memory c)
 unfolding codeAccepted fillersOf
 code-sends state memory c C =
     let s = state .scheme in
@@ -184,7 +184,7 @@ then-iff p q = (λ a. q .0 (p .0 a), λ c. p .1 (q .1 c))
 and-iff : {A B C D : Type 0} → A ↔ B → C ↔ D → (A × C) ↔ (B × D)
 and-iff p q = (λ x. (p .0 (x .0), q .0 (x .1)), λ x. (p .1 (x .0), q .1 (x .1)))
 
-module _ (state : State) (memory : List ℤ) (c : ReadCall) where
+module _ (state : State) (memory : List ℕ) (c : ReadCall) where
   answer-told : orderRefusal state memory c ≡ 0
       → answerOf state memory c
       ≡ told (every (pointTests (state .scheme) (state .count) c)) (every (givenTests (state .scheme) (progressOf state memory) c))
@@ -210,7 +210,7 @@ module _ (state : State) (memory : List ℤ) (c : ReadCall) where
       go true e = let a = accepted-by (eqb-true _ 0 e) in sym (answer-finished state memory c (a .0) (a .1) (a .2))
 
 -- The tests by block, where no number up to 12 refuses.
-module _ (coding : (s : Scheme) → schemeRefusal s ≡ 0 → Coding s) (state : State) (memory : List ℤ) (c : ReadCall) (z : orderRefusal state memory c ≡ 0) where
+module _ (coding : (s : Scheme) → schemeRefusal s ≡ 0 → Coding s) (state : State) (memory : List ℕ) (c : ReadCall) (z : orderRefusal state memory c ≡ 0) where
   points : (i : ℕ) → (getD (pointTests (state .scheme) (state .count) c) i true ≡ false) ↔ Thirteen state c i
   points = points-mean (state .scheme) (state .count) c (read-fits state memory c z .cells)
 

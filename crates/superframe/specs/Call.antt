@@ -1,11 +1,12 @@
 -- What the calls share: parts of a buffer, and the tests of state and memory. 01 "Buffers and state" and "Operations".
-use Prim.Native.Nat.{ℕ, _+_, _*_}
+use Prim.Native.Nat.{ℕ, _*_}
 use mathlib.Core.Bool.{Bool, _&&_, _||_}
 use mathlib.Core.List.{List, [], _∷_, _++_}
 use lib.ListN.{getD, take, drop}
 use lib.IntN.{ℤ, pos}
 use lib.Dec.{ltb}
 use Rattle.lists.specs.Lists.{table}
+use Rattle.cellbytes.specs.CellBytes.{realOf, imaginaryOf}
 use Rattle.settings.specs.declared.Settings.{Settings}
 use Rattle.settings.specs.Lengths.{nMux}
 use Rattle.settings.specs.Sizes.{depth}
@@ -16,7 +17,6 @@ use Rattle.block.specs.Block.{pointsOf}
 use Rattle.channels.specs.declared.Scheme.{Scheme}
 use Rattle.channels.specs.Msc.{mscBlock}
 use Rattle.superframe.specs.declared.State.{State}
-use Rattle.superframe.specs.Memory.{slotSize}
 
 -- Part i of a buffer that is cut in parts of n.
 unfoldable pub part : {A : Type 0} → ℕ → List A → ℕ → List A
@@ -35,21 +35,22 @@ joined (l ∷ ls) = l ++ joined ls
 abbrev pub facBytes : ℕ
 facBytes = 9
 
--- The length that memory must have.
+-- The bytes that memory must have.
 unfoldable pub memoryLength : Settings → ℕ
-memoryLength s = depth s * slotSize s
+memoryLength s = depth s * nMux s
 
 -- An empty cell is (0, 0).
 unfoldable pub isEmpty : ℤ → ℤ → Bool
 isEmpty re im = sameNumber (pos 0) re && sameNumber (pos 0) im
 
 -- Refusal 12: position or count above 4 (above 0 in short), or a memory cell that is no MSC point. 02 S-5: an empty cell passes only where it is told so, which Code and Read do not.
-unfoldable pub memoryCell : Bool → Scheme → List ℤ → ℕ → Bool
+unfoldable pub memoryCell : Bool → Scheme → List ℕ → ℕ → Bool
 memoryCell empties s memory i =
-    (empties && isEmpty (getD memory (2 * i) (pos 0)) (getD memory (2 * i + 1) (pos 0)))
-    || isPoint (pointsOf (mscBlock s)) (getD memory (2 * i) (pos 0)) (getD memory (2 * i + 1) (pos 0))
+    let re = realOf (getD memory i 0) in
+    let im = imaginaryOf (getD memory i 0) in
+    (empties && isEmpty re im) || isPoint (pointsOf (mscBlock s)) re im
 
-unfoldable pub inOrder : Bool → State → List ℤ → Bool
+unfoldable pub inOrder : Bool → State → List ℕ → Bool
 inOrder empties state memory =
     ltb (state .position) (depth (state .scheme .settings))
     && (ltb (state .count) (depth (state .scheme .settings))

@@ -35,7 +35,7 @@ pub record CodeCall : Type 0 where
 -- All that a Code call yields: its answer, and memory and outputs as it leaves them.
 pub record CodeYield : Type 0 where
   pub done : Done
-  pub memory : List ℤ
+  pub memory : List ℕ
   pub faccells : List ℤ
   pub sdccells : List ℤ
   pub msccells : List ℤ
@@ -55,7 +55,7 @@ unfoldable pub sparesZero : Settings → List ℕ → List ℕ → Bool
 sparesZero s sdc msc = spareZero (lSdc s) sdc && every (map (spareZero (frameBits s)) (parts (frameBytes s) msc))
 
 -- The first that applies, settings and then the table before all others; 0 for acceptance.
-unfoldable pub codeRefusal : State → List ℤ → CodeCall → ℕ
+unfoldable pub codeRefusal : State → List ℕ → CodeCall → ℕ
 codeRefusal state memory c =
     let s = state .scheme in
     first (ltb 0 (schemeRefusal s)) (schemeRefusal s)
@@ -65,7 +65,7 @@ codeRefusal state memory c =
     (first (not (sparesZero (s .settings) (c .sdc) (c .msc))) 11 (first (not (inOrder false state memory)) 12 0)))))
 
 -- The progress that a state and its memory stand for, and a state from a progress.
-unfoldable pub progressOf : State → List ℤ → Progress
+unfoldable pub progressOf : State → List ℕ → Progress
 progressOf state memory = record { memory = memory; position = state .position; count = state .count }
 
 unfoldable pub stateOf : Scheme → Progress → State
@@ -76,7 +76,7 @@ unfoldable pub frameCells : Scheme → List ℕ → List (List ℤ)
 frameCells s msc = map (cellsFrom (mscBlock s)) (parts (frameBytes (s .settings)) msc)
 
 -- What an accepted call yields: each block's own cells, and the rows of its multiplex frames and the fillers.
-unfoldable pub codeAccepted : State → List ℤ → CodeCall → CodeYield
+unfoldable pub codeAccepted : State → List ℕ → CodeCall → CodeYield
 codeAccepted state memory c =
     let s = state .scheme in
     let q = progressOf state memory in
@@ -90,7 +90,7 @@ codeAccepted state memory c =
     }
 
 -- A refusal leaves everything as it was.
-unfoldable pub codeRefused : ℕ → State → List ℤ → CodeCall → CodeYield
+unfoldable pub codeRefused : ℕ → State → List ℕ → CodeCall → CodeYield
 codeRefused r state memory c =
     record {
       done = record { refusal = r; state = state };
@@ -101,7 +101,7 @@ codeRefused r state memory c =
     }
 
 -- What a Code call yields, for every input.
-unfoldable pub codeOf : State → List ℤ → CodeCall → CodeYield
+unfoldable pub codeOf : State → List ℕ → CodeCall → CodeYield
 codeOf state memory c =
     cond (eqb (codeRefusal state memory c) 0) (codeAccepted state memory c)
     (codeRefused (codeRefusal state memory c) state memory c)

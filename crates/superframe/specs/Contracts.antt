@@ -19,12 +19,12 @@ use Rattle.superframe.specs.Code.{CodeCall, sparesZero}
 use Rattle.superframe.specs.Read.{ReadCall}
 
 -- No refusal from 1 to 8, nor 23: settings that are allowed, a table that passes, and memory of the settings' length.
-pub record Fits (s : Scheme) (memory : List ℤ) : Type 0 where
+pub record Fits (s : Scheme) (memory : List ℕ) : Type 0 where
   pub scheme : schemeRefusal s ≡ 0
   pub long : length memory ≡ memoryLength (s .settings)
 
 -- No refusal 12: position and count below the depth, and every memory cell an MSC point, or empty where that passes.
-pub record Ordered (empties : Bool) (state : State) (memory : List ℤ) : Type 0 where
+pub record Ordered (empties : Bool) (state : State) (memory : List ℕ) : Type 0 where
   pub position : state .position < depth (state .scheme .settings)
   pub count : state .count < depth (state .scheme .settings)
   pub cells : every (table (memoryCell empties (state .scheme) memory) 0 (depth (state .scheme .settings) * nMux (state .scheme .settings))) ≡ true
@@ -42,7 +42,7 @@ pub record CellsFit (s : Settings) (fac sdc msc : List ℤ) : Type 0 where
   pub msclong : length msc ≡ 2 * nSfa s
 
 -- What an accepted Code call says.
-pub record CodeFits (state : State) (memory : List ℤ) (c : CodeCall) : Type 0 where
+pub record CodeFits (state : State) (memory : List ℕ) (c : CodeCall) : Type 0 where
   pub fits : Fits (state .scheme) memory
   pub bytes : BytesFit (state .scheme .settings) (c .fac) (c .sdc) (c .msc)
   pub cells : CellsFit (state .scheme .settings) (c .faccells) (c .sdccells) (c .msccells)
@@ -50,7 +50,7 @@ pub record CodeFits (state : State) (memory : List ℤ) (c : CodeCall) : Type 0 
   pub order : Ordered false state memory
 
 -- What a Read call says that no number from 1 to 12 refuses.
-pub record ReadFits (state : State) (memory : List ℤ) (c : ReadCall) : Type 0 where
+pub record ReadFits (state : State) (memory : List ℕ) (c : ReadCall) : Type 0 where
   pub fits : Fits (state .scheme) memory
   pub cells : CellsFit (state .scheme .settings) (c .faccells) (c .sdccells) (c .msccells)
   pub bytes : BytesFit (state .scheme .settings) (c .fac) (c .sdc) (c .msc)

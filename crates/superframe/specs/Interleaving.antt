@@ -27,17 +27,17 @@ slotBefore D position d = (position + D - d) % D
 
 -- Memory, the position of the slot written next, and the count of frames seen.
 pub record Progress : Type 0 where
-  pub memory : List ℤ
+  pub memory : List ℕ
   pub position : ℕ
   pub count : ℕ
 
 -- After a frame the position goes on to the next slot, and the count stops at D - 1.
-unfoldable pub advanced : ℕ → List ℤ → Progress → Progress
+unfoldable pub advanced : ℕ → List ℕ → Progress → Progress
 advanced D memory q =
     record { memory = memory; position = (q .position + 1) % D; count = min (q .count + 1) (D - 1) }
 
 -- The sent cells of a frame whose own cells have been stored at a position: what memory holds, whatever the count.
-unfoldable pub sentRow : Settings → List ℤ → ℕ → List ℤ
+unfoldable pub sentRow : Settings → List ℕ → ℕ → List ℤ
 sentRow s memory position =
     table (λ k. numberIn (slotSize s) memory (slotBefore (depth s) position (delay (depth s) k)) (sentPlace (nMux s) k)) 0 (slotSize s)
 
@@ -57,7 +57,7 @@ unfoldable pub fillers : Settings → List ℤ
 fillers s = take (2 * (nSfa s - 3 * nMux s)) (pos 1 ∷ pos 1 ∷ pos 1 ∷ negsuc 0 ∷ [])
 
 -- The reader puts a cell where the coder took it, and ignores a cell of a frame before the first: n numbers of a row, from k on.
-unfoldable pub takenFrom : Settings → ℕ → ℕ → List ℤ → ℕ → ℕ → List ℤ → List ℤ
+unfoldable pub takenFrom : Settings → ℕ → ℕ → List ℤ → ℕ → ℕ → List ℕ → List ℕ
 takenFrom s position count row k zero memory = memory
 takenFrom s position count row k (suc n) memory =
     takenFrom s position count row (suc k) n
@@ -65,11 +65,11 @@ takenFrom s position count row k (suc n) memory =
     (replaced (slotSize s) memory (slotBefore (depth s) position (delay (depth s) k)) (sentPlace (nMux s) k) (getD row k (pos 0)))
     memory)
 
-unfoldable pub taken : Settings → Progress → List ℤ → List ℤ
+unfoldable pub taken : Settings → Progress → List ℤ → List ℕ
 taken s q row = takenFrom s (q .position) (q .count) row 0 (slotSize s) (q .memory)
 
 -- A frame is finished when its last cell is in: with a row before which D - 1 frames were seen, the frame D - 1 before it.
-unfoldable pub finishedBy : Settings → Progress → List ℤ → List (List ℤ)
+unfoldable pub finishedBy : Settings → Progress → List ℕ → List (List ℤ)
 finishedBy s q memory =
     cond (eqb (q .count) (depth s - 1)) (slotOf (slotSize s) memory (slotBefore (depth s) (q .position) (depth s - 1)) ∷ []) []
 

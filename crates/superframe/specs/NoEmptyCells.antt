@@ -55,5 +55,5 @@ pub record NoEmptyCells : Type 0 where
   pub none : (run : Run) (m : ℕ) → m < length (cells run)
       → NoneEmpty (sentAt run m .fac) × NoneEmpty (sentAt run m .sdc) × NoneEmpty (sentAt run m .msc)
   -- Two Read calls that differ in ignored cells only yield the same.
-  pub ignored : (state : State) (memory : List ℤ) (one two : ReadCall) → DifferIgnored (state .scheme .settings) (state .count) one two
+  pub ignored : (state : State) (memory : List ℕ) (one two : ReadCall) → DifferIgnored (state .scheme .settings) (state .count) one two
       → readOf state memory one ≡ readOf state memory two

@@ -43,7 +43,7 @@ pub record ReadCall : Type 0 where
 -- All that a Read call yields: its answer, and memory and outputs as it leaves them.
 pub record ReadYield : Type 0 where
   pub reading : Reading
-  pub memory : List ℤ
+  pub memory : List ℕ
   pub fac : List ℕ
   pub sdc : List ℕ
   pub msc : List ℕ
@@ -96,7 +96,7 @@ givenTests s q c =
     ++ (given (sdcBlock s) (c .sdccells) ∷ map (given (mscBlock s)) (finishedFrames (s .settings) q (rowsOf (s .settings) (c .msccells))))
 
 -- 1 to 7, 23, 8 to 10, and 12.
-unfoldable pub orderRefusal : State → List ℤ → ReadCall → ℕ
+unfoldable pub orderRefusal : State → List ℕ → ReadCall → ℕ
 orderRefusal state memory c =
     let s = state .scheme in
     first (ltb 0 (schemeRefusal s)) (schemeRefusal s)
@@ -105,7 +105,7 @@ orderRefusal state memory c =
     (first (not (byteLengths (s .settings) (c .fac) (c .sdc) (c .msc))) 10 (first (not (inOrder false state memory)) 12 0))))
 
 -- The answer: the first number that applies, with its block; all but 13 and 14 name 0.
-unfoldable pub answerOf : State → List ℤ → ReadCall → Answer
+unfoldable pub answerOf : State → List ℕ → ReadCall → Answer
 answerOf state memory c =
     let s = state .scheme in
     let q = progressOf state memory in
@@ -122,7 +122,7 @@ handedOut s frames =
     joined (map (bytesRead (mscBlock s)) frames) ++ replicate ((3 - length frames) * frameBytes (s .settings)) 0
 
 -- What an accepted call yields.
-unfoldable pub readAccepted : State → List ℤ → ReadCall → ReadYield
+unfoldable pub readAccepted : State → List ℕ → ReadCall → ReadYield
 readAccepted state memory c =
     let s = state .scheme in
     let q = progressOf state memory in
@@ -136,7 +136,7 @@ readAccepted state memory c =
     }
 
 -- A refusal leaves everything as it was.
-unfoldable pub readRefused : State → List ℤ → ReadCall → ReadYield
+unfoldable pub readRefused : State → List ℕ → ReadCall → ReadYield
 readRefused state memory c =
     record {
       reading = record { answer = answerOf state memory c; state = state };
@@ -147,6 +147,6 @@ readRefused state memory c =
     }
 
 -- What a Read call yields, for every input.
-unfoldable pub readOf : State → List ℤ → ReadCall → ReadYield
+unfoldable pub readOf : State → List ℕ → ReadCall → ReadYield
 readOf state memory c =
     cond (eqb (answerNumber (answerOf state memory c)) 0) (readAccepted state memory c) (readRefused state memory c)

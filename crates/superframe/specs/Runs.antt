@@ -25,14 +25,14 @@ use Rattle.superframe.specs.Read.{ReadCall, readOf, answerNumber, answer
 pub record Begun : Type 0 where
   pub old : State
   pub scheme : Scheme
-  pub lent : List ℤ
+  pub lent : List ℕ
   pub accepted : resetOf old scheme lent .done .refusal ≡ 0
 
 -- State and memory as that Reset gave them.
 unfoldable pub stateAt : Begun → State
 stateAt b = resetOf (b .old) (b .scheme) (b .lent) .done .state
 
-unfoldable pub memoryAt : Begun → List ℤ
+unfoldable pub memoryAt : Begun → List ℕ
 memoryAt b = resetOf (b .old) (b .scheme) (b .lent) .memory
 
 -- The bits of FAC blocks, SDC blocks and multiplex frames.
@@ -55,11 +55,11 @@ unfoldable pub bitsOf : Block → List ℕ → List ℕ
 bitsOf k bytes = unpacked (bitCount k) bytes
 
 -- A Code call of a run is accepted.
-unfoldable pub codes : State → List ℤ → CodeCall → Bool
+unfoldable pub codes : State → List ℕ → CodeCall → Bool
 codes state memory c = eqb (codeOf state memory c .done .refusal) 0
 
 -- The bits that the accepted calls of a list bring; each call is handed the state that the last one returned and the memory as that one left it.
-unfoldable pub brought : State → List ℤ → List CodeCall → Bits
+unfoldable pub brought : State → List ℕ → List CodeCall → Bits
 brought state memory [] = noBits
 brought state memory (c ∷ cs) =
     let y = codeOf state memory c in
@@ -74,7 +74,7 @@ brought state memory (c ∷ cs) =
     rest
 
 -- The cells that the accepted calls leave in their outputs.
-unfoldable pub sent : State → List ℤ → List CodeCall → List SuperFrame
+unfoldable pub sent : State → List ℕ → List CodeCall → List SuperFrame
 sent state memory [] = []
 sent state memory (c ∷ cs) =
     let y = codeOf state memory c in
@@ -82,11 +82,24 @@ sent state memory (c ∷ cs) =
     cond (codes state memory c) (record { fac = y .faccells; sdc = y .sdccells; msc = y .msccells } ∷ rest) rest
 
 -- The answers of the calls of a list.
-unfoldable pub refusals : State → List ℤ → List CodeCall → List ℕ
+unfoldable pub refusals : State → List ℕ → List CodeCall → List ℕ
 refusals state memory [] = []
 refusals state memory (c ∷ cs) =
     let y = codeOf state memory c in
     y .done .refusal ∷ refusals (y .done .state) (y .memory) cs
+
+-- State and memory after a list of calls.
+unfoldable pub stateAfter : State → List ℕ → List CodeCall → State
+stateAfter state memory [] = state
+stateAfter state memory (c ∷ cs) =
+    let y = codeOf state memory c in
+    stateAfter (y .done .state) (y .memory) cs
+
+unfoldable pub memoryAfter : State → List ℕ → List CodeCall → List ℕ
+memoryAfter state memory [] = memory
+memoryAfter state memory (c ∷ cs) =
+    let y = codeOf state memory c in
+    memoryAfter (y .done .state) (y .memory) cs
 
 -- A run: an accepted Reset, and a list of Code calls, refused ones included.
 pub record Run : Type 0 where
@@ -100,16 +113,23 @@ bits run = brought (stateAt (run .begun)) (memoryAt (run .begun)) (run .calls)
 unfoldable pub cells : Run → List SuperFrame
 cells run = sent (stateAt (run .begun)) (memoryAt (run .begun)) (run .calls)
 
+-- State and memory at the moment after its last call.
+unfoldable pub stateNow : Run → State
+stateNow run = stateAfter (stateAt (run .begun)) (memoryAt (run .begun)) (run .calls)
+
+unfoldable pub memoryNow : Run → List ℕ
+memoryNow run = memoryAfter (stateAt (run .begun)) (memoryAt (run .begun)) (run .calls)
+
 -- A run is closed if its last two accepted calls, that is its last six multiplex frames, have all MSC bits zero.
 pub record Closed (s : Scheme) (b : Bits) : Type 0 where
   pub zeros : drop (length (b .frames) - 6) (b .frames) ≡ replicate 6 (replicate (bitCount (mscBlock s)) 0)
 
 -- A Read call is accepted.
-unfoldable pub reads : State → List ℤ → ReadCall → Bool
+unfoldable pub reads : State → List ℕ → ReadCall → Bool
 reads state memory c = eqb (answerNumber (readOf state memory c .reading .answer)) 0
 
 -- How many calls of a reader's run are accepted.
-unfoldable pub readCount : State → List ℤ → List ReadCall → ℕ
+unfoldable pub readCount : State → List ℕ → List ReadCall → ℕ
 readCount state memory [] = 0
 readCount state memory (c ∷ cs) =
     let y = readOf state memory c in
@@ -117,7 +137,7 @@ readCount state memory (c ∷ cs) =
     cond (reads state memory c) (suc rest) rest
 
 -- The bits that the accepted calls of a reader's run hand out: of the multiplex frames, as many as the answer says.
-unfoldable pub handed : State → List ℤ → List ReadCall → Bits
+unfoldable pub handed : State → List ℕ → List ReadCall → Bits
 handed state memory [] = noBits
 handed state memory (c ∷ cs) =
     let y = readOf state memory c in
@@ -142,18 +162,18 @@ pub record Feeds (s : Scheme) (cells : List SuperFrame) (c : ReadCall) : Type 0 
   pub room : byteLengths (s .settings) (c .fac) (c .sdc) (c .msc) ≡ true
 
 -- The super frames not yet read after a call.
-unfoldable pub unreadAfter : List SuperFrame → State → List ℤ → ReadCall → List SuperFrame
+unfoldable pub unreadAfter : List SuperFrame → State → List ℕ → ReadCall → List SuperFrame
 unreadAfter cells state memory c = cond (reads state memory c) (drop 1 cells) cells
 
 -- A reader's run is fed cells in order: every call feeds, or is refused.
-abbrev pub Fed : List SuperFrame → State → List ℤ → List ReadCall → Type 0
+abbrev pub Fed : List SuperFrame → State → List ℕ → List ReadCall → Type 0
 Fed cells state memory [] = Unit {0}
 Fed cells state memory (c ∷ cs) =
     (Feeds (state .scheme) cells c ⊎ (reads state memory c ≡ false))
     × Fed (unreadAfter cells state memory c) (readOf state memory c .reading .state) (readOf state memory c .memory) cs
 
 -- Every call that feeds is accepted.
-abbrev pub Accepts : List SuperFrame → State → List ℤ → List ReadCall → Type 0
+abbrev pub Accepts : List SuperFrame → State → List ℕ → List ReadCall → Type 0
 Accepts cells state memory [] = Unit {0}
 Accepts cells state memory (c ∷ cs) =
     (Feeds (state .scheme) cells c → reads state memory c ≡ true)

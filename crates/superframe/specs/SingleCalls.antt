@@ -59,13 +59,13 @@ pub record Nowhere (fault : ℕ → Type 0) : Type 0 where
   pub none : (b : ℕ) → fault b → ⊥
 
 -- The frames that a Read call finishes, and 13 and 14 of it.
-unfoldable pub finishedOf : State → List ℤ → ReadCall → List (List ℤ)
+unfoldable pub finishedOf : State → List ℕ → ReadCall → List (List ℤ)
 finishedOf state memory c = finishedFrames (state .scheme .settings) (progressOf state memory) (rowsOf (state .scheme .settings) (c .msccells))
 
 abbrev pub Thirteen : State → ReadCall → ℕ → Type 0
 Thirteen state c b = NoPoint (state .scheme) (state .count) c b
 
-abbrev pub Fourteen : State → List ℤ → ReadCall → ℕ → Type 0
+abbrev pub Fourteen : State → List ℕ → ReadCall → ℕ → Type 0
 Fourteen state memory c b = NotGiven (state .scheme) (finishedOf state memory c) c b
 
 -- What an accepted Read call hands out: bytes of the lent lengths with spare bits zero, which give the cells of its blocks and of the frames that it finishes, and zero after them.
@@ -93,7 +93,7 @@ abbrev pub FinishedWith : Answer → ℕ → Type 0
 FinishedWith a frames = (answerNumber a ≡ 0) × (answerFrames a ≡ frames)
 
 -- The answer that a Read call yields.
-abbrev pub answered : State → List ℤ → ReadCall → Answer
+abbrev pub answered : State → List ℕ → ReadCall → Answer
 answered state memory c = readOf state memory c .reading .answer
 
 -- Super frame m of the cells that a run sends, from 0; empty past the last.
@@ -114,20 +114,20 @@ countBefore s m = min (3 * m) (depth s - 1)
 -- Demand 2, for every state, memory and call, in order or not.
 pub record SingleCalls : Type 0 where
   -- Where no number up to 12 refuses a Read call: 13 with the lowest block that has a cell not ignored which is no point, or a wrong filler,
-  pub refuses13 : (state : State) (memory : List ℤ) (c : ReadCall) → orderRefusal state memory c ≡ 0 → (b : ℕ)
+  pub refuses13 : (state : State) (memory : List ℕ) (c : ReadCall) → orderRefusal state memory c ≡ 0 → (b : ℕ)
       → RefusedBy (answered state memory c) 13 b ↔ Lowest (Thirteen state c) b
   -- else 14 with the lowest block that no bits give,
-  pub refuses14 : (state : State) (memory : List ℤ) (c : ReadCall) → orderRefusal state memory c ≡ 0 → (b : ℕ)
+  pub refuses14 : (state : State) (memory : List ℕ) (c : ReadCall) → orderRefusal state memory c ≡ 0 → (b : ℕ)
       → RefusedBy (answered state memory c) 14 b ↔ (Nowhere (Thirteen state c) × Lowest (Fourteen state memory c) b)
   -- else acceptance: a call begun at a count finishes count + 3 - (D - 1) frames, none where that is negative.
-  pub finishes : (state : State) (memory : List ℤ) (c : ReadCall) → orderRefusal state memory c ≡ 0 → (n : ℕ)
+  pub finishes : (state : State) (memory : List ℕ) (c : ReadCall) → orderRefusal state memory c ≡ 0 → (n : ℕ)
       → FinishedWith (answered state memory c) n
       ↔ (Nowhere (Thirteen state c) × Nowhere (Fourteen state memory c) × (n ≡ state .count + 3 - (depth (state .scheme .settings) - 1)))
   -- What it then hands out.
-  pub handsOut : (state : State) (memory : List ℤ) (c : ReadCall) → answerNumber (answered state memory c) ≡ 0
+  pub handsOut : (state : State) (memory : List ℕ) (c : ReadCall) → answerNumber (answered state memory c) ≡ 0
       → HandsOut (state .scheme) (finishedOf state memory c) c (readOf state memory c)
   -- What an accepted Code call leaves.
-  pub sends : (state : State) (memory : List ℤ) (c : CodeCall) → codeRefusal state memory c ≡ 0
+  pub sends : (state : State) (memory : List ℕ) (c : CodeCall) → codeRefusal state memory c ≡ 0
       → Sends (state .scheme) c (codeOf state memory c)
   -- For settings and a table that are not refused: reading a block's cells gives its bits, and different bits give different cells.
   pub recovers : (s : Scheme) → schemeRefusal s ≡ 0 → ReadsBytes (facBlock s) × ReadsBytes (sdcBlock s) × ReadsBytes (mscBlock s)
@@ -135,7 +135,7 @@ pub record SingleCalls : Type 0 where
   pub sendable : (run : Run) (m : ℕ) (c : ReadCall) → LendsSent run m c
       → Nowhere (NoPoint (run .begun .scheme) (countBefore (run .begun .scheme .settings) m) c)
   -- so that 13 refuses only what such a run can't send there.
-  pub unsent : (state : State) (memory : List ℤ) (c : ReadCall) → orderRefusal state memory c ≡ 0 → (b : ℕ)
+  pub unsent : (state : State) (memory : List ℕ) (c : ReadCall) → orderRefusal state memory c ≡ 0 → (b : ℕ)
       → RefusedBy (answered state memory c) 13 b
       → (run : Run) (m : ℕ)
       → run .begun .scheme ≡ state .scheme

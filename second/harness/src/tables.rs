@@ -106,7 +106,7 @@ pub fn calls<U: Element>(seed: u64, own: &Coder<U>, archive: &Coder<U>) -> Resul
         }
     }
     let lines: Result<Vec<String>, String> =
-        KINDS.iter().zip(&run.seen).map(|(kind, seen)| seen.line(kind.name(), &possible(*kind))).collect();
+        KINDS.iter().zip(&run.seen).map(|(kind, seen)| seen.line(&format!("tables, {}", kind.name()), &possible(*kind))).collect();
     Ok(lines?.join("\n"))
 }
 

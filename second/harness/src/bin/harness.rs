@@ -7,6 +7,7 @@ use harness::damage::{ignored, spoil};
 use harness::{disperse, halves, requests};
 use harness::draw::Draw;
 use harness::grids;
+use harness::holds;
 use harness::lent::{Kind, Lent};
 use harness::measured;
 use harness::nearest;
@@ -41,11 +42,12 @@ fn main() -> ExitCode {
         ["decide"] => return report(counted(measured::random_calls())),
         ["disperse"] => return report(dispersal_calls()),
         ["tables"] => return report(tables::calls(SEED, &tables::own(), &requests::CODER)),
+        ["hold"] => return report(holds::calls(SEED, &holds::OWN, &requests::HOLD)),
         ["runs"] => runs::print(&Archive, &mut out),
         ["counts"] => counts::print(&Archive, &mut out),
         ["refusals"] => refusals::print(&Archive, &mut out),
         _ => {
-            eprintln!("harness [grid | decide | disperse | tables | runs | counts | refusals]");
+            eprintln!("harness [grid | decide | disperse | tables | hold | runs | counts | refusals]");
             return ExitCode::from(2);
         }
     };

@@ -13,13 +13,13 @@ returns-2 : tie.Need-returns-2
 returns-2 c = order-count _ _ _ _ (c .before .before .before .before .depth .ensures) (c .if2 .taken)
 
 msc-low : tie.Need-msc-constellation-requires
-msc-low c κs = omega (arith, scheme-accepted _ (c .before .before .before .before .before .before .pre .scheme) .settings .ranges .partA .mscLow)
+msc-low c κs = omega (arith, scheme-accepted _ (c .before .before .before .before .before .before .before .pre .scheme) .settings .ranges .partA .mscLow)
 
 returns-3 : tie.Need-returns-3
 returns-3 c =
     let b = c .before .before .before .before .before .before in
-    order-cells _ _ _ _ (b .depth .ensures) (b .before .before .pre .long) (c .before .before .before .before .if1 .left) (c .before .before .if2 .left)
-    _ _ (c .before .msc-constellation .ensures) (c .points-pass .ensures)
+    order-cells _ _ _ _ (b .depth .ensures) (b .before .before .before .pre .long) (c .before .before .before .before .if1 .left) (c .before .before .if2 .left)
+    _ _ (c .before .msc-constellation .ensures) (c .bytes-pass .ensures)
 
 pub in-order-spec : {M : Type 1} → statement M
 in-order-spec =

@@ -20,10 +20,10 @@ abbrev μ-loop : tie.MeasureT-loop
 
 -- The row over the depth and N_MUX.
 fits : (c : tie.After-n-mux Inv-loop μ-loop)
-    → RowFits (c .before .depth .result) (c .n-mux .result) (c .before .before .before .args .state .position) (c .before .before .before .args .memory .now)
-    (c .before .before .before .args .out .now)
+    → RowFits (c .before .depth .result) (c .n-mux .result) (c .before .before .before .before .args .state .position) (c .before .before .before .before .args .memory .now)
+    (c .before .before .before .before .args .out .now)
 unfolding nMux
-fits c = row-fits _ _ _ _ _ (c .before .before .before .pre) (c .before .depth .ensures) (c .n-mux .ensures)
+fits c = row-fits _ _ _ _ _ (c .before .before .before .before .pre) (c .before .depth .ensures) (c .n-mux .ensures)
 
 offset-of-requires : tie.Need-offset-of-requires Inv-loop μ-loop
 offset-of-requires c κs =
@@ -35,10 +35,10 @@ loop-holds c = (stepping-start _ _ _ _ _ _ _ (fits (c .before .before .before)) 
 
 loop-again : tie.Need-loop-again Inv-loop μ-loop
 loop-again c =
-    let l = c .before .before .before .before .before .before .loop in
+    let l = c .before .before .before .before .before .before .before .loop in
     let w = l .inv .0 in (
       stepping-turn _ _ _ _ _ _ _ _ _ _ _ _ w (search needs) (c .before .next-place .ensures) (c .previous-slot .ensures),
-      rw (c .before .before .before .copy-cell .ensures) (send-turn _ _ _ _ _ _ (w .ring) (w .along .place-is) _ _ _ (search needs) (w .fits .numbers) (l .inv .1)),
+      rw (c .before .before .before .send-cell .ensures) (send-turn _ _ _ _ _ _ (w .ring) (w .along .place-is) _ _ _ (search needs) (w .fits .numbers) (l .inv .1)),
     )
 
 returns : tie.Need-returns Inv-loop μ-loop
@@ -51,6 +51,6 @@ returns c =
 pub send-row-spec : {M : Type 1} → statement M
 send-row-spec =
     tie.close (tie.spec Inv-loop μ-loop (λ c κs. search needs) (λ c κs. search needs) (λ c κs. let h = fits c in search needs) offset-of-requires
-    (λ c. search needs) loop-holds (λ c. search needs) (λ c. search needs) (λ c. search needs) (λ c. search needs) (λ c. search needs)
+    (λ c. search needs) loop-holds (λ c. search needs) (λ c. search needs) (λ c. search needs) (λ c. search needs)
     (λ c κs. search needs) (λ c κs. search needs) (λ c κs. search needs) (λ c. search needs) (λ c. search needs) loop-again (λ c. search needs)
     returns)

@@ -21,10 +21,10 @@ abbrev μ-loop : tie.MeasureT-loop
 
 -- The row over the depth and N_MUX.
 fits : (c : tie.After-n-mux Inv-loop μ-loop)
-    → RowFits (c .before .depth .result) (c .n-mux .result) (c .before .before .before .args .state .position) (c .before .before .before .args .memory .now)
-    (c .before .before .before .args .row .now)
+    → RowFits (c .before .depth .result) (c .n-mux .result) (c .before .before .before .before .args .state .position) (c .before .before .before .before .args .memory .now)
+    (c .before .before .before .before .args .row .now)
 unfolding nMux
-fits c = row-fits _ _ _ _ _ (c .before .before .before .pre) (c .before .depth .ensures) (c .n-mux .ensures)
+fits c = row-fits _ _ _ _ _ (c .before .before .before .before .pre) (c .before .depth .ensures) (c .n-mux .ensures)
 
 offset-of-requires : tie.Need-offset-of-requires Inv-loop μ-loop
 offset-of-requires c κs =
@@ -41,11 +41,11 @@ loop-holds c =
 
 loop-again : tie.Need-loop-again Inv-loop μ-loop
 loop-again c =
-    let l = c .before .before .before .before .before .before .before .loop in
+    let l = c .before .before .before .before .before .before .before .before .loop in
     let w = l .inv .0 in (
       stepping-turn _ _ _ _ _ _ _ _ _ _ _ _ w (search needs) (c .before .before .next-place .ensures) (c .before .previous-slot .ensures),
-      leading-turn _ _ _ _ _ _ _ _ _ _ _ _ _ (w .ring) (w .along .place-is) (search needs) (l .inv .1)
-          (c .before .before .before .before .take-cell .ensures) (c .next-modulo .ensures),
+      leading-turn _ _ _ _ _ _ _ _ _ _ _ _ _ (w .cell-in) (w .ring) (w .along .place-is) (search needs) (l .inv .1)
+          (c .before .before .before .before .before .take-cell .ensures) (c .next-modulo .ensures),
     )
 
 returns : tie.Need-returns Inv-loop μ-loop
@@ -58,6 +58,5 @@ returns c =
 pub take-row-spec : {M : Type 1} → statement M
 take-row-spec =
     tie.close (tie.spec Inv-loop μ-loop (λ c κs. search needs) (λ c κs. search needs) (λ c. search needs)
-    (λ c κs. let h = fits (c .before) in search needs) offset-of-requires (λ c. search needs) loop-holds (λ c. search needs) (λ c. search needs)
-    (λ c. search needs) (λ c. search needs) (λ c. search needs) (λ c κs. search needs) (λ c κs. search needs) (λ c κs. search needs)
+    (λ c κs. let h = fits (c .before) in search needs) offset-of-requires (λ c. search needs) loop-holds (λ c. search needs) (λ c. search needs) (λ c. search needs) (λ c κs. search needs) (λ c κs. search needs) (λ c κs. search needs)
     (λ c κs. search needs) (λ c. search needs) (λ c. search needs) loop-again (λ c. search needs) returns)

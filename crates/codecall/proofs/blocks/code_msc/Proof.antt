@@ -16,7 +16,7 @@ abbrev μ-loop : tie.MeasureT-loop
 -- Frame i and its row lie within their buffers, and so do three rows.
 within : (c : tie.In-loop Inv-loop μ-loop)
     → let l = c .before .loop in
-    (c .before .before .frame-bytes .result * l .i + c .before .before .frame-bytes .result ≤ length (c .before .before .before .before .before .before .args .msc .now))
+    (c .before .before .frame-bytes .result * l .i + c .before .before .frame-bytes .result ≤ length (c .before .before .before .before .before .before .before .args .msc .now))
     × (c .before .before .before .slot-size .result * l .i + c .before .before .before .slot-size .result ≤ length (l .cells))
 within c = coding-within _ _ _ _ _ _ _ _ _ _ (c .before .loop .inv) (c .loop-test .taken)
 
@@ -25,8 +25,8 @@ rows c = rows-within _ _ _ _ _ _ _ _ _ _ (c .before .loop .inv)
 
 loop-again : tie.Need-loop-again Inv-loop μ-loop
 loop-again c =
-    let f = c .before .before .before in
-    let l = c .before .before .before .before .before .before .before in
+    let f = c .before .before .before .before in
+    let l = c .before .before .before .before .before .before .before .before in
     coding-turn _ _ _ _ _ _ _ _ _ _ (l .before .loop .inv) _ _ _ (l .loop-test .taken) (f .code-frame .ensures) (f .code-frame .kept .1 .1 .0) (c .next-state .ensures)
 
 write-fillers-requires : tie.Need-write-fillers-requires Inv-loop μ-loop
@@ -39,16 +39,4 @@ returns c = coding-end _ _ _ _ _ _ _ _ _ _ (c .before .before .before .before .l
 
 pub code-msc-spec : {M : Type 1} → statement M
 code-msc-spec =
-    tie.close (tie.spec Inv-loop μ-loop (λ c κs. c .before .before .pre .fits .allowed .settings) (λ c κs. c .before .before .before .pre .fits .allowed .settings)
-    (λ c. coding-start _ _ _ _ _ _ (c .before .before .before .before .pre) (c .before .slot-size .ensures) (c .frame-bytes .ensures))
-    (λ c. let h = within c in search needs) (λ c. let h = within c in search needs) (λ c. let h = within c in search needs)
-    (λ c. let h = within c in search needs) (λ c. let h = within c in search needs) (λ c. let h = within c in search needs)
-    (λ c. let h = within (c .before .before) in search needs) (λ c. let h = within (c .before .before) in search needs)
-    (λ c. let h = within (c .before .before) in search needs) (λ c. let h = within (c .before .before) in search needs)
-    (λ c. let h = within (c .before .before) in search needs) (λ c. let h = within (c .before .before) in search needs)
-    (λ c. let h = within (c .before .before) in search needs)
-    (λ c κs. let l = c .before .before .before in coding-fits _ _ _ _ _ _ _ _ _ _ (l .before .loop .inv) (l .loop-test .taken))
-    (λ c κs. let w = c .before .before .before .before .before .before .before .loop .inv .fits in (w .position, w .count)) (λ c. search needs)
-    (λ c. search needs) loop-again (λ c. let h = rows c in search needs) (λ c. let h = rows c in search needs) (λ c. let h = rows c in search needs)
-    (λ c. let h = rows c in search needs) (λ c. let h = rows c in search needs) write-fillers-requires (λ c. search needs) (λ c. search needs)
-    returns)
+    tie.close (tie.spec Inv-loop μ-loop (λ c κs. c .before .before .before .pre .fits .allowed .settings) (λ c κs. c .before .before .before .before .pre .fits .allowed .settings) (λ c. coding-start _ _ _ _ _ _ (c .before .before .before .before .before .pre) (c .before .slot-size .ensures) (c .frame-bytes .ensures)) (λ c. let h = within c in search needs) (λ c. let h = within c in search needs) (λ c. let h = within c in search needs) (λ c. let h = within c in search needs) (λ c. let h = within c in search needs) (λ c. let h = within c in search needs) (λ c. let h = within (c .before .before) in search needs) (λ c. let h = within (c .before .before) in search needs) (λ c. let h = within (c .before .before) in search needs) (λ c. let h = within (c .before .before) in search needs) (λ c. let h = within (c .before .before) in search needs) (λ c. let h = within (c .before .before) in search needs) (λ c. let h = within (c .before .before) in search needs) (λ c κs. let l = c .before .before .before in coding-fits _ _ _ _ _ _ _ _ _ _ (l .before .loop .inv) (l .loop-test .taken)) (λ c κs. let w = c .before .before .before .before .before .before .before .before .loop .inv .fits in (w .position, w .count)) (λ c. search needs) (λ c. search needs) loop-again (λ c. let h = rows c in search needs) (λ c. let h = rows c in search needs) (λ c. let h = rows c in search needs) (λ c. let h = rows c in search needs) (λ c. let h = rows c in search needs) write-fillers-requires (λ c. search needs) (λ c. search needs) returns)

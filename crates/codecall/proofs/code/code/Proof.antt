@@ -14,11 +14,10 @@ code-accepted-requires c κs =
 
 returns-2 : tie.Need-returns-2
 returns-2 c =
-    let b = c .before .before .before .before in
+    let b = c .before .before .before .before .before in
     let d = b .before .before .before .before .before in
     done-call _ _ _ _ _ (d .before .code-refusal .ensures) (d .if1 .left) (b .code-accepted .ensures)
 
 pub code-spec : {M : Type 1} → statement M
 code-spec =
-    tie.close (tie.spec (λ c κs. search needs) (λ c. search needs) (λ c. search needs) (λ c. search needs) (λ c. search needs) returns
-    code-accepted-requires (λ c. search needs) (λ c. search needs) (λ c. search needs) (λ c. search needs) returns-2)
+    tie.close (tie.spec (λ c κs. search needs) (λ c. search needs) (λ c. search needs) (λ c. search needs) (λ c. search needs) returns code-accepted-requires (λ c. search needs) (λ c. search needs) (λ c. search needs) (λ c. search needs) returns-2)

@@ -9,7 +9,7 @@ returns : tie.Need-returns
 returns c = code-early _ _ _ _ _ _ _ _ _ (c .before .code-lengths .ensures) (c .if1 .taken)
 
 spares-zero-requires : tie.Need-spares-zero-requires
-spares-zero-requires c κs = code-packed (c .before .before .before .before .before .before .args .state) _ _ _ _ _ _ _ _ (c .before .code-lengths .ensures) (c .if1 .left)
+spares-zero-requires c κs = code-packed (c .before .before .before .before .before .before .before .args .state) _ _ _ _ _ _ _ _ (c .before .code-lengths .ensures) (c .if1 .left)
 
 returns-2 : tie.Need-returns-2
 returns-2 c =

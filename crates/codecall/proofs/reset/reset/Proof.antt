@@ -7,7 +7,7 @@ use Rattle.codecall.proofs.reset.reset.Tie as tie
 
 returns : tie.Need-returns
 unfolding standardScheme
-returns c = c .before .reset-table .ensures ∙ rw (c .before .before .before .before .standard-table .ensures)
+returns c = c .before .before .reset-table .ensures ∙ rw (c .before .before .before .before .before .standard-table .ensures)
 
 pub reset-spec : {M : Type 1} → statement M
 reset-spec =

@@ -5,7 +5,7 @@ use Rattle.drmcoder.proofs.calls.drm_reset.Tie as tie
 
 returns : tie.Need-returns
 returns c =
-    let b = c .before .before .before in
+    let b = c .before .before .before .before in
     b .reset-bytes .ensures ∙ rw (b .before .before .before .before .standard-table .ensures)
 
 pub drm-reset-spec : {M : Type 1} → statement M

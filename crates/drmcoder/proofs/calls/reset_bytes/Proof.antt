@@ -16,7 +16,7 @@ returns-2 c = second-wrong _ _ _ _ _ _ (c .before .if1 .left) (c .if2 .taken)
 returns-3 : tie.Need-returns-3
 returns-3 c =
     let f = c .before .before in
-    let b = f .before .before .before in
+    let b = f .before .before .before .before in
     let t = b .before .before .before .before .before in
     reset-right _ _ _ _ _ _ _ _ _ (t .before .if1 .left) (t .if2 .left) (b .before .before .before .state-of .ensures) (b .before .before .settings-of .ensures)
     (b .reset-table .ensures) (f .finish .ensures .0) (f .finish .ensures .1)

@@ -16,24 +16,18 @@ abbrev μ-loop : tie.MeasureT-loop
 
 -- Row i lies within the cells.
 within : (c : tie.In-loop Inv-loop μ-loop)
-    → c .before .before .slot-size .result * c .before .loop .i + c .before .before .slot-size .result ≤ length (c .before .before .before .before .args .msc .now)
+    → c .before .before .slot-size .result * c .before .loop .i + c .before .before .slot-size .result ≤ length (c .before .before .before .before .before .args .msc .now)
 within c = row-within _ _ _ _ _ _ _ _ _ _ _ (c .before .loop .inv) (c .loop-test .taken)
 
 read-finished-requires : tie.Need-read-finished-requires Inv-loop μ-loop
 read-finished-requires c κs =
-    row-finish _ _ _ _ _ _ _ _ _ _ _ (c .before .before .before .before .before .before .before .loop .inv) (c .before .before .before .before .before .before .loop-test .taken) _ (c .before .before .before .take-row .ensures) (c .before .before .before .take-row .kept .1 .1 .0)
+    row-finish _ _ _ _ _ _ _ _ _ _ _ (c .before .before .before .before .before .before .before .before .loop .inv) (c .before .before .before .before .before .before .before .loop-test .taken) _ (c .before .before .before .before .take-row .ensures) (c .before .before .before .before .take-row .kept .1 .1 .0)
 
 loop-again : tie.Need-loop-again Inv-loop μ-loop
 loop-again c =
-    row-turn _ _ _ _ _ _ _ _ _ _ _ (c .before .before .before .before .before .before .before .before .before .before .loop .inv) (c .before .before .before .before .before .before .before .before .before .loop-test .taken) _ (c .before .before .before .before .before .before .take-row .ensures) (c .before .before .before .before .before .before .take-row .kept .1 .1 .0) _ _
+    row-turn _ _ _ _ _ _ _ _ _ _ _ (c .before .before .before .before .before .before .before .before .before .before .before .loop .inv) (c .before .before .before .before .before .before .before .before .before .before .loop-test .taken) _ (c .before .before .before .before .before .before .before .take-row .ensures) (c .before .before .before .before .before .before .before .take-row .kept .1 .1 .0) _ _
     (c .before .before .read-finished .ensures) (c .before .before .read-finished .kept .1 .1 .0)
 
 pub read-rows-spec : {M : Type 1} → statement M
 read-rows-spec =
-    tie.close (tie.spec Inv-loop μ-loop (λ c κs. c .before .pre .fits .allowed .settings)
-    (λ c. reading-start _ _ _ _ _ _ (c .before .before .pre) (c .slot-size .ensures) refl) (λ c. let h = within c in search needs)
-    (λ c. let h = within c in search needs) (λ c. let h = within c in search needs) (λ c. let h = within c in search needs)
-    (λ c. let h = within c in search needs) (λ c. let h = within c in search needs) (λ c. let h = within c in search needs)
-    (λ c κs. row-lent _ _ _ _ _ _ _ _ _ _ _ (c .before .before .before .loop .inv) (c .before .before .loop-test .taken)) read-finished-requires
-    (λ c. search needs) (λ c. search needs) loop-again (λ c. search needs) (λ c. search needs)
-    (λ c. rows-end _ _ _ _ _ _ _ _ _ _ _ (c .before .loop .inv) (c .loop-test .left)))
+    tie.close (tie.spec Inv-loop μ-loop (λ c κs. c .before .before .pre .fits .allowed .settings) (λ c. reading-start _ _ _ _ _ _ (c .before .before .before .pre) (c .slot-size .ensures) refl) (λ c. let h = within c in search needs) (λ c. let h = within c in search needs) (λ c. let h = within c in search needs) (λ c. let h = within c in search needs) (λ c. let h = within c in search needs) (λ c. let h = within c in search needs) (λ c. let h = within c in search needs) (λ c κs. row-lent _ _ _ _ _ _ _ _ _ _ _ (c .before .before .before .loop .inv) (c .before .before .loop-test .taken)) read-finished-requires (λ c. search needs) (λ c. search needs) loop-again (λ c. search needs) (λ c. search needs) (λ c. rows-end _ _ _ _ _ _ _ _ _ _ _ (c .before .loop .inv) (c .loop-test .left)))

@@ -19,9 +19,9 @@ bytes-for-requires c κs =
     omega
     (arith, few _ (c .before .before .pre) .sdcBitsFew, c .sdc-bits .ensures ∙ ap (sdcBits (c .before .before .args .s .sdc)) (c .before .n-sdc .ensures))
 
-all : (c : tie.After-memory-numbers)
+all : (c : tie.After-memory-bytes)
     → Sized (c .before .before .before .before .before .before .args .s) (c .before .before .before .before .before .n-sdc .result)
-    (c .before .before .before .bytes-for .result) (c .before .before .frame-bytes .result) (c .before .n-sfa .result) (c .memory-numbers .result)
+    (c .before .before .before .bytes-for .result) (c .before .before .frame-bytes .result) (c .before .n-sfa .result) (c .memory-bytes .result)
 unfolding nSdc nSfa lSdc sdcBytes
 all c =
     record {
@@ -33,10 +33,10 @@ all c =
           ∙ ap (sdcBits (c .before .before .before .before .before .before .args .s .sdc)) (c .before .before .before .before .before .n-sdc .ensures));
       isFrame = c .before .before .frame-bytes .ensures;
       isSfa = c .before .n-sfa .ensures;
-      isMemory = c .memory-numbers .ensures;
+      isMemory = c .memory-bytes .ensures;
     }
 
-low : (c : tie.After-memory-numbers) → Few (c .before .before .before .before .before .before .args .s)
+low : (c : tie.After-memory-bytes) → Few (c .before .before .before .before .before .before .args .s)
 low c = few _ (c .before .before .before .before .before .before .pre)
 
 returns : tie.Need-returns

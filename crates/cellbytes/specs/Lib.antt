@@ -1,0 +1,3 @@
+pub mod TwosComplement
+pub mod CellBytes
+pub mod Contracts

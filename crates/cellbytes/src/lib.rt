@@ -1,0 +1,2 @@
+// A cell as a byte.
+pub mod cells;

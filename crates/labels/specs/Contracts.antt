@@ -1,0 +1,50 @@
+-- What adding bits to labels and taking them out requires and promises: nothing of 01 is stated here.
+use Prim.Native.Nat.{ℕ, _+_, _*_, _≤_, _<_, _^_}
+use mathlib.Core.Path.{_≡_}
+use mathlib.Core.List.{List}
+use lib.ListN.{length, getD}
+use Rattle.component.specs.Bits.{Bits}
+use Rattle.block.specs.Fits.{Mixes}
+use Rattle.interleaver.specs.Deinterleaving.{Lends}
+use Rattle.lists.specs.Lists.{table}
+
+-- A level's bits, times their weight, are added to the labels.
+unfoldable pub added : ℕ → List ℕ → List ℕ → List ℕ
+added weight bits labels = table (λ i. getD labels i 0 + weight * getD bits i 0) 0 (length labels)
+
+-- A weight is a power of two.
+pub record Weight (weight : ℕ) : Type 0 where
+  pub digit : ℕ
+  pub power : weight ≡ 2 ^ digit
+
+-- What adding interleaved bits requires: bits, and labels that stay below 256.
+pub record Adds (t weight : ℕ) (bits labels : List ℕ) : Type 0 where
+  pub lends : Lends t bits labels
+  pub bit : (k : ℕ) → getD bits k 0 < 2
+  pub room : (k : ℕ) → getD labels k 0 + weight < 256
+
+-- What taking interleaved bits out of labels requires.
+pub record Takes (t weight : ℕ) (labels out : List ℕ) : Type 0 where
+  pub lends : Lends t labels out
+  pub weighs : Weight weight
+
+-- ThreeBits that a level's bits can be added to: few enough for the interleaver, and below 256 with the weight.
+pub record Room (t weight : ℕ) (labels : List ℕ) : Type 0 where
+  pub small : t < 64
+  pub high : length labels ≤ 16384
+  pub sums : (k : ℕ) → getD labels k 0 + weight < 256
+
+-- What adding a part's bits to as many labels requires.
+pub record AddsPart (t weight : ℕ) (bits labels : List ℕ) : Type 0 where
+  pub mixes : Mixes t (length labels)
+  pub same : length bits ≡ length labels
+  pub input : Bits bits
+  pub room : Room t weight labels
+
+-- What taking a part's bits out of as many labels requires.
+pub record TakesPart (t weight : ℕ) (labels out : List ℕ) : Type 0 where
+  pub mixes : Mixes t (length labels)
+  pub small : t < 64
+  pub high : length labels ≤ 16384
+  pub same : length out ≡ length labels
+  pub weighs : Weight weight
