@@ -10,11 +10,11 @@
 
 #include "drmcoder.h"
 
-enum { STACK = 8 * 1024 * 1024, PAINT = 0xA5, CALLS = 14 };
+enum { STACK = 8 * 1024 * 1024, PAINT = 0xA5, CALLS = 15 };
 
 static const char *const names[CALLS] = {"lengths", "sizes", "reset", "code", "read", "nearest", "fac_build",
                                          "fac_read", "grid_sizes", "grid_place", "grid_take", "decide", "disperse",
-                                         "reset_table"};
+                                         "reset_table", "preview"};
 static unsigned char *stack;
 
 /* What the calls are lent; all bits are zero. */
@@ -66,6 +66,13 @@ static void *call_reset_table(void *unused) {
 static void *call_code(void *unused) {
     answer = drm_code(state, sizeof state, memory, sizes[5], fac, sizeof fac, sdc, sizes[0], msc, sizes[1], fac_cells,
                       sizes[2], sdc_cells, sizes[3], msc_cells, sizes[4]);
+    return unused;
+}
+
+static void *call_preview(void *unused) {
+    static uint8_t next[DRM_STATE_BYTES];
+    answer = drm_preview(state, sizeof state, memory, sizes[5], fac, sizeof fac, sdc, sizes[0], msc, sizes[1], fac_cells,
+                         sizes[2], sdc_cells, sizes[3], msc_cells, sizes[4], next, sizeof next);
     return unused;
 }
 
@@ -153,8 +160,8 @@ static void measure(size_t deepest[CALLS]) {
                                               call_code,    call_reset, call_read,  call_read, call_read,
                                               call_nearest, call_fac_build, call_fac_read, call_grid_sizes,
                                               call_grid_place, call_grid_take, call_decide, call_disperse,
-                                              call_reset_table};
-    static const int kinds[] = {0, 1, 2, 3, 3, 3, 2, 4, 4, 4, 5, 6, 7, 8, 9, 10, 11, 12, 13};
+                                              call_reset_table, call_preview};
+    static const int kinds[] = {0, 1, 2, 3, 3, 3, 2, 4, 4, 4, 5, 6, 7, 8, 9, 10, 11, 12, 13, 14};
     size_t empty = depth(nothing), k;
     for (k = 0; k < sizeof kinds / sizeof kinds[0]; k++) {
         size_t used = depth(bodies[k]) - empty;

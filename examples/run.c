@@ -34,7 +34,8 @@ struct side {
 
 static struct side coder, reader;
 static struct bits brought, given;
-static struct cells cells;
+static struct cells cells, shown;
+static uint8_t next[DRM_STATE_BYTES]; /* the state after the super frame that is shown */
 static uint8_t frames[FRAMES * (DRM_MOST_MSC_BYTES / 3)]; /* every frame brought, one after another */
 static uint16_t lengths[DRM_LENGTHS];
 static uint32_t sizes[DRM_SIZES];
@@ -120,6 +121,26 @@ static unsigned read_back(size_t state_bytes) {
     return drm_read(reader.state, state_bytes, reader.memory, sizes[MEMORY], cells.fac, sizes[FAC_NUMBERS], cells.sdc,
                     sizes[SDC_NUMBERS], cells.msc, sizes[MSC_NUMBERS], given.fac, DRM_FAC_BYTES, given.sdc,
                     sizes[SDC_BYTES], given.msc, sizes[MSC_BYTES]);
+}
+
+static unsigned show(size_t fac_bytes) {
+    return drm_preview(coder.state, DRM_STATE_BYTES, coder.memory, sizes[MEMORY], brought.fac, fac_bytes, brought.sdc,
+                       sizes[SDC_BYTES], brought.msc, sizes[MSC_BYTES], shown.fac, sizes[FAC_NUMBERS], shown.sdc,
+                       sizes[SDC_NUMBERS], shown.msc, sizes[MSC_NUMBERS], next, sizeof next);
+}
+
+/* Shows the super frame and codes it: what was shown is sent, and showing leaves the coder. */
+static void show_and_code(void) {
+    static struct side before;
+    before = coder;
+    shown = cells;
+    must(show(DRM_FAC_BYTES - 1) == DRM_REFUSED_INPUT_LENGTH, "a preview is refused as coding is");
+    must(memcmp(&shown, &cells, sizeof shown) == 0, "a refused preview leaves the cells");
+    must(show(DRM_FAC_BYTES) == DRM_ACCEPTED, "the super frame is shown");
+    must(memcmp(&coder, &before, sizeof coder) == 0, "a preview leaves the coder");
+    must(code(DRM_FAC_BYTES) == DRM_ACCEPTED, "the super frame is coded");
+    must(memcmp(&cells, &shown, sizeof cells) == 0, "the cells shown are sent");
+    must(memcmp(coder.state, next, sizeof next) == 0, "the state shown is reached");
 }
 
 /* Calls that must be refused, and write nothing. */
@@ -216,7 +237,7 @@ static void run(const uint8_t *settings) {
     for (m = 0; m < SUPER_FRAMES; m++) {
         unsigned finished;
         bring(settings, m);
-        must(code(DRM_FAC_BYTES) == DRM_ACCEPTED, "the super frame is coded");
+        show_and_code();
         refused_calls();
         grid_and_back(settings);
         finished = read_back(DRM_STATE_BYTES);

@@ -69,7 +69,7 @@
  *     8  memory of the wrong length
  *     9  an input of the wrong length
  *    10  an output of the wrong length
- *    11  a spare bit set in an input of drm_code or drm_disperse
+ *    11  a spare bit set in an input of drm_code, drm_disperse or drm_preview
  *    12  position or count above 4 (above 0 in short interleaving), or a memory cell that is no point of the MSC's
  *        constellation
  *    13  a cell lent to drm_read is no point of its constellation, or a filler is wrong; cells of frames before the
@@ -82,7 +82,7 @@
  *        position or count that 12 would refuse, or a cell that is no point of the MSC's constellation
  *    21  a value lent to drm_fac_nearest is above 2
  *    22  a measured float that is infinite or not a number, or a fade's gain that is, or is below zero
- *   255  a settings, state, lengths or sizes slice of the wrong length; this goes before all others
+ *   255  a settings, state, lengths, sizes or next slice of the wrong length; this goes before all others
  *
  * Fields of an FAC block: fourteen numbers, with their bits (clauses 6.3.3 and 6.3.4 of the standard)
  *   0  base/enhancement flag (1)        1  identity (2)               2  spectrum occupancy (4)
@@ -221,6 +221,21 @@ uint8_t drm_code(uint8_t *state, size_t state_len, uint8_t *memory, size_t memor
                  size_t fac_len, const uint8_t *sdc, size_t sdc_len, const uint8_t *msc, size_t msc_len,
                  int16_t *fac_cells, size_t fac_cells_len, int16_t *sdc_cells, size_t sdc_cells_len,
                  int16_t *msc_cells, size_t msc_cells_len);
+
+/*
+ * Shows the next super frame: the cells, the state and the answer that drm_code would give for these bits. Neither state
+ * nor memory is written, so that a run goes on as if nothing had been shown.
+ *   state      208 bytes, as the last accepted call of the run left them
+ *   memory     likewise
+ *   fac, sdc, msc                    27, SDC bytes, MSC bytes: the bits that would be coded
+ *   fac_cells, sdc_cells, msc_cells  390, SDC numbers, MSC numbers: all are written if the answer is 0
+ *   next       208 bytes, the state that drm_code would leave: written if the answer is 0
+ * Answers 0, 1 to 7, 23, 8 to 12, or 255 (state or next).
+ */
+uint8_t drm_preview(const uint8_t *state, size_t state_len, const uint8_t *memory, size_t memory_len,
+                    const uint8_t *fac, size_t fac_len, const uint8_t *sdc, size_t sdc_len, const uint8_t *msc,
+                    size_t msc_len, int16_t *fac_cells, size_t fac_cells_len, int16_t *sdc_cells,
+                    size_t sdc_cells_len, int16_t *msc_cells, size_t msc_cells_len, uint8_t *next, size_t next_len);
 
 /*
  * Reads one super frame.

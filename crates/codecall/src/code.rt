@@ -38,7 +38,7 @@ fn code_lengths(
 }
 
 // The lowest number that applies, 0 for acceptance.
-fn code_refusal(
+pub fn code_refusal(
     state: State,
     fac: &[u8],
     sdc: &[u8],
@@ -66,7 +66,7 @@ fn code_refusal(
 }
 
 // What an accepted call does.
-fn code_accepted(
+pub fn code_accepted(
     state: State,
     fac: &[u8],
     sdc: &[u8],

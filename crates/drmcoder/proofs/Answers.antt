@@ -14,9 +14,11 @@ use Rattle.superframe.specs.declared.Answer.{Answer}
 use Rattle.superframe.specs.declared.Answer.the-variants.{Finished, Refused}
 use Rattle.superframe.specs.Reset.{ResetYield, resetOf}
 use Rattle.superframe.specs.Code.{CodeCall, CodeYield, codeOf}
+use Rattle.superframe.specs.Preview.{PreviewYield, previewOf}
 use Rattle.superframe.specs.Read.{ReadCall, ReadYield, answerNumber, answerFrames, answerBlock, readOf}
 use Rattle.drmcoder.specs.Bytes.{settingsOf, stateOf, stateBytes}
 use Rattle.drmcoder.specs.Calls.{stateAfter, stateRead, answerWord, resetYields, codeYields, readYields, resetAnswered, resetBytes, codeAnswered, codeBytes, readAnswered, readBytes}
+use Rattle.drmcoder.specs.Preview.{previewYields, previewAnswered, previewBytes}
 use Rattle.drmcoder.proofs.Tests.{both-right}
 
 pub after-refused : (done : Done) (bytes : List ℕ) → (done .refusal ≡ 0 → ⊥) → bytes ≡ stateAfter done bytes
@@ -56,3 +58,9 @@ pub read-right : (state : List ℕ) (memory : List ℕ) (c : ReadCall) (old : St
     → readYields r state′ (y .memory) (y .fac) (y .sdc) (y .msc) ≡ readBytes state memory c
 unfolding readBytes readAnswered
 read-right state memory c old y r state′ hs eo ey er e′ = rw (er, e′, ey, eo, eq-eqb (length state) 208 hs)
+
+pub preview-right : (state memory : List ℕ) (c : CodeCall) (next : List ℕ) (old : State) (y : PreviewYield) (r : ℕ) (next′ : List ℕ)
+    → length state ≡ 208 → length next ≡ 208 → old ≡ stateOf state → y ≡ previewOf old memory c → r ≡ y .done .refusal → next′ ≡ stateAfter (y .done) next
+    → previewYields r (y .faccells) (y .sdccells) (y .msccells) next′ ≡ previewBytes state memory c next
+unfolding previewBytes previewAnswered
+preview-right state memory c next old y r next′ hs hn eo ey er e′ = rw (er, e′, ey, eo) (both-right _ _ _ _ _ _ hs hn)

@@ -2,5 +2,6 @@ pub mod Bytes
 pub mod Fac
 pub mod Numbers
 pub mod Calls
+pub mod Preview
 pub mod Grids
 pub mod Decide

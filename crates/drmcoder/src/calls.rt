@@ -17,8 +17,8 @@ ghost use Rattle.codecall.specs.Contracts.{codeCall};
 ghost use Rattle.readcall.specs.Contracts.{readCall};
 ghost use Rattle.drmcoder.specs.Calls.{stateAfter, stateRead, answerWord, resetYields, codeYields, readYields, resetBytes, codeBytes, readBytes};
 
-// The answer of Reset and Code, with the state written where the call is accepted.
-fn finish(done: Done, bytes: &mut [u8]) -> u8
+// The answer of Reset, Code and preview, with the state written where the call is accepted.
+pub fn finish(done: Done, bytes: &mut [u8]) -> u8
     requires { ⌜ length (now bytes) ≡ 208 ⌝ }
     ensures { λ r. ⌜ r ≡ done .refusal ⌝ }
     ensures { λ r. ⌜ now (bytes .exit) ≡ stateAfter done (now (bytes .entry)) ⌝ }

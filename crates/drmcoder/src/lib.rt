@@ -6,3 +6,4 @@ pub mod disperse;
 pub mod fac;
 pub mod grids;
 pub mod numbers;
+pub mod preview;

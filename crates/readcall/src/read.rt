@@ -1,8 +1,8 @@
 // The call Read. 01 "Buffers and state" and "Operations".
 use crate::places::read_blocks;
-use block::buffers::MOST_CELLS;
 use block::buffers::MOST_MSC_BYTES;
 use block::buffers::MOST_SDC_BYTES;
+use cellmemory::buffers::memory_buffer;
 use cellmemory::refusal;
 use channels::Scheme;
 use channels::tables::scheme_refusal;
@@ -17,7 +17,6 @@ use superframe::Reading;
 use superframe::State;
 ghost use mathlib.Core.Path.{_≡_};
 ghost use lib.ListN.{replicate};
-ghost use Rattle.lists.specs.Buffers.{Long};
 ghost use Rattle.superframe.specs.Code.{byteLengths, cellLengths};
 ghost use Rattle.superframe.specs.Read.{orderRefusal, readOf};
 ghost use Rattle.cellmemory.specs.Contracts.{refusalThen};
@@ -79,12 +78,6 @@ fn order_refusal(
 }
 
 // Working buffers for the largest settings, each from a function of its own: proofs then take its length and do not write it out.
-fn memory_buffer() -> [u8; 5 * MOST_CELLS]
-    ensures { λ r. ⌜ Long 30590 r ⌝ }
-{
-    [0u8; 5 * MOST_CELLS]
-}
-
 fn fac_buffer() -> [u8; 3 * FAC_BYTES]
     ensures { λ r. ⌜ r ≡ replicate 27 0 ⌝ }
 {

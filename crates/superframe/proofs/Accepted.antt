@@ -26,10 +26,12 @@ use Rattle.superframe.specs.Runs.{bitsOf}
 use Rattle.superframe.specs.SingleCalls.{SingleCalls}
 use Rattle.superframe.specs.WholeRuns.{WholeRuns}
 use Rattle.superframe.specs.NoEmptyCells.{NoEmptyCells}
+use Rattle.superframe.specs.RunsWithPreviews.{RunsWithPreviews}
 use Rattle.superframe.proofs.Coding.{Recovers, Coding}
 use Rattle.superframe.proofs.SingleCalls.{single-calls-of}
 use Rattle.superframe.proofs.WholeRuns.{whole-runs-of}
 use Rattle.superframe.proofs.NoEmptyCells.{no-empty-cells-of}
+use Rattle.superframe.proofs.RunsWithPreviews.{runs-with-previews-of}
 
 -- A block whose levels and constellation fit is recovered.
 pub recovers : {k : Block} → BlockFits k → (bytes : ℕ) → bytesFor (bitCount k) ≡ bytes → Recovers k bytes
@@ -82,3 +84,7 @@ whole-runs = whole-runs-of coding
 -- S-5.
 pub no-empty-cells : NoEmptyCells
 no-empty-cells = no-empty-cells-of coding
+
+-- S-3.
+pub runs-with-previews : RunsWithPreviews
+runs-with-previews = runs-with-previews-of coding

@@ -19,4 +19,5 @@ pub mod Faults
 pub mod Sendable
 pub mod SingleCalls
 pub mod NoEmptyCells
+pub mod RunsWithPreviews
 pub mod Accepted

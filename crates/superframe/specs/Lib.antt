@@ -4,6 +4,7 @@ pub mod Interleaving
 pub mod Call
 pub mod Reset
 pub mod Code
+pub mod Preview
 pub mod Read
 pub mod Blocks
 pub mod Runs
@@ -12,5 +13,6 @@ pub mod Standard
 pub mod SingleCalls
 pub mod WholeRuns
 pub mod NoEmptyCells
+pub mod RunsWithPreviews
 -- What functions inside a call require and promise.
 pub mod Contracts

@@ -1,5 +1,6 @@
 // Theorems about the definitions that the contracts of Reset, Code and Read cite: each function is empty and promises its statement.
 ghost use Rattle.superframe.specs.NoEmptyCells.{NoEmptyCells};
+ghost use Rattle.superframe.specs.RunsWithPreviews.{RunsWithPreviews};
 ghost use Rattle.superframe.specs.SingleCalls.{SingleCalls};
 ghost use Rattle.superframe.specs.WholeRuns.{WholeRuns};
 
@@ -16,4 +17,9 @@ pub fn whole_runs()
 // S-5: the cells of a run are points and fillers, none (0, 0), and a reader ignores those of frames before the first.
 pub fn no_empty_cells()
     ensures { λ _. ⌜ NoEmptyCells ⌝ }
+{}
+
+// S-3: a run with previews in between sends the cells of the same run without them.
+pub fn runs_with_previews()
+    ensures { λ _. ⌜ RunsWithPreviews ⌝ }
 {}

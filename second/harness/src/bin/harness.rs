@@ -11,6 +11,7 @@ use harness::holds;
 use harness::lent::{Kind, Lent};
 use harness::measured;
 use harness::nearest;
+use harness::{own, previews};
 use harness::tables;
 use harness::tally::Tally;
 use second::settings::{Settings, PAIRINGS};
@@ -41,13 +42,14 @@ fn main() -> ExitCode {
         ["grid"] => return report(counted(grids::random_calls())),
         ["decide"] => return report(counted(measured::random_calls())),
         ["disperse"] => return report(dispersal_calls()),
+        ["preview"] => return report(previews::calls(SEED, own::preview, requests::preview)),
         ["tables"] => return report(tables::calls(SEED, &tables::own(), &requests::CODER)),
         ["hold"] => return report(holds::calls(SEED, &holds::OWN, &requests::HOLD)),
         ["runs"] => runs::print(&Archive, &mut out),
         ["counts"] => counts::print(&Archive, &mut out),
         ["refusals"] => refusals::print(&Archive, &mut out),
         _ => {
-            eprintln!("harness [grid | decide | disperse | tables | hold | runs | counts | refusals]");
+            eprintln!("harness [grid | decide | disperse | preview | tables | hold | runs | counts | refusals]");
             return ExitCode::from(2);
         }
     };

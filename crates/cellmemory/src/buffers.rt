@@ -1,0 +1,10 @@
+// A working buffer for a copy of memory, from a function of its own: proofs then take its length and do not write it out.
+use block::buffers::MOST_CELLS;
+ghost use Rattle.lists.specs.Buffers.{Long};
+
+// Room for the largest memory: in long interleaving five slots, a byte for each cell.
+pub fn memory_buffer() -> [u8; 5 * MOST_CELLS]
+    ensures { λ r. ⌜ Long 30590 r ⌝ }
+{
+    [0u8; 5 * MOST_CELLS]
+}
