@@ -16,6 +16,8 @@ use Rattle.superframe.specs.Reset.{ResetYield, resetOf}
 use Rattle.superframe.specs.Code.{CodeCall, CodeYield, codeOf}
 use Rattle.superframe.specs.Preview.{PreviewYield, previewOf}
 use Rattle.superframe.specs.Read.{ReadCall, ReadYield, answerNumber, answerFrames, answerBlock, readOf}
+use Rattle.superframe.specs.ReadOn.{ReadOnCall, ReadOnYield, readOnOf}
+use Rattle.drmcoder.specs.ReadOn.{readOnYields, readOnAnswered, readOnBytes}
 use Rattle.drmcoder.specs.Bytes.{settingsOf, stateOf, stateBytes}
 use Rattle.drmcoder.specs.Calls.{stateAfter, stateRead, answerWord, resetYields, codeYields, readYields, resetAnswered, resetBytes, codeAnswered, codeBytes, readAnswered, readBytes}
 use Rattle.drmcoder.specs.Preview.{previewYields, previewAnswered, previewBytes}
@@ -64,3 +66,10 @@ pub preview-right : (state memory : List ℕ) (c : CodeCall) (next : List ℕ) (
     → previewYields r (y .faccells) (y .sdccells) (y .msccells) next′ ≡ previewBytes state memory c next
 unfolding previewBytes previewAnswered
 preview-right state memory c next old y r next′ hs hn eo ey er e′ = rw (er, e′, ey, eo) (both-right _ _ _ _ _ _ hs hn)
+
+pub read-on-right : (state memory : List ℕ) (c : ReadOnCall) (old : State) (y : ReadOnYield) (r : ℕ) (state′ : List ℕ)
+    → length state ≡ 208 → old ≡ stateOf state → y ≡ readOnOf old memory c → r ≡ answerWord (y .yield .reading .answer)
+    → state′ ≡ stateRead (y .yield .reading .answer) (y .yield .reading .state) state
+    → readOnYields r state′ (y .yield .memory) (y .yield .fac) (y .yield .sdc) (y .yield .msc) (y .lost) ≡ readOnBytes state memory c
+unfolding readOnBytes readOnAnswered readAnswered
+read-on-right state memory c old y r state′ hs eo ey er e′ = rw (er, e′, ey, eo, eq-eqb (length state) 208 hs)

@@ -38,7 +38,7 @@ fn refusal_word(number: u8, block: u8) -> u16
 }
 
 // The answer of Read, with the state written where the call is accepted.
-fn finish_read(reading: Reading, bytes: &mut [u8]) -> u16
+pub fn finish_read(reading: Reading, bytes: &mut [u8]) -> u16
     requires { ⌜ length (now bytes) ≡ 208 ⌝ }
     ensures { λ r. ⌜ r ≡ answerWord (reading .answer) ⌝ }
     ensures { λ r. ⌜ now (bytes .exit) ≡ stateRead (reading .answer) (reading .state) (now (bytes .entry)) ⌝ }

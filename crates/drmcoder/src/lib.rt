@@ -7,3 +7,4 @@ pub mod fac;
 pub mod grids;
 pub mod numbers;
 pub mod preview;
+pub mod read_on;

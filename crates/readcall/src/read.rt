@@ -23,7 +23,7 @@ ghost use Rattle.cellmemory.specs.Contracts.{refusalThen};
 ghost use Rattle.readcall.specs.Contracts.{readCall, readYield, ReadPasses};
 
 // 1 to 10: the cells come in, and bytes go out.
-fn read_lengths(
+pub fn read_lengths(
     s: Scheme,
     faccells: &[i16],
     sdccells: &[i16],

@@ -1,6 +1,6 @@
 -- What the laws of runs use of a scheme's coding: of each kind of block that reading undoes coding, and of the sizes how they fit.
 use Prim.Native.Nat.{ℕ, zero, suc, _+_, _*_, _%_, _≤_, _<_}
-use mathlib.Core.Path.{_≡_, refl}
+use mathlib.Core.Path.{_≡_, refl, subst}
 use mathlib.Core.Logic.{inl, inr}
 use mathlib.Core.Bool.{Bool, true, false, cond}
 use mathlib.Core.List.{List, [], _∷_, _++_, map}
@@ -33,7 +33,7 @@ use Rattle.superframe.specs.Runs.{bitsOf}
 use Rattle.block.specs.Fits.{BlockBits}
 use Rattle.block.specs.Reads.{ReadsBytes}
 use Rattle.block.proofs.Blocks.{length-cells}
-use Rattle.lists.proofs.Bools.{both, and-left, and-right, table-every}
+use Rattle.lists.proofs.Bools.{holds-or, never-both, both, and-left, and-right, table-every}
 use Rattle.lists.proofs.Counting.{below-or}
 use Rattle.lists.proofs.Tables.{getD-table}
 use Rattle.lists.proofs.Same.{sameNumber-true}
@@ -151,3 +151,21 @@ pub point-at : (k : Constellation) (cells : List ℤ) → arePoints k cells ≡ 
 unfolding isPoint
 point-at k cells h j b =
     both (rw axis-real at (on-axis k cells h (2 * j) (omega arith))) (rw axis-imaginary at (on-axis k cells h (2 * j + 1) b))
+
+-- So does a number of any point.
+on-axis-small : (l : List ℤ) → every (map isSmall l) ≡ true → (v : ℤ) → onAxis l v ≡ true → Small v
+unfolding every isSmall onAxis
+on-axis-small [] h v e = absurd (never-both false e refl)
+on-axis-small (w ∷ l) h v e =
+    elim (holds-or (sameNumber w v)) [
+      | inl x ↦ subst Small (sameNumber-true w v x) (record { back = sameNumber-true _ w (and-left (sameNumber (signed (fourBits w)) w) (every (map isSmall l)) h) })
+      | inr x ↦ on-axis-small l (and-right (sameNumber (signed (fourBits w)) w) (every (map isSmall l)) h) v (rw x at e)
+    ]
+
+pub point-small : (k : Block) (re im : ℤ) → isPoint (pointsOf k) re im ≡ true → Small re × Small im
+unfolding isPoint pointsOf
+point-small k re im h =
+    let c = coordinate-small (k .constellation) in
+    let real = constellation (k .constellation) .real in
+    let imaginary = constellation (k .constellation) .imaginary in
+    (on-axis-small real (c .0) re (and-left (onAxis real re) _ h), on-axis-small imaginary (c .1) im (and-right (onAxis real re) (onAxis imaginary im) h))

@@ -236,7 +236,7 @@ finished-count s (r ∷ rows) q h =
       | inr x ↦ rw (length-append, finished-one s q (taken s q r) (omega arith)) (omega arith)
     ]
 
-three-rows : (s : Settings) (cells : List ℤ) → length (rowsOf s cells) ≡ 3
+pub three-rows : (s : Settings) (cells : List ℤ) → length (rowsOf s cells) ≡ 3
 unfolding rowsOf parts
 three-rows s cells = length-table _ 0 3
 

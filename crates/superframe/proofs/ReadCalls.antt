@@ -31,7 +31,7 @@ use Rattle.superframe.specs.Call.{part, parts, joined, facBytes}
 use Rattle.superframe.specs.Code.{progressOf, stateOf}
 use Rattle.superframe.specs.Read.{ReadCall, answerNumber, answerFrames, rowsOf, fillersOf, rowCell, rowPoints, countAt, pointTests, givenTests, orderRefusal, handedOut, readAccepted, readOf}
 use Rattle.superframe.specs.Contracts.{BytesFit}
-use Rattle.superframe.specs.Runs.{Bits, SuperFrame, bitsOf, reads, handed}
+use Rattle.superframe.specs.Runs.{Bits, SuperFrame, bitsOf, reading, reads, handed}
 use Rattle.superframe.specs.Standard.{standardRow, superFrame}
 use Rattle.lists.proofs.Same.{sameNumbers-refl}
 use Rattle.lists.proofs.Bools.{or-right, every-table, every-append}
@@ -44,6 +44,7 @@ use Rattle.superframe.proofs.SuperFrames.{fac-parts, sdc-part, row-part
 use Rattle.superframe.proofs.Reader.{sentAge, sentAge-cell, reader-after, reader-finished}
 use Rattle.superframe.proofs.Calls.{fits-read, read-accepts}
 use Rattle.superframe.proofs.CodeRuns.{Whole}
+use Rattle.superframe.proofs.FedRuns.{Handing, Turn}
 
 -- The cells of a row are points, those of frames before the first too.
 module _ (s : Scheme) (c : Coding s) (F : List (List ℕ)) (f : ℕ) (ok : (i : ℕ) → i ≤ f → BlockBits (mscBlock s) (getD F i [])) where
@@ -63,7 +64,7 @@ module _ (s : Scheme) (c : Coding s) (F : List (List ℕ)) (f : ℕ) (ok : (i : 
       (start-point s c) (suc f) (λ i h. frame-point s c F i (ok i (omega arith))) (delay (depth (s .settings)) (2 * i)) (place 5 n i)
       (place-low 5 n (record { low = c .big; factor = refl }) i))
 
-  row-points : (count : ℕ) → rowPoints s count (standardRow s F f) ≡ true
+  pub row-points : (count : ℕ) → rowPoints s count (standardRow s F f) ≡ true
   unfolding rowPoints rowCell
   row-points count = every-table _ 0 (nMux (s .settings)) (λ i x y. or-right (not (leb (delay (depth (s .settings)) (2 * i)) count)) _ (row-point i (omega arith)))
 
@@ -71,11 +72,7 @@ module _ (s : Scheme) (c : Coding s) (F : List (List ℕ)) (f : ℕ) (ok : (i : 
 unfoldable pub feeding : SuperFrame → List ℕ → List ℕ → List ℕ → ReadCall
 feeding f fac sdc msc = record { faccells = f .fac; sdccells = f .sdc; msccells = f .msc; fac = fac; sdc = sdc; msc = msc }
 
--- Memory and state after it.
-unfoldable pub readOn : Scheme → Progress → Bits → ℕ → Progress
-readOn s q B m = afterRows (s .settings) q (table (standardRow s (B .frames)) (3 * m) 3)
-
--- What it hands out, before what the calls after it hand out.
+-- What it adds to what the calls after it hand out, and what j super frames from m on give: the frames are those from D - 1 before.
 unfoldable pub handing : Scheme → Bits → ℕ → Bits → Bits
 handing s B m rest =
     record {
@@ -84,13 +81,20 @@ handing s B m rest =
       frames = table (λ i. getD (B .frames) i []) (3 * m - (depth (s .settings) - 1)) (3 * m + 3 - (depth (s .settings) - 1) - (3 * m - (depth (s .settings) - 1))) ++ rest .frames;
     }
 
--- What it does in a list of calls: it is accepted, and memory then keeps the numbers before the next super frame.
-pub record Reading (s : Scheme) (B : Bits) (m : ℕ) (q : Progress) (r : ReadCall) : Type 0 where
-  pub accepted : reads (stateOf s q) (q .memory) r ≡ true
-  pub state : readOf (stateOf s q) (q .memory) r .reading .state ≡ stateOf s (readOn s q B m)
-  pub memory : readOf (stateOf s q) (q .memory) r .memory ≡ readOn s q B m .memory
-  pub out : (rest : List ReadCall) → handed (stateOf s q) (q .memory) (r ∷ rest) ≡ handing s B m (handed (stateOf s (readOn s q B m)) (readOn s q B m .memory) rest)
-  pub keeps : Keeps s (frameAt s (B .frames)) (sentAge (depth (s .settings))) (3 * suc m) (readOn s q B m)
+unfoldable pub between : Scheme → Bits → ℕ → ℕ → Bits
+between s B m j =
+    record {
+      fac = table (λ i. getD (B .fac) i []) (3 * m) (3 * j);
+      sdc = table (λ i. getD (B .sdc) i []) m j;
+      frames = table (λ i. getD (B .frames) i []) (3 * m - (depth (s .settings) - 1)) (3 * (m + j) - (depth (s .settings) - 1) - (3 * m - (depth (s .settings) - 1)));
+    }
+
+abbrev pub readHanding : Scheme → Bits → Handing ReadCall Bits
+readHanding s B = record { handed = handed; adding = handing s B; between = between s B }
+
+-- What memory keeps before super frame m.
+abbrev pub KeepsBefore : Scheme → Bits → ℕ → Progress → Type 0
+KeepsBefore s B m q = Keeps s (frameAt s (B .frames)) (sentAge (depth (s .settings))) (3 * m) q
 
 -- Of three blocks' bits: the bytes read from their cells are put together, cut, and unpacked to the bits again.
 module _ (k : Block) (n : ℕ) (r : Recovers k n) (l : List (List ℕ)) (all : AllBits k l) where
@@ -217,11 +221,12 @@ module _ (s : Scheme) (c : Coding s) (B : Bits) (w : Whole s B) (m : ℕ) (low :
         (back-parts (mscBlock s) (frameBytes (s .settings)) (c .msc) (B .frames) (w .frameBits) (3 * m - (depth (s .settings) - 1)) (3 * m + 3 - (depth (s .settings) - 1) - (3 * m - (depth (s .settings) - 1)))
         (let e = all-in (3 * m) (depth (s .settings) - 1) in omega (arith, w .frames)) (at-most (3 * m) (depth (s .settings) - 1)) _)
 
-    pub fed-reading : Reading s B m q (feeding (superFrame s B m) fac sdc msc)
-    unfolding reads handed readAccepted answerNumber answerFrames progressOf stateOf feeding handing readOn
+    pub fed-reading : Turn reading s (KeepsBefore s B) (readHanding s B) m q (feeding (superFrame s B m) fac sdc msc)
+    unfolding reads handed readAccepted answerNumber answerFrames progressOf stateOf feeding handing
     fed-reading =
         let e : 3 * suc m ≡ 3 * m + 3 = omega arith in
         record {
+          after = afterRows (s .settings) q (table (standardRow s (B .frames)) (3 * m) 3);
           accepted = rw fed-accepted;
           state = rw (fed-accepted, rows-are s B m);
           memory = rw (fed-accepted, rows-are s B m);

@@ -1,20 +1,21 @@
 -- Runs of Code calls from an accepted Reset: they bring whole super frames of bits, send the standard's cells, and are refused by 9, 10 or 11 only. Assumes the coding of allowed settings.
-use Prim.Native.Nat.{ℕ}
+use Prim.Native.Nat.{ℕ, _<_}
 use mathlib.Core.Path.{_≡_, refl, sym, ap, ap₂, _∙_, subst}
 use mathlib.Core.Bool.{true}
 use mathlib.Core.List.{List, map}
 use native.Mathlib.Decide.{ℕ-discrete}
 use native.Mathlib.Omega.{arith}
-use lib.ListN.{length}
+use lib.ListN.{length, getD}
 use lib.IntN.{ℤ}
 use Rattle.lists.specs.Lists.{table}
+use Rattle.lists.proofs.Tables.{length-table, getD-table}
 use Rattle.channels.specs.declared.Scheme.{Scheme}
 use Rattle.channels.specs.Scheme.{schemeRefusal}
 use Rattle.lists.specs.Bools.{every}
 use Rattle.superframe.specs.Interleaving.{Progress}
 use Rattle.superframe.specs.Reset.{resetRefusal, startState, startMemory}
 use Rattle.superframe.specs.Code.{stateOf}
-use Rattle.superframe.specs.Runs.{Begun, stateAt, memoryAt, Bits, brought, sent, refusals, stateAfter, memoryAfter, Run, bits, cells, stateNow, memoryNow}
+use Rattle.superframe.specs.Runs.{Begun, stateAt, memoryAt, Bits, brought, sent, refusals, stateAfter, memoryAfter, SuperFrame, Run, bits, cells, stateNow, memoryNow}
 use Rattle.superframe.specs.Standard.{superFrame, standard}
 use Rattle.superframe.specs.WholeRuns.{standardCells, runNumber}
 use Rattle.superframe.proofs.Coding.{Coding}
@@ -88,6 +89,17 @@ module _ (coding : (s : Scheme) → schemeRefusal s ≡ 0 → Coding s) where
         ap₂ (λ st me. sent st me (run .calls)) (begun-state (run .begun)) (begun-memory (run .begun))
         ∙ coded-run .0
         ∙ ap (λ b. table (superFrame (run .begun .scheme) (bits run)) 0 (length (b .sdc))) (sym bits-are)
+
+    -- Super frame m of them.
+    pub sent-frame : (m : ℕ) (z : SuperFrame) → m < length (bits run .sdc) → getD (cells run) m z ≡ superFrame (run .begun .scheme) (bits run) m
+    unfolding standardCells standard
+    sent-frame m z low =
+        ap (λ l. getD l m z) run-sends
+        ∙ getD-table z (superFrame (run .begun .scheme) (bits run)) (length (bits run .sdc)) m low
+
+    pub sent-long : length (cells run) ≡ length (bits run .sdc)
+    unfolding standardCells standard
+    sent-long = ap length run-sends ∙ length-table _ 0 (length (bits run .sdc))
 
     -- A call of a run is refused by 9, 10 or 11 only.
     pub run-refuses : every (map runNumber (refusals (stateAt (run .begun)) (memoryAt (run .begun)) (run .calls))) ≡ true

@@ -33,9 +33,9 @@ use Rattle.superframe.proofs.SuperFrames.{fac-part, sdc-part, row-part}
 use Rattle.superframe.proofs.CodeRuns.{Whole}
 use Rattle.superframe.proofs.Runs.{coded-by, bits-whole}
 
--- A frame is decided by the D rows that carry it.
+-- A frame is decided by the numbers of the D rows that carry it.
 pub rows-frames : (s : Scheme) → Coding s → {G H R S : ℕ → List ℤ} → Carries s G R → Carries s H S
-    → (f : ℕ) → ((i : ℕ) → f ≤ i → i < f + depth (s .settings) → R i ≡ S i) → G f ≡ H f
+    → (f : ℕ) → ((k : ℕ) → k < slotSize (s .settings) → getD (R (f + delay (depth (s .settings)) k)) k (pos 0) ≡ getD (S (f + delay (depth (s .settings)) k)) k (pos 0)) → G f ≡ H f
 rows-frames s c {G} {H} {R} {S} one two f same =
     ext-getD (pos 0) (G f) (H f) (one .long f ∙ sym (two .long f)) (λ r b. number r (rw (one .long f) at b))
   where
@@ -44,11 +44,10 @@ rows-frames s c {G} {H} {R} {S} one two f same =
         let w = covers s c r h in
         let k = w .index in
         let d = delay (depth (s .settings)) k in
-        let l = delay-low (depth (s .settings)) k (depth-low (s .settings)) in
         let e : f + d - d ≡ f = omega arith in
         let x = rw (e, w .value) at (one .number (f + d) k (w .low) (omega arith)) in
         let y = rw (e, w .value) at (two .number (f + d) k (w .low) (omega arith)) in
-        sym x ∙ ap (λ row. getD row k (pos 0)) (same (f + d) (omega arith) (omega arith)) ∙ y
+        sym x ∙ same k (w .low) ∙ y
 
 -- Blocks whose cells are equal have equal bits.
 bits-same : {k : Block} {n : ℕ} → Recovers k n → {l r : List (List ℕ)} → AllBits k l → AllBits k r → length l ≡ length r
@@ -105,7 +104,11 @@ module _ (s : Scheme) (c : Coding s) (b d : Bits) (wb : Whole s b) (wd : Whole s
 
         at : (i : ℕ) → (i < length (b .frames) - 6) ⊎ (length (b .frames) - 6 ≤ i)
             → cellsOf (mscBlock s) (getD (b .frames) i []) ≡ cellsOf (mscBlock s) (getD (d .frames) i [])
-        at i (inl x) = rows-frames s c (standard-carries s (b .frames)) (standard-carries s (d .frames)) i (λ j y z. row j (omega (arith, depth-high (s .settings))))
+        at i (inl x) =
+            rows-frames s c (standard-carries s (b .frames)) (standard-carries s (d .frames)) i
+            (λ k y.
+            let l = delay-low (depth (s .settings)) k (depth-low (s .settings)) in
+            ap (λ r. getD r k (pos 0)) (row (i + delay (depth (s .settings)) k) (omega (arith, depth-high (s .settings)))))
         at i (inr x) =
             let e : (length (b .frames) - 6) + (i - (length (b .frames) - 6)) ≡ i = omega arith in
             ap (cellsOf (mscBlock s))

@@ -1,37 +1,29 @@
 -- No cell or filler of a run's super frames falls under 13, whatever a reader's count. Assumes the coding's record.
 use Prim.Native.Nat.{ℕ, _<_}
 use mathlib.Core.Path.{_≡_, sym, ap, _∙_, subst}
-use mathlib.Core.List.{[]}
-use native.Mathlib.Nat.{zero-add}
 use native.Mathlib.Omega.{arith}
-use lib.ListN.{length, getD}
-use Rattle.lists.proofs.Tables.{length-table, table-at}
+use lib.ListN.{length}
 use Rattle.channels.specs.declared.Scheme.{Scheme}
 use Rattle.channels.specs.Scheme.{schemeRefusal}
 use Rattle.superframe.specs.Read.{ReadCall, pointTests}
 use Rattle.superframe.specs.Runs.{Run, bits, cells}
-use Rattle.superframe.specs.Standard.{superFrame, standard}
+use Rattle.superframe.specs.Standard.{superFrame}
 use Rattle.superframe.specs.SingleCalls.{NoPoint, Nowhere, sentAt, LendsSent}
-use Rattle.superframe.specs.WholeRuns.{standardCells}
 use Rattle.superframe.proofs.Coding.{Coding}
 use Rattle.superframe.proofs.Faults.{all-nowhere, points-mean}
 use Rattle.superframe.proofs.SuperFrames.{cells-long}
 use Rattle.superframe.proofs.ReadCalls.{feeding, sent-points}
-use Rattle.superframe.proofs.Runs.{begun-allowed, bits-whole, run-sends}
+use Rattle.superframe.proofs.Runs.{begun-allowed, bits-whole, sent-frame, sent-long}
 
 module _ (coding : (s : Scheme) → schemeRefusal s ≡ 0 → Coding s) (run : Run) (m : ℕ) (sent : m < length (cells run)) where
   -- As many super frames are sent as SDC blocks are brought.
   brought-low : m < length (bits run .sdc)
-  unfolding standardCells standard
-  brought-low = let e : length (cells run) ≡ length (bits run .sdc) = ap length (run-sends coding run) ∙ length-table _ 0 (length (bits run .sdc)) in omega arith
+  brought-low = omega (arith, sent-long coding run)
 
   -- Super frame m is the standard's.
   pub sent-is : sentAt run m ≡ superFrame (run .begun .scheme) (bits run) m
-  unfolding sentAt standardCells standard
-  sent-is =
-      ap (λ l. getD l m (record { fac = []; sdc = []; msc = [] })) (run-sends coding run)
-      ∙ table-at (superFrame (run .begun .scheme) (bits run)) 0 (length (bits run .sdc)) m _ brought-low
-      ∙ rw zero-add
+  unfolding sentAt
+  sent-is = sent-frame coding run m _ brought-low
 
   module _ (c : ReadCall) (L : LendsSent run m c) where
     lent-is : c ≡ feeding (superFrame (run .begun .scheme) (bits run) m) (c .fac) (c .sdc) (c .msc)

@@ -53,7 +53,7 @@ module _ {k : Block} {n : ℕ} (r : Recovers k n) where
   read-spare cells bits e = rw (← e) (r .reads .fits cells .spare)
 
 -- A list is the table of its elements.
-as-table : {A : Type 0} (d : A) (l : List A) → l ≡ table (λ i. getD l i d) 0 (length l)
+pub as-table : {A : Type 0} (d : A) (l : List A) → l ≡ table (λ i. getD l i d) 0 (length l)
 as-table d l = sym (take-table d l (length l) (omega arith) ∙ take-length l)
 
 -- Bytes read from frames, put together before zeros.
@@ -192,7 +192,7 @@ module _ (state : State) (memory : List ℕ) (c : ReadCall) where
   unfolding told answerOf finishedOf
   answer-told z = rw z
 
-  accepted-by : answerNumber (answerOf state memory c) ≡ 0
+  pub accepted-by : answerNumber (answerOf state memory c) ≡ 0
       → (orderRefusal state memory c ≡ 0) × (every (pointTests (state .scheme) (state .count) c) ≡ true) × (every (givenTests (state .scheme) (progressOf state memory) c) ≡ true)
   unfolding told answerOf
   accepted-by e =
@@ -201,7 +201,7 @@ module _ (state : State) (memory : List ℕ) (c : ReadCall) where
       (omega (arith, ltb-false 0 r (u .0)), u .1, u .2)
 
   -- The answer that a Read call yields is the answer defined, accepted or not.
-  yielded : readOf state memory c .reading .answer ≡ answerOf state memory c
+  pub yielded : readOf state memory c .reading .answer ≡ answerOf state memory c
   unfolding readOf readAccepted readRefused
   yielded = go (eqb (answerNumber (answerOf state memory c)) 0) refl
     where

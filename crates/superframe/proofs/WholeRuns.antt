@@ -1,6 +1,6 @@
 -- Demand 3, proved of every settings whose coding is recovered by reading.
 use Prim.Native.Nat.{ℕ, _+_, _-_, _*_, _≤_}
-use mathlib.Core.Path.{_≡_, sym, ap, ap₂, _∙_, subst, subst₂}
+use mathlib.Core.Path.{_≡_, sym, ap, ap₂, _∙_, subst}
 use mathlib.Core.List.{List, [], _++_, map}
 use native.Mathlib.Nat.{zero-add, zero-sub, sub-zero}
 use native.Mathlib.Omega.{arith}
@@ -15,15 +15,17 @@ use Rattle.settings.specs.Sizes.{depth}
 use Rattle.block.specs.Block.{bitCount}
 use Rattle.channels.specs.Msc.{mscBlock}
 use Rattle.superframe.specs.Read.{ReadCall}
-use Rattle.superframe.specs.Runs.{Begun, stateAt, memoryAt, Bits, Closed, readCount, handed, Fed, Accepts, Run, bits}
+use Rattle.superframe.specs.Runs.{Begun, stateAt, memoryAt, Bits, Closed, reading, readCount, handed, Fed, Accepts, Run, bits}
 use Rattle.superframe.specs.Standard.{superFrame, standard}
 use Rattle.superframe.specs.WholeRuns.{standardCells, firstBits, allBits, WholeRuns}
 use Rattle.superframe.proofs.Coding.{Coding, depth-low, depth-high}
 use Rattle.superframe.proofs.History.{frameAt}
 use Rattle.superframe.proofs.Reader.{sentAge}
 use Rattle.superframe.proofs.CodeRuns.{Whole}
-use Rattle.superframe.proofs.ReadRuns.{between, reads-back, feedAll, feeds-all}
-use Rattle.superframe.proofs.Runs.{startOf, begun-allowed, begun-state, begun-memory, coded-by, begun-keeps, bits-whole, run-sends, run-refuses}
+use Rattle.superframe.proofs.FedRuns.{Goes, begun-runs, begun-all}
+use Rattle.superframe.proofs.ReadCalls.{between, readHanding, KeepsBefore}
+use Rattle.superframe.proofs.ReadRuns.{read-goes, lendAll, lend-all}
+use Rattle.superframe.proofs.Runs.{startOf, begun-allowed, coded-by, begun-keeps, bits-whole, run-sends, run-refuses}
 use Rattle.superframe.proofs.SameBits.{fac-same, sdc-same, same-frames, super-frames-same}
 
 -- What is handed out from the first super frame on.
@@ -43,30 +45,30 @@ between-first s B w j h = λ i. record { fac = facs i; sdc = sdcs i; frames = fr
 module _ (coding : (s : Scheme) → schemeRefusal s ≡ 0 → Coding s) where
   -- A reader of the run's settings, over the super frames of bits B.
   module _ (reader : Begun) (B : Bits) (w : Whole (reader .scheme) B) where
+    goes : Goes reading (reader .scheme) (superFrame (reader .scheme) B) (length (B .sdc)) (KeepsBefore (reader .scheme) B) (readHanding (reader .scheme) B)
+    goes = read-goes (reader .scheme) (coded-by coding reader) (begun-allowed reader) B w
+
+    start : KeepsBefore (reader .scheme) B 0 (startOf (reader .scheme))
+    start = begun-keeps coding reader (frameAt (reader .scheme) (B .frames)) (sentAge (depth (reader .scheme .settings)))
+
     -- Fed in order it accepts every call that feeds, and hands out what was brought.
     pub reader-back : (calls : List ReadCall)
-        → Fed (standard (reader .scheme) B) (stateAt reader) (memoryAt reader) calls
-        → Accepts (standard (reader .scheme) B) (stateAt reader) (memoryAt reader) calls
-        × (handed (stateAt reader) (memoryAt reader) calls ≡ firstBits (depth (reader .scheme .settings)) (readCount (stateAt reader) (memoryAt reader) calls) B)
+        → Fed reading (standard (reader .scheme) B) (stateAt reader) (memoryAt reader) calls
+        → Accepts reading (standard (reader .scheme) B) (stateAt reader) (memoryAt reader) calls
+        × (handed (stateAt reader) (memoryAt reader) calls ≡ firstBits (depth (reader .scheme .settings)) (readCount reading (stateAt reader) (memoryAt reader) calls) B)
     unfolding standard
     reader-back calls F =
         let s = reader .scheme in
-        let r = reads-back s (coded-by coding reader) (begun-allowed reader) B w calls 0 (length (B .sdc)) (startOf s) (zero-add _) (begun-keeps coding reader (frameAt s (B .frames)) (sentAge (depth (s .settings))))
-        (subst₂ (λ st me. Fed (table (superFrame s B) 0 (length (B .sdc))) st me calls) (begun-state reader) (begun-memory reader) F) in (
-          subst₂ (λ st me. Accepts (table (superFrame s B) 0 (length (B .sdc))) st me calls) (sym (begun-state reader)) (sym (begun-memory reader)) (r .0),
-          rw (begun-state reader, begun-memory reader) (r .2 ∙ between-first s B w _ (r .1)),
-        )
+        let r = begun-runs reading reader (superFrame s B) (length (B .sdc)) (KeepsBefore s B) (readHanding s B) goes start calls F in
+        (r .0, r .2 ∙ between-first s B w _ (r .1))
 
     -- There are calls that feed it all the super frames.
-    pub reader-all : Fed (standard (reader .scheme) B) (stateAt reader) (memoryAt reader) (feedAll (reader .scheme) (standard (reader .scheme) B))
-        × (readCount (stateAt reader) (memoryAt reader) (feedAll (reader .scheme) (standard (reader .scheme) B)) ≡ length (B .sdc))
+    pub reader-all : Fed reading (standard (reader .scheme) B) (stateAt reader) (memoryAt reader) (map (lendAll (reader .scheme)) (standard (reader .scheme) B))
+        × (readCount reading (stateAt reader) (memoryAt reader) (map (lendAll (reader .scheme)) (standard (reader .scheme) B)) ≡ length (B .sdc))
     unfolding standard
     reader-all =
         let s = reader .scheme in
-        let r = feeds-all s (coded-by coding reader) (begun-allowed reader) B w (length (B .sdc)) 0 (startOf s) (zero-add _) (begun-keeps coding reader (frameAt s (B .frames)) (sentAge (depth (s .settings)))) in (
-          subst₂ (λ st me. Fed (table (superFrame s B) 0 (length (B .sdc))) st me (feedAll s (table (superFrame s B) 0 (length (B .sdc))))) (sym (begun-state reader)) (sym (begun-memory reader)) (r .0),
-          rw (begun-state reader, begun-memory reader) (r .1),
-        )
+        begun-all reading reader (superFrame s B) (length (B .sdc)) (KeepsBefore s B) (readHanding s B) goes start (lendAll s) (λ m h. lend-all s (superFrame s B m))
 
 -- The first of equal elements.
 take-equal : {A : Type 0} (z : A) (n m : ℕ) → m ≤ n → take m (replicate n z) ≡ replicate m z
@@ -121,9 +123,9 @@ whole-runs-of coding =
           ∙ ap (λ j. firstBits (depth (reader .scheme .settings)) j (bits run)) h
           ∙ closed-all (reader .scheme) (bits run) (whole run (reader .scheme) (sym e)) (subst (λ x. Closed x (bits run)) (sym e) c);
       readable = λ run reader e.
-          let calls = feedAll (reader .scheme) (standard (reader .scheme) (bits run)) in
+          let calls = map (lendAll (reader .scheme)) (standard (reader .scheme) (bits run)) in
           let r = reader-all coding reader (bits run) (whole run (reader .scheme) (sym e)) in
-          (calls, (subst (λ x. Fed (standard x (bits run)) (stateAt reader) (memoryAt reader) calls) e (r .0), r .1));
+          (calls, (subst (λ x. Fed reading (standard x (bits run)) (stateAt reader) (memoryAt reader) calls) e (r .0), r .1));
       refuses = run-refuses coding;
     }
   where
@@ -132,11 +134,11 @@ whole-runs-of coding =
 
     back : (run : Run) (reader : Begun) (calls : List ReadCall)
         → reader .scheme ≡ run .begun .scheme
-        → Fed (standardCells run) (stateAt reader) (memoryAt reader) calls
-        → Accepts (standardCells run) (stateAt reader) (memoryAt reader) calls
+        → Fed reading (standardCells run) (stateAt reader) (memoryAt reader) calls
+        → Accepts reading (standardCells run) (stateAt reader) (memoryAt reader) calls
         × (handed (stateAt reader) (memoryAt reader) calls
-        ≡ firstBits (depth (reader .scheme .settings)) (readCount (stateAt reader) (memoryAt reader) calls) (bits run))
+        ≡ firstBits (depth (reader .scheme .settings)) (readCount reading (stateAt reader) (memoryAt reader) calls) (bits run))
     back run reader calls e F =
         let r = reader-back coding reader (bits run) (whole run (reader .scheme) (sym e)) calls
-        (subst (λ x. Fed (standard x (bits run)) (stateAt reader) (memoryAt reader) calls) (sym e) F) in
-        (subst (λ x. Accepts (standard x (bits run)) (stateAt reader) (memoryAt reader) calls) e (r .0), r .1)
+        (subst (λ x. Fed reading (standard x (bits run)) (stateAt reader) (memoryAt reader) calls) (sym e) F) in
+        (subst (λ x. Accepts reading (standard x (bits run)) (stateAt reader) (memoryAt reader) calls) e (r .0), r .1)

@@ -19,7 +19,7 @@ use Rattle.superframe.specs.declared.State.{State}
 use Rattle.superframe.specs.Call.{parts, facBytes}
 use Rattle.superframe.specs.Reset.{resetOf}
 use Rattle.superframe.specs.Code.{CodeCall, codeOf, byteLengths}
-use Rattle.superframe.specs.Read.{ReadCall, readOf, answerNumber, answerFrames}
+use Rattle.superframe.specs.Read.{ReadCall, ReadYield, readOf, answerNumber, answerFrames}
 
 -- An accepted Reset: the state, settings, table and memory that it was handed.
 pub record Begun : Type 0 where
@@ -124,17 +124,26 @@ memoryNow run = memoryAfter (stateAt (run .begun)) (memoryAt (run .begun)) (run 
 pub record Closed (s : Scheme) (b : Bits) : Type 0 where
   pub zeros : drop (length (b .frames) - 6) (b .frames) ≡ replicate 6 (replicate (bitCount (mscBlock s)) 0)
 
--- A Read call is accepted.
-unfoldable pub reads : State → List ℕ → ReadCall → Bool
-reads state memory c = eqb (answerNumber (readOf state memory c .reading .answer)) 0
+-- A reader: what its calls lend as Read's do, whether their outputs have room, and what they yield as Read's do.
+pub record Reader (C : Type 0) : Type 0 where
+  pub lent : C → ReadCall
+  pub room : Scheme → C → Bool
+  pub yields : State → List ℕ → C → ReadYield
+
+abbrev pub reading : Reader ReadCall
+reading = record { lent = λ c. c; room = λ s c. byteLengths (s .settings) (c .fac) (c .sdc) (c .msc); yields = readOf }
+
+-- A call of a reader is accepted.
+unfoldable pub reads : {C : Type 0} → Reader C → State → List ℕ → C → Bool
+reads r state memory c = eqb (answerNumber (r .yields state memory c .reading .answer)) 0
 
 -- How many calls of a reader's run are accepted.
-unfoldable pub readCount : State → List ℕ → List ReadCall → ℕ
-readCount state memory [] = 0
-readCount state memory (c ∷ cs) =
-    let y = readOf state memory c in
-    let rest = readCount (y .reading .state) (y .memory) cs in
-    cond (reads state memory c) (suc rest) rest
+unfoldable pub readCount : {C : Type 0} → Reader C → State → List ℕ → List C → ℕ
+readCount r state memory [] = 0
+readCount r state memory (c ∷ cs) =
+    let y = r .yields state memory c in
+    let rest = readCount r (y .reading .state) (y .memory) cs in
+    cond (reads r state memory c) (suc rest) rest
 
 -- The bits that the accepted calls of a reader's run hand out: of the multiplex frames, as many as the answer says.
 unfoldable pub handed : State → List ℕ → List ReadCall → Bits
@@ -143,7 +152,7 @@ handed state memory (c ∷ cs) =
     let y = readOf state memory c in
     let s = state .scheme in
     let rest = handed (y .reading .state) (y .memory) cs in
-    cond (reads state memory c)
+    cond (reads reading state memory c)
     (record {
       fac = map (bitsOf (facBlock s)) (parts facBytes (y .fac)) ++ rest .fac;
       sdc = bitsOf (sdcBlock s) (y .sdc) ∷ rest .sdc;
@@ -151,30 +160,30 @@ handed state memory (c ∷ cs) =
     })
     rest
 
--- A Read call lends the cells of the first super frame not yet read, with an output of the right length.
-pub record Feeds (s : Scheme) (cells : List SuperFrame) (c : ReadCall) : Type 0 where
+-- A reader's call lends the cells of the first super frame not yet read, with outputs of the right lengths.
+pub record Feeds {C : Type 0} (r : Reader C) (s : Scheme) (cells : List SuperFrame) (c : C) : Type 0 where
   pub frame : SuperFrame
   pub rest : List SuperFrame
   pub unread : cells ≡ frame ∷ rest
-  pub fac : c .faccells ≡ frame .fac
-  pub sdc : c .sdccells ≡ frame .sdc
-  pub msc : c .msccells ≡ frame .msc
-  pub room : byteLengths (s .settings) (c .fac) (c .sdc) (c .msc) ≡ true
+  pub fac : r .lent c .faccells ≡ frame .fac
+  pub sdc : r .lent c .sdccells ≡ frame .sdc
+  pub msc : r .lent c .msccells ≡ frame .msc
+  pub roomy : r .room s c ≡ true
 
 -- The super frames not yet read after a call.
-unfoldable pub unreadAfter : List SuperFrame → State → List ℕ → ReadCall → List SuperFrame
-unreadAfter cells state memory c = cond (reads state memory c) (drop 1 cells) cells
+unfoldable pub unreadAfter : {C : Type 0} → Reader C → List SuperFrame → State → List ℕ → C → List SuperFrame
+unreadAfter r cells state memory c = cond (reads r state memory c) (drop 1 cells) cells
 
 -- A reader's run is fed cells in order: every call feeds, or is refused.
-abbrev pub Fed : List SuperFrame → State → List ℕ → List ReadCall → Type 0
-Fed cells state memory [] = Unit {0}
-Fed cells state memory (c ∷ cs) =
-    (Feeds (state .scheme) cells c ⊎ (reads state memory c ≡ false))
-    × Fed (unreadAfter cells state memory c) (readOf state memory c .reading .state) (readOf state memory c .memory) cs
+abbrev pub Fed : {C : Type 0} → Reader C → List SuperFrame → State → List ℕ → List C → Type 0
+Fed r cells state memory [] = Unit {0}
+Fed r cells state memory (c ∷ cs) =
+    (Feeds r (state .scheme) cells c ⊎ (reads r state memory c ≡ false))
+    × Fed r (unreadAfter r cells state memory c) (r .yields state memory c .reading .state) (r .yields state memory c .memory) cs
 
 -- Every call that feeds is accepted.
-abbrev pub Accepts : List SuperFrame → State → List ℕ → List ReadCall → Type 0
-Accepts cells state memory [] = Unit {0}
-Accepts cells state memory (c ∷ cs) =
-    (Feeds (state .scheme) cells c → reads state memory c ≡ true)
-    × Accepts (unreadAfter cells state memory c) (readOf state memory c .reading .state) (readOf state memory c .memory) cs
+abbrev pub Accepts : {C : Type 0} → Reader C → List SuperFrame → State → List ℕ → List C → Type 0
+Accepts r cells state memory [] = Unit {0}
+Accepts r cells state memory (c ∷ cs) =
+    (Feeds r (state .scheme) cells c → reads r state memory c ≡ true)
+    × Accepts r (unreadAfter r cells state memory c) (r .yields state memory c .reading .state) (r .yields state memory c .memory) cs

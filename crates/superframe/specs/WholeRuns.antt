@@ -12,7 +12,7 @@ use Rattle.lists.specs.Bools.{every}
 use Rattle.channels.specs.declared.Scheme.{Scheme}
 use Rattle.channels.specs.Msc.{mscBlock}
 use Rattle.superframe.specs.Read.{ReadCall}
-use Rattle.superframe.specs.Runs.{Begun, stateAt, memoryAt, Bits, refusals, Closed, readCount, handed, Fed, Accepts, SuperFrame, Run, bits, cells}
+use Rattle.superframe.specs.Runs.{Begun, stateAt, memoryAt, Bits, refusals, Closed, reading, readCount, handed, Fed, Accepts, SuperFrame, Run, bits, cells}
 use Rattle.superframe.specs.Standard.{standard}
 
 -- The standard's cells of a run.
@@ -53,23 +53,23 @@ pub record WholeRuns : Type 0 where
   pub readsBack :
       (run : Run) (reader : Begun) (calls : List ReadCall)
       → reader .scheme ≡ run .begun .scheme
-      → Fed (standardCells run) (stateAt reader) (memoryAt reader) calls
-      → Accepts (standardCells run) (stateAt reader) (memoryAt reader) calls
+      → Fed reading (standardCells run) (stateAt reader) (memoryAt reader) calls
+      → Accepts reading (standardCells run) (stateAt reader) (memoryAt reader) calls
       × (handed (stateAt reader) (memoryAt reader) calls
-      ≡ firstBits (depth (reader .scheme .settings)) (readCount (stateAt reader) (memoryAt reader) calls) (bits run))
+      ≡ firstBits (depth (reader .scheme .settings)) (readCount reading (stateAt reader) (memoryAt reader) calls) (bits run))
   -- At the end of a closed run it has handed out all blocks, and all frames but the last of the closing, as brought.
   pub readsAll :
       (run : Run) (reader : Begun) (calls : List ReadCall)
       → reader .scheme ≡ run .begun .scheme
       → Closed (run .begun .scheme) (bits run)
-      → Fed (standardCells run) (stateAt reader) (memoryAt reader) calls
-      → readCount (stateAt reader) (memoryAt reader) calls ≡ length (bits run .sdc)
+      → Fed reading (standardCells run) (stateAt reader) (memoryAt reader) calls
+      → readCount reading (stateAt reader) (memoryAt reader) calls ≡ length (bits run .sdc)
       → handed (stateAt reader) (memoryAt reader) calls ≡ allBits (reader .scheme) (bits run)
   -- Every run's cells can be fed whole: there are such Read calls.
   pub readable :
       (run : Run) (reader : Begun)
       → reader .scheme ≡ run .begun .scheme
       → (calls : List ReadCall)
-      × (Fed (standardCells run) (stateAt reader) (memoryAt reader) calls × (readCount (stateAt reader) (memoryAt reader) calls ≡ length (bits run .sdc)))
+      × (Fed reading (standardCells run) (stateAt reader) (memoryAt reader) calls × (readCount reading (stateAt reader) (memoryAt reader) calls ≡ length (bits run .sdc)))
   -- A Code call of a run is refused by 9, 10 or 11 only.
   pub refuses : (run : Run) → every (map runNumber (refusals (stateAt (run .begun)) (memoryAt (run .begun)) (run .calls))) ≡ true

@@ -1,8 +1,9 @@
-// Theorems about the definitions that the contracts of Reset, Code and Read cite: each function is empty and promises its statement.
+// Theorems about the definitions that the contracts of Reset, Code, Read and reading on cite: each function is empty and promises its statement.
 ghost use Rattle.superframe.specs.NoEmptyCells.{NoEmptyCells};
 ghost use Rattle.superframe.specs.RunsWithPreviews.{RunsWithPreviews};
 ghost use Rattle.superframe.specs.SingleCalls.{SingleCalls};
 ghost use Rattle.superframe.specs.WholeRuns.{WholeRuns};
+ghost use Rattle.superframe.specs.OnRuns.{OnRuns};
 
 // Demand 2: which calls Read refuses by 13 and 14, what it hands out, and what Code's cells are.
 pub fn single_calls()
@@ -22,4 +23,9 @@ pub fn no_empty_cells()
 // S-3: a run with previews in between sends the cells of the same run without them.
 pub fn runs_with_previews()
     ensures { λ _. ⌜ RunsWithPreviews ⌝ }
+{}
+
+// S-13: what spoiled cells cost a reader that reads on, over whole lists of calls.
+pub fn on_runs()
+    ensures { λ _. ⌜ OnRuns ⌝ }
 {}

@@ -12,6 +12,8 @@ use harness::lent::{Kind, Lent};
 use harness::measured;
 use harness::nearest;
 use harness::{own, previews};
+use harness::own;
+use harness::read_ons;
 use harness::tables;
 use harness::tally::Tally;
 use second::settings::{Settings, PAIRINGS};
@@ -45,11 +47,12 @@ fn main() -> ExitCode {
         ["preview"] => return report(previews::calls(SEED, own::preview, requests::preview)),
         ["tables"] => return report(tables::calls(SEED, &tables::own(), &requests::CODER)),
         ["hold"] => return report(holds::calls(SEED, &holds::OWN, &requests::HOLD)),
+        ["read_ons"] => return report(read_ons::calls(SEED, own::read_on, requests::read_on)),
         ["runs"] => runs::print(&Archive, &mut out),
         ["counts"] => counts::print(&Archive, &mut out),
         ["refusals"] => refusals::print(&Archive, &mut out),
         _ => {
-            eprintln!("harness [grid | decide | disperse | preview | tables | hold | runs | counts | refusals]");
+            eprintln!("harness [grid | decide | disperse | preview | tables | hold | read_ons | runs | counts | refusals]");
             return ExitCode::from(2);
         }
     };
