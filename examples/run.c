@@ -327,6 +327,32 @@ static void measured(const uint8_t *settings) {
     printf("measured FAC cells: decided with noise and 8 fades, block found with %d wrong bits\n", wrong);
 }
 
+/* A frame of two streams, of which the first is the hierarchical frame where there is one, built and split again. */
+static void streams(const uint8_t *settings) {
+    static uint8_t lent[DRM_MOST_MSC_BYTES / 3], frame[DRM_MOST_MSC_BYTES / 3], back[DRM_MOST_MSC_BYTES / 3];
+    size_t bytes, n, room, head = settings[2] == 1 || settings[2] == 2;
+    uint16_t description[4];
+    begin(settings);
+    bytes = sizes[MSC_BYTES] / 3;
+    room = ((size_t)lengths[2] + lengths[3]) / 8;
+    description[0] = 0;
+    description[1] = head ? lengths[4] / 8 : 7;
+    description[2] = (uint16_t)(settings[6] * 256 + settings[7]);
+    description[3] = (uint16_t)(room - description[2] - (head ? 0 : 7));
+    n = (size_t)description[1] + description[2] + description[3];
+    draw(lent, 8 * n);
+    must(drm_mux_build(settings, DRM_SETTINGS_BYTES, description, 4, lent, n, frame, bytes) == DRM_ACCEPTED, "a frame is built");
+    must(drm_mux_read(settings, DRM_SETTINGS_BYTES, description, 4, frame, bytes, back, n) == DRM_ACCEPTED, "it is split");
+    must(memcmp(back, lent, n) == 0, "its streams are those lent");
+    description[3] -= 1;
+    must(drm_mux_read(settings, DRM_SETTINGS_BYTES, description, 4, frame, bytes, back, n - 1) ==
+             (lent[n - 1] == 0 ? DRM_ACCEPTED : DRM_REFUSED_FILLING), "a byte more than the streams have is no filling");
+    description[3] += 2;
+    must(drm_mux_build(settings, DRM_SETTINGS_BYTES, description, 4, lent, n + 1, frame, bytes) ==
+             DRM_REFUSED_STREAM_LENGTHS, "streams that do not fit are refused by 19");
+    printf("streams: %d bytes in a frame of %d, split as lent\n", (int)n, (int)bytes);
+}
+
 int main(void) {
     size_t k;
     for (k = 0; k < sizeof runs / sizeof runs[0]; k++)
@@ -335,6 +361,8 @@ int main(void) {
     nearest();
     measured(runs[sizeof runs / sizeof runs[0] - 1]);
     own_table(runs[1]);
+    streams(runs[0]);
+    streams(runs[2]);
     printf("all as it must be\n");
     return 0;
 }

@@ -69,7 +69,7 @@
  *     8  memory of the wrong length
  *     9  an input of the wrong length
  *    10  an output of the wrong length
- *    11  a spare bit set in an input of drm_code, drm_disperse or drm_preview
+ *    11  a spare bit set in an input of drm_code, drm_disperse, drm_preview or drm_mux_read
  *    12  position or count above 4 (above 0 in short interleaving), or a memory cell that is no point of the MSC's
  *        constellation
  *    13  a cell lent to drm_read is no point of its constellation, or a filler is wrong; cells of frames before the
@@ -80,6 +80,9 @@
  *    17  a grid of the wrong length
  *    18  a hold file that is none: a wrong number of lines or length of a line, a digit outside 0 to 9 and A to F, a
  *        position or count that 12 would refuse, or a cell that is no point of the MSC's constellation
+ *    19  a multiplex description whose part A lengths do not add up to X, or whose bytes are too many for the frame or for
+ *        its VSPP
+ *    20  a multiplex frame whose filling is not zero
  *    21  a value lent to drm_fac_nearest is above 2
  *    22  a measured float that is infinite or not a number, or a fade's gain that is, or is below zero
  *   255  a settings, state, lengths, sizes or next slice of the wrong length; this goes before all others
@@ -156,6 +159,8 @@ enum {
     DRM_REFUSED_CRC = 16,
     DRM_REFUSED_GRID_LENGTH = 17,
     DRM_REFUSED_HOLD_FILE = 18,
+    DRM_REFUSED_STREAM_LENGTHS = 19,
+    DRM_REFUSED_FILLING = 20,
     DRM_REFUSED_VALUE = 21,
     DRM_REFUSED_MEASURED = 22,
     DRM_REFUSED_TABLE = 23,
@@ -368,6 +373,33 @@ uint8_t drm_fac_nearest(const uint8_t *received, size_t received_len, uint8_t *b
  */
 uint8_t drm_disperse(uint16_t treated, uint16_t bits, const uint8_t *bytes, size_t bytes_len, uint8_t *out,
                      size_t out_len);
+
+/*
+ * A multiplex frame from the logical frames of one to four streams (clause 6.2.3): part A of each stream, part B of each,
+ * and zero bits to the end. In MSC modes 1 and 2 stream 0 is the hierarchical frame: it goes in front as VSPP, with zero
+ * bits to its end, counts in neither part, and what follows begins at bit L_VSPP, inside a byte as a rule. Protection
+ * levels come from the settings. Three frames, one after the other, are what drm_code takes.
+ *   settings     10 bytes
+ *   description  two numbers a stream, its bytes in part A and in part B; in MSC modes 1 and 2 the second of stream 0 is
+ *                the hierarchical frame's bytes, and its first is not looked at
+ *   streams      the logical frames in the order of their numbers, each part A and then part B: all the bytes that the
+ *                description says, without that first number
+ *   frame        a third of the MSC bytes, all written if the answer is 0
+ * Answers 0, 1 to 7, 9 (description or streams), 10 (frame), 19 or 255.
+ */
+uint8_t drm_mux_build(const uint8_t *settings, size_t settings_len, const uint16_t *description, size_t description_len,
+                      const uint8_t *streams, size_t streams_len, uint8_t *frame, size_t frame_len);
+
+/*
+ * Splits a multiplex frame into its streams again.
+ *   settings     10 bytes
+ *   description  as above
+ *   frame        a third of the MSC bytes
+ *   streams      as above, all written if the answer is 0
+ * Answers 0, 1 to 7, 9 (description or frame), 10 (streams), 11, 19, 20 (filling that is not zero) or 255.
+ */
+uint8_t drm_mux_read(const uint8_t *settings, size_t settings_len, const uint16_t *description, size_t description_len,
+                     const uint8_t *frame, size_t frame_len, uint8_t *streams, size_t streams_len);
 
 /*
  * Measured cells, n of any channel, to points and bits. A cell is either a measured pair or a fade that carries only its

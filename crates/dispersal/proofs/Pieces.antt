@@ -40,7 +40,7 @@ later-bit k bytes i =
     let r : (8 * k + i) % 8 ≡ i % 8 = omega arith in
     rw (q, r, getD-drop k bytes (i / 8) 0)
 
-unpacked-pieces : (k m : ℕ) (bytes : List ℕ) → unpacked (8 * k + m) bytes ≡ unpacked (8 * k) (take k bytes) ++ unpacked m (drop k bytes)
+pub unpacked-pieces : (k m : ℕ) (bytes : List ℕ) → unpacked (8 * k + m) bytes ≡ unpacked (8 * k) (take k bytes) ++ unpacked m (drop k bytes)
 unfolding unpacked
 unpacked-pieces k m bytes =
     table-add (bitAt bytes) 0 (8 * k) m

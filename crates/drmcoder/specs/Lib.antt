@@ -5,4 +5,5 @@ pub mod Calls
 pub mod Preview
 pub mod ReadOn
 pub mod Grids
+pub mod Mux
 pub mod Decide

@@ -1,0 +1,5 @@
+pub mod Stores
+pub mod Zeros
+pub mod Streams
+pub mod Split
+pub mod Loops

@@ -1,0 +1,5 @@
+pub mod Octets
+pub mod FrameBits
+pub mod Layouts
+pub mod Refusals
+pub mod RoundTrip
