@@ -86,6 +86,8 @@
  *    21  a value lent to drm_fac_nearest is above 2
  *    22  a measured float that is infinite or not a number, or a fade's gain that is, or is below zero
  *   255  a settings, state, lengths, sizes or next slice of the wrong length; this goes before all others
+ *    27  part A or VSPP in use (X above 0, or MSC mode 1 or 2) where drm_how_long asks for one stream in part B
+ *   255  a settings, state, lengths or sizes slice of the wrong length; this goes before all others
  *
  * Fields of an FAC block: fourteen numbers, with their bits (clauses 6.3.3 and 6.3.4 of the standard)
  *   0  base/enhancement flag (1)        1  identity (2)               2  spectrum occupancy (4)
@@ -121,6 +123,7 @@ enum {
     DRM_FAC_CELLS = 65,
     DRM_GRID_SIZES = 3,
     DRM_HOLD_SIZES = 2
+    DRM_HOW_LONG_NUMBERS = 3
 };
 
 /* The most that any permitted settings ask of the other slices, for buffers that serve them all. */
@@ -164,6 +167,7 @@ enum {
     DRM_REFUSED_VALUE = 21,
     DRM_REFUSED_MEASURED = 22,
     DRM_REFUSED_TABLE = 23,
+    DRM_REFUSED_PART_A_OR_VSPP = 27,
     DRM_REFUSED_SLICE = 255
 };
 
@@ -400,6 +404,18 @@ uint8_t drm_mux_build(const uint8_t *settings, size_t settings_len, const uint16
  */
 uint8_t drm_mux_read(const uint8_t *settings, size_t settings_len, const uint16_t *description, size_t description_len,
                      const uint8_t *frame, size_t frame_len, uint8_t *streams, size_t streams_len);
+
+/*
+ * How long so many bytes take on air, one stream in part B, without coding anything: each frame but the last in use
+ * carries as many whole bytes as L2 holds.
+ *   settings   10 bytes
+ *   bytes      how many, 0 to 4,294,967,295
+ *   numbers    3, written if the answer is 0: super frames with the two of the closing, bytes of memory, and zero bits
+ *              after the last byte in its frame, 0 where there are no bytes. A super frame lasts 1.2 seconds.
+ * Answers 0, 1 to 7, 10 (numbers), 27 or 255.
+ */
+uint8_t drm_how_long(const uint8_t *settings, size_t settings_len, uint32_t bytes, uint32_t *numbers,
+                     size_t numbers_len);
 
 /*
  * Measured cells, n of any channel, to points and bits. A cell is either a measured pair or a fade that carries only its

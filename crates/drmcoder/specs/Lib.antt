@@ -5,5 +5,6 @@ pub mod Calls
 pub mod Preview
 pub mod ReadOn
 pub mod Grids
+pub mod HowLong
 pub mod Mux
 pub mod Decide

@@ -14,6 +14,7 @@ use harness::nearest;
 use harness::{own, previews};
 use harness::own;
 use harness::read_ons;
+use harness::how_long;
 use harness::streams;
 use harness::tables;
 use harness::tally::Tally;
@@ -46,6 +47,7 @@ fn main() -> ExitCode {
         ["decide"] => return report(counted(measured::random_calls())),
         ["disperse"] => return report(dispersal_calls()),
         ["preview"] => return report(previews::calls(SEED, own::preview, requests::preview)),
+        ["how-long"] => return report(how_long::calls(SEED, own::how_long, requests::how_long)),
         ["streams"] => return report(streams::calls(SEED, &streams::OWN, &requests::MUX)),
         ["tables"] => return report(tables::calls(SEED, &tables::own(), &requests::CODER)),
         ["hold"] => return report(holds::calls(SEED, &holds::OWN, &requests::HOLD)),
@@ -54,7 +56,7 @@ fn main() -> ExitCode {
         ["counts"] => counts::print(&Archive, &mut out),
         ["refusals"] => refusals::print(&Archive, &mut out),
         _ => {
-            eprintln!("harness [grid | decide | disperse | preview | tables | hold | read_ons | streams | runs | counts | refusals]");
+            eprintln!("harness [grid | decide | disperse | preview | tables | hold | read_ons | streams | how-long | runs | counts | refusals]");
             return ExitCode::from(2);
         }
     };

@@ -1,0 +1,118 @@
+-- The three numbers, and that their formulas stay within 32 bits. Assumes nothing.
+use Prim.Native.Nat.{ℕ, _+_, _-_, _*_, _/_, _%_, _≤_, _<_}
+use mathlib.Core.Path.{_≡_, refl, ap, subst, _∙_}
+use mathlib.Core.Bool.{Bool, true, false, cond, _||_}
+use mathlib.Core.List.{List, [], _∷_}
+use native.Mathlib.Nat.{mod-lt, div-le-self, add-div-right, div-add-mod', div-eq-of-lt, zero-mul}
+use native.Mathlib.Omega.{arith}
+use borrow.Author.Tests.{eq-eqb, ne-eqb}
+use lib.ListN.{length, set}
+use lib.Dec.{T, eqb, leb, leb→le}
+use Rattle.settings.specs.declared.Settings.{Settings}
+use Rattle.settings.specs.Cells.{entry, muxTable}
+use Rattle.settings.specs.Rates.{rates, commonDenominator, table67, table68, table69, table71}
+use Rattle.settings.specs.Formulas.{hierarchical, width, partA, partB, bitsB, cellsA, roundUp}
+use Rattle.settings.specs.Refusal.{refusal, topLevel, paired}
+use Rattle.settings.specs.Accepted.{Level}
+use Rattle.settings.specs.declared.Lengths.{Lengths}
+use Rattle.settings.specs.Lengths.{nMux, n1, n2, l2, lengthsOf, accepted}
+use Rattle.settings.specs.Sizes.{depth, frameBits}
+use Rattle.settings.proofs.Parts.{level-at}
+use Rattle.settings.proofs.PartA.{gain-positive}
+use Rattle.settings.proofs.Chain.{pairings, pairing-at}
+use Rattle.settings.proofs.Bounds.{accepted-of, lengths-accepts}
+use Rattle.settings.proofs.Buffers.{frame-low}
+use Rattle.patterns.specs.Patterns.{RX, RY, numerators, denominators}
+use Rattle.lists.specs.Lists.{total}
+use Rattle.howlong.specs.HowLong.{wholeBytes, framesFor, superFrames, memoryBytes, zeroBits, numbersFor}
+use Rattle.howlong.specs.Contracts.{Counts}
+
+-- the frames in use are few
+pub few-frames : (c n : ℕ) → c ≤ 8191 → n ≤ 4294967295 → (n + (c - 1)) / c ≤ 4294975485
+few-frames c n h k = omega (arith, div-le-self (n + (c - 1)) c)
+
+pub super-frames : (bits n : ℕ) → ((n + (bits / 8 - 1)) / (bits / 8) + 2) / 3 + 2 ≡ superFrames bits n
+unfolding superFrames framesFor wholeBytes roundUp
+super-frames bits n = refl
+
+-- the bytes of the last frame
+last-bytes : (c n : ℕ) → 0 < c → 0 < n → n - ((n + (c - 1)) / c - 1) * c ≡ (n - 1) % c + 1
+last-bytes c n h k =
+    let e : n + (c - 1) ≡ (n - 1) + c = omega arith in
+    let f : (n + (c - 1)) / c ≡ (n - 1) / c + 1 = ap (λ (m : ℕ). m / c) e ∙ add-div-right (n - 1) h in
+    let g : (n + (c - 1)) / c - 1 ≡ (n - 1) / c = omega (arith, f) in
+    let d : (n - 1) / c * c + (n - 1) % c ≡ n - 1 = div-add-mod' (n - 1) c in
+    rw g (omega (arith, d))
+
+pub last-low : (c n : ℕ) → 0 < c → (n - 1) % c + 1 ≤ c
+last-low c n h = omega (arith, mod-lt (n - 1) h)
+
+pub zero-bits : (bits n : ℕ) → 8 ≤ bits → (n ≡ 0 → ⊥) → bits - 8 * ((n - 1) % (bits / 8) + 1) ≡ zeroBits bits n
+unfolding zeroBits framesFor wholeBytes roundUp
+zero-bits bits n h k = rw (ne-eqb n 0 k, last-bytes (bits / 8) n (omega arith) (omega arith))
+
+pub no-zero-bits : (bits n : ℕ) → n ≡ 0 → 0 ≡ zeroBits bits n
+unfolding zeroBits
+no-zero-bits bits n e = rw (eq-eqb n 0 e)
+
+-- without part A every cell is one of part B
+no-cells : (msc level : ℕ) → Level msc level → cellsA msc level 0 ≡ 0
+unfolding cellsA roundUp
+no-cells msc level h =
+    let p = partA msc level (commonDenominator msc level) in
+    let none : (8 * 0 + (p - 1)) / p ≡ 0 = div-eq-of-lt (omega (arith, gain-positive msc level h)) in
+    ap (λ (q : ℕ). q * commonDenominator msc level) none ∙ zero-mul (commonDenominator msc level)
+
+-- and these hold a byte, for every pairing and level: one computed test
+byte-test : (msc level : ℕ) → Level msc level → T (hierarchical msc || pairings (λ m o. leb 8 (partB msc level (entry muxTable m o))))
+unfolding hierarchical topLevel paired entry muxTable rates table67 table68 table69 table71 RX RY numerators denominators partB bitsB width total
+byte-test = level-at (λ msc level. hierarchical msc || pairings (λ m o. leb 8 (partB msc level (entry muxTable m o)))) tt
+
+module _ (s : Settings) (ok : refusal s ≡ 0) (none : s .x ≡ 0) (plain : hierarchical (s .msc) ≡ false) where
+  pub a-byte : 8 ≤ l2 s
+  unfolding l2 n2 n1 nMux
+  a-byte =
+      let A = accepted-of s ok in
+      let t : T (false || pairings (λ m o. leb 8 (partB (s .msc) (s .levelb) (entry muxTable m o)))) =
+      subst (λ b. T (b || pairings (λ m o. leb 8 (partB (s .msc) (s .levelb) (entry muxTable m o))))) plain (byte-test (s .msc) (s .levelb) (A .ranges .partB)) in
+      let e : cellsA (s .msc) (s .levela) (s .x) ≡ 0 = ap (cellsA (s .msc) (s .levela)) none ∙ no-cells (s .msc) (s .levela) (A .ranges .partA) in
+      let z : entry muxTable (s .mode) (s .occupancy) - cellsA (s .msc) (s .levela) (s .x) ≡ entry muxTable (s .mode) (s .occupancy) = omega (arith, e) in
+      rw z
+      (leb→le 8 (partB (s .msc) (s .levelb) (entry muxTable (s .mode) (s .occupancy)))
+      (pairing-at (λ m o. leb 8 (partB (s .msc) (s .levelb) (entry muxTable m o))) t (s .mode) (s .occupancy) (A .ranges .mode) (A .ranges .pairing)))
+
+  pub counts : {bits n : ℕ} → bits ≡ l2 s → n ≤ 4294967295 → Counts bits n
+  unfolding frameBits
+  counts e h =
+      let low = frame-low s (accepted-of s ok) in
+      record { some = omega (arith, a-byte); few = omega (arith, low); low = h }
+
+-- memory's bytes are few
+pub memory-few : (s : Settings) → refusal s ≡ 0 → {d m : ℕ} → d ≡ depth s → m ≡ entry muxTable (s .mode) (s .occupancy) → d * m ≤ 30590
+unfolding depth nMux
+memory-few s ok {d} {m} ed em =
+    let h : m ≤ 6118 = omega (arith, em, accepted-of s ok .ranges .muxMost) in
+    rw ed (go (eqb (s .interleaving) 0) h)
+  where
+    go : (b : Bool) → m ≤ 6118 → cond b 5 1 * m ≤ 30590
+    go true h = omega arith
+    go false h = omega arith
+
+-- three numbers written over three
+pub three : (l : List ℕ) (a b c : ℕ) → length l ≡ 3 → set (set (set l 0 a) 1 b) 2 c ≡ a ∷ b ∷ c ∷ []
+three [] a b c e = absurd (omega arith)
+three (x ∷ []) a b c e = absurd (omega arith)
+three (x ∷ (y ∷ [])) a b c e = absurd (omega arith)
+three (x ∷ (y ∷ (z ∷ []))) a b c e = refl
+three (x ∷ (y ∷ (z ∷ (v ∷ l)))) a b c e = absurd (omega arith)
+
+-- L2 among the lengths
+pub l2-is : (s : Settings) → refusal s ≡ 0 → {l : Lengths} → l ≡ lengthsOf s → l .l2 ≡ l2 s
+unfolding accepted
+l2-is s ok e = ap (λ (t : Lengths). t .l2) (e ∙ lengths-accepts s ok)
+
+-- the three numbers from their parts
+pub numbers-made : (s : Settings) (n : ℕ) {bits a d m z : ℕ} → bits ≡ l2 s → a ≡ superFrames bits n → d ≡ depth s → m ≡ entry muxTable (s .mode) (s .occupancy) → z ≡ zeroBits bits n
+    → a ∷ d * m ∷ z ∷ [] ≡ numbersFor s n
+unfolding numbersFor memoryBytes nMux
+numbers-made s n e ea ed em ez = rw (ea, ed, em, ez, e)

@@ -1,0 +1,2 @@
+pub mod HowLong
+pub mod Contracts
