@@ -353,6 +353,35 @@ static void streams(const uint8_t *settings) {
     printf("streams: %d bytes in a frame of %d, split as lent\n", (int)n, (int)bytes);
 }
 
+/* A rule of minutes first to after - 1. */
+static void rule(uint8_t *bytes, unsigned first, unsigned after, const uint8_t *settings) {
+    bytes[0] = (uint8_t)(first / 256);
+    bytes[1] = (uint8_t)(first % 256);
+    bytes[2] = (uint8_t)(after / 256);
+    bytes[3] = (uint8_t)(after % 256);
+    memcpy(bytes + 4, settings, DRM_SETTINGS_BYTES);
+}
+
+/* A week of two halves, the second one's rule first in the list. */
+static void week_plan(void) {
+    static const uint32_t at[] = {0, 1, 251998, 251999, 252000, 503998, 503999};
+    static const uint8_t places[] = {1, 1, 1, 1, 0, 0, 0}, marks[] = {2, 0, 1, 1, 2, 1, 1};
+    uint8_t rules[2 * DRM_RULE_BYTES], answer[DRM_PLAN_ANSWER_BYTES];
+    size_t i;
+    rule(rules, 5040, 10080, runs[1]);
+    rule(rules + DRM_RULE_BYTES, 0, 5040, runs[0]);
+    for (i = 0; i < sizeof at / sizeof at[0]; i++) {
+        must(drm_plan(rules, sizeof rules, at[i], answer, sizeof answer) == DRM_ACCEPTED, "the plan has an answer");
+        must(answer[0] == places[i] && answer[1] == marks[i], "it is the rule's place and the mark");
+    }
+    must(drm_plan(rules, sizeof rules, 504000, answer, sizeof answer) == DRM_REFUSED_PLAN, "the week is over");
+    rule(rules + DRM_RULE_BYTES, 1, 5040, runs[0]);
+    must(drm_plan(rules, sizeof rules, 0, answer, sizeof answer) == DRM_REFUSED_GAP, "minute 0 has no rule");
+    rule(rules + DRM_RULE_BYTES, 0, 5041, runs[0]);
+    must(drm_plan(rules, sizeof rules, 0, answer, sizeof answer) == DRM_REFUSED_OVERLAP, "minute 5040 has two");
+    printf("week plan: two rules, closings at super frames 251998 and 503998\n");
+}
+
 int main(void) {
     size_t k;
     for (k = 0; k < sizeof runs / sizeof runs[0]; k++)
@@ -363,6 +392,7 @@ int main(void) {
     own_table(runs[1]);
     streams(runs[0]);
     streams(runs[2]);
+    week_plan();
     printf("all as it must be\n");
     return 0;
 }

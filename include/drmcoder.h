@@ -88,6 +88,11 @@
  *   255  a settings, state, lengths, sizes or next slice of the wrong length; this goes before all others
  *    27  part A or VSPP in use (X above 0, or MSC mode 1 or 2) where drm_how_long asks for one stream in part B
  *   255  a settings, state, lengths or sizes slice of the wrong length; this goes before all others
+ *    24  more than 64 rules, an empty or reversed rule, a minute above 10,080, or a super frame above 503,999
+ *    25  a minute without a rule
+ *    26  a minute with two rules
+ *   255  a settings, state, lengths or sizes slice or a plan's answer of the wrong length, or rules that are not whole;
+ *        this goes before all others
  *
  * Fields of an FAC block: fourteen numbers, with their bits (clauses 6.3.3 and 6.3.4 of the standard)
  *   0  base/enhancement flag (1)        1  identity (2)               2  spectrum occupancy (4)
@@ -124,6 +129,8 @@ enum {
     DRM_GRID_SIZES = 3,
     DRM_HOLD_SIZES = 2
     DRM_HOW_LONG_NUMBERS = 3
+    DRM_RULE_BYTES = 14,
+    DRM_PLAN_ANSWER_BYTES = 2
 };
 
 /* The most that any permitted settings ask of the other slices, for buffers that serve them all. */
@@ -136,6 +143,9 @@ enum {
     DRM_MOST_GRID_NUMBERS = 62235,
     DRM_MOST_OLD_HOLD_BYTES = 244728,
     DRM_MOST_NEW_HOLD_BYTES = 61188
+    DRM_MOST_MEMORY_NUMBERS = 61180,
+    DRM_MOST_GRID_NUMBERS = 62235,
+    DRM_MOST_RULES = 64
 };
 
 /* Free stack, in bytes, that is enough for any call. */
@@ -168,6 +178,9 @@ enum {
     DRM_REFUSED_MEASURED = 22,
     DRM_REFUSED_TABLE = 23,
     DRM_REFUSED_PART_A_OR_VSPP = 27,
+    DRM_REFUSED_PLAN = 24,
+    DRM_REFUSED_GAP = 25,
+    DRM_REFUSED_OVERLAP = 26,
     DRM_REFUSED_SLICE = 255
 };
 
@@ -490,6 +503,21 @@ uint8_t drm_grid_place(const uint8_t *settings, size_t settings_len, const int16
 uint8_t drm_grid_take(const uint8_t *settings, size_t settings_len, const int16_t *grid, size_t grid_len,
                       int16_t *fac_cells, size_t fac_cells_len, int16_t *sdc_cells, size_t sdc_cells_len,
                       int16_t *msc_cells, size_t msc_cells_len);
+
+/*
+ * The week plan: a list of at most 64 rules, each the minutes from its first to the one before its `after`, and settings. A week has
+ * 10,080 minutes from 0, a minute 50 super frames. The rules may stand in any order, and must give each minute exactly one.
+ *   rules        DRM_RULE_BYTES each: first minute, minute after the last (two bytes, high byte first), 10 bytes of settings
+ *   super_frame  0 to 503,999
+ *   answer       DRM_PLAN_ANSWER_BYTES, written if the answer is 0: the rule's place in the list, from 0; and the mark
+ * Mark 1: one of the last two super frames before a rule with unequal settings, the week's first after its last included. Bring zero
+ * MSC bits, and the FAC and SDC blocks of the super frame before those two again. Mark 2: the first with other settings. Reset before it.
+ * Mark 0: any other.
+ * Answers 0; 1 to 7 of the first rule at fault among the first 64; then 24 (more than 64 rules, an empty or reversed rule, a minute
+ * above 10,080, or super_frame above 503,999), 25 (a minute without a rule) or 26 (a minute with two); 255 for rules that are not whole
+ * or an answer that has not 2 bytes.
+ */
+uint8_t drm_plan(const uint8_t *rules, size_t rules_len, uint32_t super_frame, uint8_t *answer, size_t answer_len);
 
 #ifdef __cplusplus
 }

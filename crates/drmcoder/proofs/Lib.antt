@@ -2,3 +2,4 @@ pub mod Stores
 pub mod Tests
 pub mod Answers
 pub mod Placed
+pub mod Planned

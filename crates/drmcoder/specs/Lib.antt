@@ -8,3 +8,4 @@ pub mod Grids
 pub mod HowLong
 pub mod Mux
 pub mod Decide
+pub mod Plans

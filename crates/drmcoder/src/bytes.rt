@@ -1,19 +1,12 @@
 // Settings and states as bytes.
 use channels::tables::scheme_of;
 use lists::bytes::copy;
-use settings::Settings;
+pub use settingbytes::bytes::settings_of;
 use superframe::State;
 ghost use mathlib.Core.Path.{_≡_};
 ghost use lib.ListN.{length};
-ghost use Prim.Native.Nat.{_+_, _*_, _/_, _%_, _≤_};
-ghost use Rattle.drmcoder.specs.Bytes.{settingsOf, stateOf, frontBytes, stateBytes};
-
-// Two bytes, high byte first.
-fn word(high: u8, low: u8) -> u16
-    ensures { λ r. ⌜ r ≡ 256 * high + low ⌝ }
-{
-    256 * high as u16 + low as u16
-}
+ghost use Prim.Native.Nat.{_/_, _%_};
+ghost use Rattle.drmcoder.specs.Bytes.{stateOf, frontBytes, stateBytes};
 
 fn high_byte(x: u16) -> u8
     ensures { λ r. ⌜ r ≡ x / 256 ⌝ }
@@ -25,24 +18,6 @@ fn low_byte(x: u16) -> u8
     ensures { λ r. ⌜ r ≡ x % 256 ⌝ }
 {
     (x % 256) as u8
-}
-
-// Settings from their ten bytes, which a state begins with.
-pub fn settings_of(bytes: &[u8]) -> Settings
-    requires { ⌜ 10 ≤ length (now bytes) ⌝ }
-    ensures { λ r. ⌜ r ≡ settingsOf (now (bytes .entry)) ⌝ }
-{
-    Settings {
-        mode: bytes[0],
-        occupancy: bytes[1],
-        msc: bytes[2],
-        levela: bytes[3],
-        levelb: bytes[4],
-        vspp: bytes[5],
-        x: word(bytes[6], bytes[7]),
-        sdc: bytes[8],
-        interleaving: bytes[9],
-    }
 }
 
 // A state from its 208 bytes.

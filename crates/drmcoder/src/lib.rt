@@ -10,3 +10,4 @@ pub mod mux;
 pub mod numbers;
 pub mod preview;
 pub mod read_on;
+pub mod plans;

@@ -16,6 +16,7 @@ use harness::own;
 use harness::read_ons;
 use harness::how_long;
 use harness::streams;
+use harness::plans;
 use harness::tables;
 use harness::tally::Tally;
 use second::settings::{Settings, PAIRINGS};
@@ -52,11 +53,12 @@ fn main() -> ExitCode {
         ["tables"] => return report(tables::calls(SEED, &tables::own(), &requests::CODER)),
         ["hold"] => return report(holds::calls(SEED, &holds::OWN, &requests::HOLD)),
         ["read_ons"] => return report(read_ons::calls(SEED, own::read_on, requests::read_on)),
+        ["plan"] => return report(plans::calls(SEED, second::plan::plan, requests::plan)),
         ["runs"] => runs::print(&Archive, &mut out),
         ["counts"] => counts::print(&Archive, &mut out),
         ["refusals"] => refusals::print(&Archive, &mut out),
         _ => {
-            eprintln!("harness [grid | decide | disperse | preview | tables | hold | read_ons | streams | how-long | runs | counts | refusals]");
+            eprintln!("harness [grid | decide | disperse | preview | tables | hold | read_ons | streams | how-long | plan | runs | counts | refusals]");
             return ExitCode::from(2);
         }
     };

@@ -1,7 +1,7 @@
 use borrow.Author.Needs.{needs}
-use Rattle.drmcoder.specs.Bytes.{settingsOf}
-use Rattle.drmcoder.proofs.bytes.settings_of.Statement.{statement}
-use Rattle.drmcoder.proofs.bytes.settings_of.Tie as tie
+use Rattle.settingbytes.specs.Bytes.{settingsOf}
+use Rattle.settingbytes.proofs.bytes.settings_of.Statement.{statement}
+use Rattle.settingbytes.proofs.bytes.settings_of.Tie as tie
 
 returns : tie.Need-returns
 unfolding settingsOf

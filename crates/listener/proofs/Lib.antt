@@ -1,0 +1,4 @@
+pub mod More
+pub mod Plans
+pub mod Stretch
+pub mod Followed

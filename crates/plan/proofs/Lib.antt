@@ -1,0 +1,5 @@
+pub mod Bytes
+pub mod Loops
+pub mod Minutes
+pub mod Chain
+pub mod WeekPlans

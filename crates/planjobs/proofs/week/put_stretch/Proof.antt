@@ -1,0 +1,17 @@
+use native.Mathlib.Omega.{arith}
+use borrow.Author.Needs.{needs}
+use Rattle.line.specs.Written.{space, lineEnd}
+use Rattle.console.proofs.Lines.{put-more, put-room}
+use Rattle.planjobs.specs.Week.{stretchText}
+use Rattle.planjobs.proofs.week.put_stretch.Statement.{statement}
+use Rattle.planjobs.proofs.week.put_stretch.Tie as tie
+
+returns : tie.Need-returns
+unfolding stretchText space lineEnd
+returns c =
+    put-room 1024 (omega arith)
+    (put-more (put-more (put-more (put-more (put-more (c .before .before .before .before .before .before .before .before .before .before .before .before .before .before .before .before .before .before .before .before .before .before .before .before .before .put-decimal .ensures) (c .before .before .before .before .before .before .before .before .before .before .before .before .before .before .before .before .before .before .before .before .put .ensures)) (c .before .before .before .before .before .before .before .before .before .before .before .before .before .before .before .before .put-decimal2 .ensures)) (c .before .before .before .before .before .before .before .before .before .before .before .put2 .ensures))
+    (c .before .before .before .before .before .before .before .put-closing .ensures)) (c .before .before .put3 .ensures))
+
+pub put-stretch-spec : {M : Type 1} → statement M
+put-stretch-spec = tie.close (tie.spec (λ c κs. search needs) (λ c. search needs) (λ c κs. search needs) (λ c κs. search needs) (λ c. search needs) (λ c κs. search needs) (λ c κs. search needs) (λ c. search needs) (λ c κs. search needs) (λ c. search needs) returns)

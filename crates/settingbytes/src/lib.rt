@@ -1,0 +1,2 @@
+// Settings as the ten bytes that a caller lends.
+pub mod bytes;
