@@ -10,11 +10,11 @@
 
 #include "drmcoder.h"
 
-enum { STACK = 8 * 1024 * 1024, PAINT = 0xA5, CALLS = 15 };
+enum { STACK = 8 * 1024 * 1024, PAINT = 0xA5, CALLS = 17 };
 
 static const char *const names[CALLS] = {"lengths", "sizes", "reset", "code", "read", "nearest", "fac_build",
                                          "fac_read", "grid_sizes", "grid_place", "grid_take", "decide", "disperse",
-                                         "reset_table", "preview"};
+                                         "reset_table", "preview", "mux_build", "mux_read"};
 static unsigned char *stack;
 
 /* What the calls are lent; all bits are zero. */
@@ -32,6 +32,7 @@ static int16_t grid[DRM_MOST_GRID_NUMBERS];
 static uint8_t measured_kinds[DRM_FAC_CELLS], measured_bits[6 * DRM_FAC_CELLS];
 static float measured[2 * DRM_FAC_CELLS];
 static int16_t points[2 * DRM_FAC_CELLS];
+static uint8_t logical[DRM_MOST_MSC_BYTES / 3];
 static unsigned answer;
 
 /* Bodies of the threads. */
@@ -89,6 +90,30 @@ static void *call_nearest(void *unused) {
 
 static void *call_disperse(void *unused) {
     answer = drm_disperse(65535, 65535, packed, sizeof packed, treated, sizeof treated);
+    return unused;
+}
+
+/* Two streams of as many bytes as the frame holds; in MSC modes 1 and 2 the first is the hierarchical frame. */
+static size_t streams(uint16_t description[4]) {
+    size_t room = ((size_t)lengths[2] + lengths[3]) / 8;
+    description[0] = 0;
+    description[1] = (uint16_t)(lengths[4] / 8);
+    description[2] = settings[7];
+    description[3] = (uint16_t)(room - settings[7]);
+    return description[1] + room;
+}
+
+static void *call_mux_build(void *unused) {
+    uint16_t description[4];
+    size_t n = streams(description);
+    answer = drm_mux_build(settings, sizeof settings, description, 4, logical, n, msc, sizes[1] / 3);
+    return unused;
+}
+
+static void *call_mux_read(void *unused) {
+    uint16_t description[4];
+    size_t n = streams(description);
+    answer = drm_mux_read(settings, sizeof settings, description, 4, msc, sizes[1] / 3, logical, n);
     return unused;
 }
 
@@ -160,8 +185,8 @@ static void measure(size_t deepest[CALLS]) {
                                               call_code,    call_reset, call_read,  call_read, call_read,
                                               call_nearest, call_fac_build, call_fac_read, call_grid_sizes,
                                               call_grid_place, call_grid_take, call_decide, call_disperse,
-                                              call_reset_table, call_preview};
-    static const int kinds[] = {0, 1, 2, 3, 3, 3, 2, 4, 4, 4, 5, 6, 7, 8, 9, 10, 11, 12, 13, 14};
+                                              call_reset_table, call_preview, call_mux_build, call_mux_read};
+    static const int kinds[] = {0, 1, 2, 3, 3, 3, 2, 4, 4, 4, 5, 6, 7, 8, 9, 10, 11, 12, 13, 14, 15, 16};
     size_t empty = depth(nothing), k;
     for (k = 0; k < sizeof kinds / sizeof kinds[0]; k++) {
         size_t used = depth(bodies[k]) - empty;

@@ -71,28 +71,24 @@
  *    10  an output of the wrong length
  *    11  a spare bit set in an input of drm_code, drm_disperse, drm_preview or drm_mux_read
  *    12  position or count above 4 (above 0 in short interleaving), or a memory cell that is no point of the MSC's
- *        constellation
+ *        constellation; drm_read_on lets (0, 0) pass
  *    13  a cell lent to drm_read is no point of its constellation, or a filler is wrong; cells of frames before the
  *        first are ignored and may be anything
  *    14  cells of a block or of a finished frame that no bits give
  *    15  a field of an FAC block too large for its bits, or against the settings
  *    16  an FAC block with a wrong CRC
  *    17  a grid of the wrong length
- *    18  a hold file that is none: a wrong number of lines or length of a line, a digit outside 0 to 9 and A to F, a
- *        position or count that 12 would refuse, or a cell that is no point of the MSC's constellation
  *    19  a multiplex description whose part A lengths do not add up to X, or whose bytes are too many for the frame or for
  *        its VSPP
  *    20  a multiplex frame whose filling is not zero
  *    21  a value lent to drm_fac_nearest is above 2
  *    22  a measured float that is infinite or not a number, or a fade's gain that is, or is below zero
- *   255  a settings, state, lengths, sizes or next slice of the wrong length; this goes before all others
- *    27  part A or VSPP in use (X above 0, or MSC mode 1 or 2) where drm_how_long asks for one stream in part B
- *   255  a settings, state, lengths or sizes slice of the wrong length; this goes before all others
  *    24  more than 64 rules, an empty or reversed rule, a minute above 10,080, or a super frame above 503,999
  *    25  a minute without a rule
  *    26  a minute with two rules
- *   255  a settings, state, lengths or sizes slice or a plan's answer of the wrong length, or rules that are not whole;
- *        this goes before all others
+ *    27  part A or VSPP in use (X above 0, or MSC mode 1 or 2) where drm_how_long asks for one stream in part B
+ *   255  a settings, state, lengths, sizes or next slice or a plan's answer of the wrong length, or rules that are not
+ *        whole; this goes before all others
  *
  * Fields of an FAC block: fourteen numbers, with their bits (clauses 6.3.3 and 6.3.4 of the standard)
  *   0  base/enhancement flag (1)        1  identity (2)               2  spectrum occupancy (4)
@@ -127,8 +123,8 @@ enum {
     DRM_FAC_VALUES = 130,
     DRM_FAC_CELLS = 65,
     DRM_GRID_SIZES = 3,
-    DRM_HOLD_SIZES = 2
-    DRM_HOW_LONG_NUMBERS = 3
+    DRM_LOST_BYTES = 7,
+    DRM_HOW_LONG_NUMBERS = 3,
     DRM_RULE_BYTES = 14,
     DRM_PLAN_ANSWER_BYTES = 2
 };
@@ -140,10 +136,6 @@ enum {
     DRM_MOST_SDC_NUMBERS = 1692,
     DRM_MOST_MSC_NUMBERS = 36708,
     DRM_MOST_MEMORY_BYTES = 30590,
-    DRM_MOST_GRID_NUMBERS = 62235,
-    DRM_MOST_OLD_HOLD_BYTES = 244728,
-    DRM_MOST_NEW_HOLD_BYTES = 61188
-    DRM_MOST_MEMORY_NUMBERS = 61180,
     DRM_MOST_GRID_NUMBERS = 62235,
     DRM_MOST_RULES = 64
 };
@@ -171,16 +163,15 @@ enum {
     DRM_REFUSED_FIELD = 15,
     DRM_REFUSED_CRC = 16,
     DRM_REFUSED_GRID_LENGTH = 17,
-    DRM_REFUSED_HOLD_FILE = 18,
     DRM_REFUSED_STREAM_LENGTHS = 19,
     DRM_REFUSED_FILLING = 20,
     DRM_REFUSED_VALUE = 21,
     DRM_REFUSED_MEASURED = 22,
     DRM_REFUSED_TABLE = 23,
-    DRM_REFUSED_PART_A_OR_VSPP = 27,
     DRM_REFUSED_PLAN = 24,
     DRM_REFUSED_GAP = 25,
     DRM_REFUSED_OVERLAP = 26,
+    DRM_REFUSED_PART_A_OR_VSPP = 27,
     DRM_REFUSED_SLICE = 255
 };
 
@@ -277,73 +268,19 @@ uint16_t drm_read(uint8_t *state, size_t state_len, uint8_t *memory, size_t memo
                   size_t msc_len);
 
 /*
- * Hold files: the memory of a coder or reader, stored at power-down. A file begins with a line of two digits, position
- * and count; then comes a line for each slot, N1 + N2 cells in mapping order; each line is ended by a line feed, and
- * nothing follows the last. Digits are 0 to 9 and A to F. The old form has eight digits a cell, two 16-bit two's-complement
- * numbers, real before imaginary; the new form has two, the byte of memory. Neither has the settings or the table.
+ * Reads one super frame and goes on over spoiled cells: as drm_read, but each block or finished frame either has its
+ * bits or is lost, with its bytes zero, in place of the refusals 13 and 14. A received MSC cell that is no point is
+ * kept as (0, 0), which 12 lets pass in this call's memory and in no other's; fillers are passed over.
+ *   lost       7 bytes, 1 for lost and 0 otherwise: the three FAC blocks, the SDC block, the finished frames in the
+ *              order of msc; 0 beyond them
+ *   the others as for drm_read
+ * Answers the number of frames that it finished, lost ones counted, or 256 * refusal, the refusal being 1 to 7, 23, 8
+ * to 10, 12 or 255.
  */
-
-/*
- * Sizes of hold files: bytes of an old and of a new file.
- *   settings   10 bytes
- *   sizes      2 numbers, written if the answer is 0
- * Answers 0, 1 to 7, or 255.
- */
-uint8_t drm_hold_sizes(const uint8_t *settings, size_t settings_len, uint32_t *sizes, size_t sizes_len);
-
-/*
- * Stores position, count and memory in a file of the old or of the new form. State and memory are not written.
- *   state      208 bytes, as the last accepted call left them
- *   memory     likewise
- *   file       as many bytes as drm_hold_sizes says: all are written if the answer is 0
- * Answers 0, 1 to 7, 23, 8, 10, 12, or 255.
- */
-uint8_t drm_store_old(const uint8_t *state, size_t state_len, const uint8_t *memory, size_t memory_len, uint8_t *file,
-                      size_t file_len);
-
-uint8_t drm_store_new(const uint8_t *state, size_t state_len, const uint8_t *memory, size_t memory_len, uint8_t *file,
-                      size_t file_len);
-
-/*
- * An old file to the new form, and a new one to the old form. Each undoes the other on every file that is not refused.
- *   settings   10 bytes, those that the file was stored under
- *   old_file, new_file   as many bytes as drm_hold_sizes says; what is written is written whole if the answer is 0
- * Answers 0, 1 to 7, 10 (the file to write of a wrong length), 18, or 255.
- */
-uint8_t drm_to_new(const uint8_t *settings, size_t settings_len, const uint8_t *old_file, size_t old_file_len,
-                   uint8_t *new_file, size_t new_file_len);
-
-uint8_t drm_to_old(const uint8_t *settings, size_t settings_len, const uint8_t *new_file, size_t new_file_len,
-                   uint8_t *old_file, size_t old_file_len);
-
-/*
- * Restores a coder or reader from a file: the state takes the settings, the standard's table, and the file's position and
- * count, memory takes its cells. A run that goes on so sends what it would have sent uninterrupted.
- *   state      208 bytes, whatever they hold
- *   settings   10 bytes, those that the file was stored under
- *   file       an old or a new file
- *   memory     as many bytes as drm_sizes says, whatever they hold
- * Answers 0, 1 to 8, 18, or 255. A file with a cell (0, 0), as was stored in a run's first frames when those
- * were empty, is refused by 18.
- */
-uint8_t drm_restore_old(uint8_t *state, size_t state_len, const uint8_t *settings, size_t settings_len,
-                        const uint8_t *file, size_t file_len, uint8_t *memory, size_t memory_len);
-
-uint8_t drm_restore_new(uint8_t *state, size_t state_len, const uint8_t *settings, size_t settings_len,
-                        const uint8_t *file, size_t file_len, uint8_t *memory, size_t memory_len);
-
-/*
- * The same of a run that was begun with a table of its own, which is lent again: a file has none.
- *   table      196 numbers
- * Answers 0, 1 to 7, 23, 8, 18, or 255.
- */
-uint8_t drm_restore_old_table(uint8_t *state, size_t state_len, const uint8_t *settings, size_t settings_len,
-                              const uint8_t *table, size_t table_len, const uint8_t *file, size_t file_len,
-                              uint8_t *memory, size_t memory_len);
-
-uint8_t drm_restore_new_table(uint8_t *state, size_t state_len, const uint8_t *settings, size_t settings_len,
-                              const uint8_t *table, size_t table_len, const uint8_t *file, size_t file_len,
-                              uint8_t *memory, size_t memory_len);
+uint16_t drm_read_on(uint8_t *state, size_t state_len, uint8_t *memory, size_t memory_len, const int16_t *fac_cells,
+                     size_t fac_cells_len, const int16_t *sdc_cells, size_t sdc_cells_len, const int16_t *msc_cells,
+                     size_t msc_cells_len, uint8_t *fac, size_t fac_len, uint8_t *sdc, size_t sdc_len, uint8_t *msc,
+                     size_t msc_len, uint8_t *lost, size_t lost_len);
 
 /*
  * Builds an FAC block from its fields; reserved bits are zero.

@@ -5,7 +5,6 @@ use mathlib.Core.List.{List}
 use native.Mathlib.Nat.{mod-eq-of-lt, mod-lt, mul-le-mul-right}
 use native.Mathlib.Omega.{arith}
 use lib.ListN.{length}
-use lib.IntN.{ℤ}
 use Rattle.settings.specs.Lengths.{nMux}
 use Rattle.settings.specs.Sizes.{depth}
 use Rattle.superframe.specs.declared.State.{State}

@@ -7,7 +7,7 @@ use native.Mathlib.Nat.{mul-suc, mul-zero, mul-comm, mul-left-comm, zero-add}
 use native.Mathlib.Omega.{arith}
 use lib.ListN.{length, take, drop, length-drop}
 use lib.IntN.{ℤ}
-use lib.Seq.{sets, length-sets, length-take-le, drop-length}
+use lib.Seq.{length-sets, length-take-le, drop-length}
 use borrow.Rule.Slice.PartMut.{putMid, post-is}
 use Rattle.lists.specs.Lists.{table}
 use Rattle.lists.specs.Buffers.{Long}

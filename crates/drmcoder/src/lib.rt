@@ -8,6 +8,6 @@ pub mod grids;
 pub mod long;
 pub mod mux;
 pub mod numbers;
+pub mod plans;
 pub mod preview;
 pub mod read_on;
-pub mod plans;

@@ -1,6 +1,6 @@
 // A super frame as it goes to standard output: its bytes in one buffer.
-use deskcells::numbers::put_cells;
 use console::bytes::put_bytes;
+use deskcells::numbers::put_cells;
 ghost use mathlib.Core.Path.{_≡_};
 ghost use Prim.Native.Nat.{_+_, _*_, _≤_};
 ghost use lib.ListN.{length};

@@ -24,7 +24,6 @@ ghost use mathlib.Core.Path.{_≡_};
 ghost use Prim.Native.Nat.{ℕ, _+_, _*_, _-_, _≤_};
 ghost use mathlib.Core.List.{List};
 ghost use lib.ListN.{length, take, drop};
-ghost use lib.IntN.{ℤ};
 ghost use Rattle.superframe.specs.Code.{codeOf};
 ghost use Rattle.superframe.specs.Read.{readOf};
 ghost use Rattle.codecall.specs.Contracts.{codeCall};

@@ -7,7 +7,6 @@ use mathlib.Core.Path.{_≡_, refl, sym, ap, ap₂, _∙_, subst}
 use mathlib.Core.Bool.{Bool, true, false, not, cond}
 use mathlib.Core.List.{List, [], _∷_, _++_, map, append-nil}
 use lib.ListN.{length, take, drop, replicate, length-append}
-use lib.IntN.{ℤ}
 use lib.Dec.{eqb}
 use lib.Seq.{take-all}
 use Rattle.lists.specs.Bools.{every}
@@ -22,7 +21,7 @@ use Rattle.superframe.specs.Call.{parts, memoryLength, inOrder}
 use Rattle.superframe.specs.Reset.{resetOf}
 use Rattle.superframe.specs.Code.{CodeCall, byteLengths, cellLengths, sparesZero, codeRefusal, codeAccepted, codeRefused, codeOf, stateOf}
 use Rattle.superframe.specs.Read.{ReadCall, readOf}
-use Rattle.superframe.specs.Runs.{Begun, stateAt, memoryAt, noBits, SuperFrame, bitsOf, codes, brought, sent, refusals, bits, cells, reads, readCount, handed, Feeds, unreadAfter, Fed, Accepts}
+use Rattle.superframe.specs.Runs.{reading, Begun, stateAt, memoryAt, noBits, SuperFrame, bitsOf, codes, brought, sent, refusals, bits, cells, reads, readCount, handed, Feeds, unreadAfter, Fed, Accepts}
 use Rattle.superframe.specs.WholeRuns.{standardCells, firstBits, allBits, runNumber}
 use Rattle.superframe.proofs.Calls.{fits-reset, reset-accepts}
 use Rattle.superframe.proofs.CodeRuns.{Whole}
@@ -45,14 +44,14 @@ pub record Since (s : Scheme) (j : ℕ) (a : Air) : Type 0 where
   pub reads : afterReads (stateAt listener) (memoryAt listener) readings ≡ record { state = a .listener; memory = a .reading }
   pub bits : brought (stateAt coder) (memoryAt coder) calls ≡ a .bits
   pub heard : handed (stateAt listener) (memoryAt listener) readings ≡ a .heard
-  pub fed : Fed (sent (stateAt coder) (memoryAt coder) calls) (stateAt listener) (memoryAt listener) readings
+  pub fed : Fed reading (sent (stateAt coder) (memoryAt coder) calls) (stateAt listener) (memoryAt listener) readings
   pub none : unread (sent (stateAt coder) (memoryAt coder) calls) (stateAt listener) (memoryAt listener) readings ≡ []
-  pub count : readCount (stateAt listener) (memoryAt listener) readings ≡ j
+  pub count : readCount reading (stateAt listener) (memoryAt listener) readings ≡ j
   pub sdcs : length (a .bits .sdc) ≡ j
   pub accepted : a .accepted ≡ true
 
 -- an accepted reset
-begun : (old : State) (s : Scheme) (memory : List ℤ) → schemeRefusal s ≡ 0 → length memory ≡ memoryLength (s .settings) → resetOf old s memory .done .refusal ≡ 0
+begun : (old : State) (s : Scheme) (memory : List ℕ) → schemeRefusal s ≡ 0 → length memory ≡ memoryLength (s .settings) → resetOf old s memory .done .refusal ≡ 0
 begun old s memory h l = ap (λ y. y .done .refusal) (reset-accepts old s memory (fits-reset old s memory (record { scheme = h; long = l })))
 
 -- right after a reset
@@ -81,7 +80,7 @@ since-reset s p a h m n w =
     }
 
 -- a Code call's number, and acceptance where no length is wrong and no spare bit set
-code-number : (st : State) (me : List ℤ) (c : CodeCall) → codeOf st me c .done .refusal ≡ codeRefusal st me c
+code-number : (st : State) (me : List ℕ) (c : CodeCall) → codeOf st me c .done .refusal ≡ codeRefusal st me c
 unfolding codeOf codeAccepted codeRefused
 code-number st me c = go (eqb (codeRefusal st me c) 0) refl
   where
@@ -95,9 +94,9 @@ run-formed true o h = absurd (never-both false h refl)
 run-formed false true h = absurd (never-both false h refl)
 run-formed false false h = refl
 
-short : (st : State) (me : List ℤ) (c : CodeCall) → schemeRefusal (st .scheme) ≡ 0 → byteLengths (st .scheme .settings) (c .fac) (c .sdc) (c .msc) ≡ true
+short : (st : State) (me : List ℕ) (c : CodeCall) → schemeRefusal (st .scheme) ≡ 0 → byteLengths (st .scheme .settings) (c .fac) (c .sdc) (c .msc) ≡ true
     → cellLengths (st .scheme .settings) (c .faccells) (c .sdccells) (c .msccells) ≡ true → sparesZero (st .scheme .settings) (c .sdc) (c .msc) ≡ true
-    → codeRefusal st me c ≡ first (not (eqb (length me) (memoryLength (st .scheme .settings)))) 8 (first (not (inOrder st me)) 12 0)
+    → codeRefusal st me c ≡ first (not (eqb (length me) (memoryLength (st .scheme .settings)))) 8 (first (not (inOrder false st me)) 12 0)
 unfolding codeRefusal first
 short st me c h b e z = rw (h, b, e, z)
 
@@ -112,24 +111,24 @@ unfolding stateOf
 begun-scheme b = ap (λ st. st .scheme) (begun-state b)
 
 -- what is left of one super frame that was read
-read-none : (l : List SuperFrame) (x : SuperFrame) (st : State) (me : List ℤ) (r : ReadCall) → l ≡ x ∷ [] → reads st me r ≡ true → unreadAfter l st me r ≡ []
+read-none : (l : List SuperFrame) (x : SuperFrame) (st : State) (me : List ℕ) (r : ReadCall) → l ≡ x ∷ [] → reads reading st me r ≡ true → unreadAfter reading l st me r ≡ []
 unfolding unreadAfter
 read-none l x st me r e h = rw (e, h)
 
-count-one : (st : State) (me : List ℤ) (r : ReadCall) → reads st me r ≡ true → readCount st me (r ∷ []) ≡ 1
+count-one : (st : State) (me : List ℕ) (r : ReadCall) → reads reading st me r ≡ true → readCount reading st me (r ∷ []) ≡ 1
 unfolding readCount
 count-one st me r h = rw h
 
-sent-one : (st : State) (me : List ℤ) (c : CodeCall) → codes st me c ≡ true
+sent-one : (st : State) (me : List ℕ) (c : CodeCall) → codes st me c ≡ true
     → sent st me (c ∷ []) ≡ record { fac = codeOf st me c .faccells; sdc = codeOf st me c .sdccells; msc = codeOf st me c .msccells } ∷ []
 unfolding sent
 sent-one st me c h = rw h
 
-brought-sdc : (st : State) (me : List ℤ) (c : CodeCall) → codes st me c ≡ true → length (brought st me (c ∷ []) .sdc) ≡ 1
+brought-sdc : (st : State) (me : List ℕ) (c : CodeCall) → codes st me c ≡ true → length (brought st me (c ∷ []) .sdc) ≡ 1
 unfolding brought noBits
 brought-sdc st me c h = rw h
 
-brought-frames : (st : State) (me : List ℤ) (c : CodeCall) → codes st me c ≡ true
+brought-frames : (st : State) (me : List ℕ) (c : CodeCall) → codes st me c ≡ true
     → brought st me (c ∷ []) .frames ≡ map (bitsOf (mscBlock (st .scheme))) (parts (frameBytes (st .scheme .settings)) (c .msc))
 unfolding brought noBits
 brought-frames st me c h = rw h (append-nil _)
@@ -176,8 +175,8 @@ module _ (s : Scheme) (j : ℕ) (a : Air) (w : Since s j a) (p : Step) (resettin
       ∙ ap (λ e. sent (stateAt (w .coder)) (memoryAt (w .coder)) (w .calls) ++ sent (e .state) (e .memory) (p .call ∷ [])) (w .codes)
       ∙ ap (λ l. sent (stateAt (w .coder)) (memoryAt (w .coder)) (w .calls) ++ l) (sent-one (a .coder) (a .coding) (p .call) code-ok)
 
-  abbrev reading : ReadCall
-  reading = feeding (codeOf (a .coder) (a .coding) (p .call)) p
+  abbrev fedCall : ReadCall
+  fedCall = feeding (codeOf (a .coder) (a .coding) (p .call)) p
 
   one-left : unread (sent (stateAt (w .coder)) (memoryAt (w .coder)) longer) (stateAt (w .listener)) (memoryAt (w .listener)) (w .readings) ≡ aired ∷ []
   one-left =
@@ -185,8 +184,8 @@ module _ (s : Scheme) (j : ℕ) (a : Air) (w : Since s j a) (p : Step) (resettin
       ∙ left-more (aired ∷ []) (sent (stateAt (w .coder)) (memoryAt (w .coder)) (w .calls)) (stateAt (w .listener)) (memoryAt (w .listener)) (w .readings) (w .fed)
       ∙ ap (λ l. l ++ (aired ∷ [])) (w .none)
 
-  feeds : Feeds (afterReads (stateAt (w .listener)) (memoryAt (w .listener)) (w .readings) .state .scheme)
-      (unread (sent (stateAt (w .coder)) (memoryAt (w .coder)) longer) (stateAt (w .listener)) (memoryAt (w .listener)) (w .readings)) reading
+  feeds : Feeds reading (afterReads (stateAt (w .listener)) (memoryAt (w .listener)) (w .readings) .state .scheme)
+      (unread (sent (stateAt (w .coder)) (memoryAt (w .coder)) longer) (stateAt (w .listener)) (memoryAt (w .listener)) (w .readings)) fedCall
   unfolding feeding
   feeds =
       record {
@@ -196,16 +195,16 @@ module _ (s : Scheme) (j : ℕ) (a : Air) (w : Since s j a) (p : Step) (resettin
         fac = refl;
         sdc = refl;
         msc = refl;
-        room = subst (λ s. byteLengths (s .settings) (p .fac) (p .sdc) (p .msc) ≡ true) (sym listener-scheme) (right .room);
+        roomy = subst (λ s. byteLengths (s .settings) (p .fac) (p .sdc) (p .msc) ≡ true) (sym listener-scheme) (right .room);
       }
 
   abbrev heardCalls : List ReadCall
-  heardCalls = w .readings ++ (reading ∷ [])
+  heardCalls = w .readings ++ (fedCall ∷ [])
 
-  fed-on : Fed (sent (stateAt (w .coder)) (memoryAt (w .coder)) longer) (stateAt (w .listener)) (memoryAt (w .listener)) heardCalls
+  fed-on : Fed reading (sent (stateAt (w .coder)) (memoryAt (w .coder)) longer) (stateAt (w .listener)) (memoryAt (w .listener)) heardCalls
   fed-on =
-      fed-last reading _ (stateAt (w .listener)) (memoryAt (w .listener)) (w .readings)
-      (subst (λ l. Fed l (stateAt (w .listener)) (memoryAt (w .listener)) (w .readings)) (sym cells-more)
+      fed-last fedCall _ (stateAt (w .listener)) (memoryAt (w .listener)) (w .readings)
+      (subst (λ l. Fed reading l (stateAt (w .listener)) (memoryAt (w .listener)) (w .readings)) (sym cells-more)
       (fed-more (aired ∷ []) _ (stateAt (w .listener)) (memoryAt (w .listener)) (w .readings) (w .fed)))
       feeds
 
@@ -213,16 +212,16 @@ module _ (s : Scheme) (j : ℕ) (a : Air) (w : Since s j a) (p : Step) (resettin
   unfolding cells
   sends-on = whole-runs .sends (record { begun = w .coder; calls = longer })
 
-  read-there : reads (afterReads (stateAt (w .listener)) (memoryAt (w .listener)) (w .readings) .state) (afterReads (stateAt (w .listener)) (memoryAt (w .listener)) (w .readings) .memory) reading ≡ true
+  read-there : reads reading (afterReads (stateAt (w .listener)) (memoryAt (w .listener)) (w .readings) .state) (afterReads (stateAt (w .listener)) (memoryAt (w .listener)) (w .readings) .memory) fedCall ≡ true
   read-there =
       let b = whole-runs .readsBack (record { begun = w .coder; calls = longer }) (w .listener) heardCalls (w .listenerScheme ∙ sym (w .coderScheme))
-      (subst (λ l. Fed l (stateAt (w .listener)) (memoryAt (w .listener)) heardCalls) sends-on fed-on)
+      (subst (λ l. Fed reading l (stateAt (w .listener)) (memoryAt (w .listener)) heardCalls) sends-on fed-on)
       in
-      accepts-last reading _ (stateAt (w .listener)) (memoryAt (w .listener)) (w .readings)
-      (subst (λ l. Accepts l (stateAt (w .listener)) (memoryAt (w .listener)) heardCalls) (sym sends-on) (b .0)) feeds
+      accepts-last fedCall _ (stateAt (w .listener)) (memoryAt (w .listener)) (w .readings)
+      (subst (λ l. Accepts reading l (stateAt (w .listener)) (memoryAt (w .listener)) heardCalls) (sym sends-on) (b .0)) feeds
 
-  read-ok : reads (a .listener) (a .reading) reading ≡ true
-  read-ok = sym (ap (λ e. reads (e .state) (e .memory) reading) (w .reads)) ∙ read-there
+  read-ok : reads reading (a .listener) (a .reading) fedCall ≡ true
+  read-ok = sym (ap (λ e. reads reading (e .state) (e .memory) fedCall) (w .reads)) ∙ read-there
 
   pub since-step : Since s (suc j) (passed p a)
   unfolding passed andThen
@@ -238,21 +237,21 @@ module _ (s : Scheme) (j : ℕ) (a : Air) (w : Since s j a) (p : Step) (resettin
             codes-more (p .call) (stateAt (w .coder)) (memoryAt (w .coder)) (w .calls)
             ∙ ap (λ e. record { state = codeOf (e .state) (e .memory) (p .call) .done .state; memory = codeOf (e .state) (e .memory) (p .call) .memory }) (w .codes);
         reads =
-            reads-more reading (stateAt (w .listener)) (memoryAt (w .listener)) (w .readings)
-            ∙ ap (λ e. record { state = readOf (e .state) (e .memory) reading .reading .state; memory = readOf (e .state) (e .memory) reading .memory }) (w .reads);
+            reads-more fedCall (stateAt (w .listener)) (memoryAt (w .listener)) (w .readings)
+            ∙ ap (λ e. record { state = readOf (e .state) (e .memory) fedCall .reading .state; memory = readOf (e .state) (e .memory) fedCall .memory }) (w .reads);
         bits =
             brought-more (p .call) (stateAt (w .coder)) (memoryAt (w .coder)) (w .calls)
             ∙ ap₂ andThen (w .bits) (ap (λ e. brought (e .state) (e .memory) (p .call ∷ [])) (w .codes));
         heard =
-            handed-more reading (stateAt (w .listener)) (memoryAt (w .listener)) (w .readings)
-            ∙ ap₂ andThen (w .heard) (ap (λ e. handed (e .state) (e .memory) (reading ∷ [])) (w .reads));
+            handed-more fedCall (stateAt (w .listener)) (memoryAt (w .listener)) (w .readings)
+            ∙ ap₂ andThen (w .heard) (ap (λ e. handed (e .state) (e .memory) (fedCall ∷ [])) (w .reads));
         fed = fed-on;
         none =
-            unread-last reading _ (stateAt (w .listener)) (memoryAt (w .listener)) (w .readings)
-            ∙ read-none _ aired _ _ reading one-left read-there;
+            unread-last fedCall _ (stateAt (w .listener)) (memoryAt (w .listener)) (w .readings)
+            ∙ read-none _ aired _ _ fedCall one-left read-there;
         count =
-            count-more reading (stateAt (w .listener)) (memoryAt (w .listener)) (w .readings)
-            ∙ ap₂ _+_ (w .count) (count-one _ _ reading read-there) ∙ add-one j;
+            count-more fedCall (stateAt (w .listener)) (memoryAt (w .listener)) (w .readings)
+            ∙ ap₂ _+_ (w .count) (count-one _ _ fedCall read-there) ∙ add-one j;
         sdcs = length-append (a .bits .sdc) _ ∙ ap₂ _+_ (w .sdcs) (brought-sdc (a .coder) (a .coding) (p .call) code-ok) ∙ add-one j;
         accepted = both (w .accepted) (both code-ok read-ok);
       }
@@ -276,16 +275,16 @@ module _ (s : Scheme) (j : ℕ) (a : Air) (w : Since s j a) where
   pub frames-long : length (a .bits .frames) ≡ 3 * j
   frames-long = whole .frames ∙ ap (λ n. 3 * n) (w .sdcs)
 
-  fed-standard : Fed (standardCells (record { begun = w .coder; calls = w .calls })) (stateAt (w .listener)) (memoryAt (w .listener)) (w .readings)
+  fed-standard : Fed reading (standardCells (record { begun = w .coder; calls = w .calls })) (stateAt (w .listener)) (memoryAt (w .listener)) (w .readings)
   unfolding cells
-  fed-standard = subst (λ l. Fed l (stateAt (w .listener)) (memoryAt (w .listener)) (w .readings)) (whole-runs .sends (record { begun = w .coder; calls = w .calls })) (w .fed)
+  fed-standard = subst (λ l. Fed reading l (stateAt (w .listener)) (memoryAt (w .listener)) (w .readings)) (whole-runs .sends (record { begun = w .coder; calls = w .calls })) (w .fed)
 
   heard-first : a .heard ≡ firstBits (depth (s .settings)) j (a .bits)
   unfolding bits
   heard-first =
       sym (w .heard)
       ∙ whole-runs .readsBack (record { begun = w .coder; calls = w .calls }) (w .listener) (w .readings) (w .listenerScheme ∙ sym (w .coderScheme)) fed-standard .1
-      ∙ ap (λ s. firstBits (depth (s .settings)) (readCount (stateAt (w .listener)) (memoryAt (w .listener)) (w .readings)) (brought (stateAt (w .coder)) (memoryAt (w .coder)) (w .calls))) (w .listenerScheme)
+      ∙ ap (λ s. firstBits (depth (s .settings)) (readCount reading (stateAt (w .listener)) (memoryAt (w .listener)) (w .readings)) (brought (stateAt (w .coder)) (memoryAt (w .coder)) (w .calls))) (w .listenerScheme)
       ∙ ap₂ (firstBits (depth (s .settings))) (w .count) (w .bits)
 
   pub heard-fac : a .heard .fac ≡ a .bits .fac

@@ -3,14 +3,13 @@ use Prim.Native.Nat.{ℕ, zero, suc, _+_, _%_}
 use mathlib.Core.Bool.{Bool, false, cond, _&&_, _||_}
 use mathlib.Core.List.{List, [], _∷_, _++_}
 use lib.ListN.{getD}
-use lib.IntN.{ℤ}
 use lib.Dec.{eqb}
 use Rattle.channels.specs.declared.Scheme.{Scheme}
 use Rattle.superframe.specs.declared.State.{State}
 use Rattle.superframe.specs.Reset.{resetOf}
 use Rattle.superframe.specs.Code.{CodeCall, CodeYield, codeOf}
 use Rattle.superframe.specs.Read.{ReadCall, readOf}
-use Rattle.superframe.specs.Runs.{Bits, noBits, codes, brought, reads, handed}
+use Rattle.superframe.specs.Runs.{reading, Bits, noBits, codes, brought, reads, handed}
 use Rattle.plan.specs.declared.Rule.{Rule}
 use Rattle.plan.specs.declared.Answer.{Answer}
 use Rattle.plan.specs.Rules.{weekFrames, noRule}
@@ -32,15 +31,15 @@ pub record Step : Type 0 where
   pub fac : List ℕ
   pub sdc : List ℕ
   pub msc : List ℕ
-  pub coding : List ℤ
-  pub reading : List ℤ
+  pub coding : List ℕ
+  pub reading : List ℕ
 
 -- Coder and listener, each a state and a memory; whether every call was accepted; and the bits brought and handed out since the last reset.
 pub record Air : Type 0 where
   pub coder : State
-  pub coding : List ℤ
+  pub coding : List ℕ
   pub listener : State
-  pub reading : List ℤ
+  pub reading : List ℕ
   pub accepted : Bool
   pub bits : Bits
   pub heard : Bits
@@ -80,7 +79,7 @@ passed p a =
       coding = y .memory;
       listener = z .reading .state;
       reading = z .memory;
-      accepted = a .accepted && (codes (a .coder) (a .coding) (p .call) && reads (a .listener) (a .reading) r);
+      accepted = a .accepted && (codes (a .coder) (a .coding) (p .call) && reads reading (a .listener) (a .reading) r);
       bits = andThen (a .bits) (brought (a .coder) (a .coding) (p .call ∷ []));
       heard = andThen (a .heard) (handed (a .listener) (a .reading) (r ∷ []));
     }

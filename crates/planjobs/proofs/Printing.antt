@@ -8,7 +8,7 @@ use borrow.Author.Tests.{eq-eqb, ne-eqb}
 use lib.ListN.{length}
 use lib.Dec.{eqb}
 use Rattle.line.specs.Written.{decimal}
-use Rattle.console.specs.Contracts.{Put}
+use Rattle.words.specs.Contracts.{Put}
 use Rattle.planjobs.specs.declared.Printed.{Printed}
 use Rattle.planjobs.specs.Week.{PrintYield, printYield, printing, printRefused, closingText}
 

@@ -1,16 +1,16 @@
 // What is printed of a plan.
 use crate::Printed;
-use console::report::put;
-use console::report::put_decimal;
 use plan::Answer;
 use plan::answers::answer;
 use plan::marks::MINUTE_FRAMES;
 use plan::marks::mark;
 use plan::rules::rule_at;
+use words::report::put;
+use words::report::put_decimal;
 ghost use mathlib.Core.Path.{_≡_};
 ghost use Prim.Native.Nat.{_+_, _≤_};
 ghost use lib.ListN.{length};
-ghost use Rattle.console.specs.Contracts.{Put};
+ghost use Rattle.words.specs.Contracts.{Put};
 ghost use Rattle.plan.specs.Rules.{rulesOf};
 ghost use Rattle.plan.specs.Contracts.{Covered};
 ghost use Rattle.planjobs.specs.Week.{printYield, answerText, answerPrinted, closingFrame, closingText, stretchText, stretchPrinted};

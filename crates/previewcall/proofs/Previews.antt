@@ -1,6 +1,6 @@
 -- A preview from its refusal, and from what Code's parts do on the copy. Assumes nothing.
 use Prim.Native.Nat.{ℕ, _≤_}
-use mathlib.Core.Path.{_≡_, sym, ap, _∙_, subst}
+use mathlib.Core.Path.{_≡_, sym, ap, _∙_}
 use mathlib.Core.List.{List}
 use native.Mathlib.Omega.{arith}
 use lib.ListN.{length}
@@ -9,7 +9,7 @@ use Rattle.channels.proofs.Schemes.{scheme-accepted}
 use Rattle.superframe.specs.declared.State.{State}
 use Rattle.superframe.specs.Call.{memoryLength}
 use Rattle.superframe.specs.Code.{CodeCall, CodeYield, codeRefusal, codeAccepted, codeRefused}
-use Rattle.superframe.specs.Preview.{PreviewYield, withoutMemory, previewOf}
+use Rattle.superframe.specs.Preview.{withoutMemory, previewOf}
 use Rattle.superframe.specs.Contracts.{CodeFits}
 use Rattle.superframe.proofs.Calls.{code-fits, code-accepts, code-refuses}
 

@@ -1,6 +1,6 @@
 -- The parts of a call that reads on: its refusals in order, what its blocks are lent, and what it yields. Assumes nothing.
-use Prim.Native.Nat.{ℕ, _*_, _%_, _≤_, _<_}
-use mathlib.Core.Path.{_≡_, refl, sym, ap, _∙_}
+use Prim.Native.Nat.{ℕ, _≤_}
+use mathlib.Core.Path.{_≡_, refl, sym, _∙_}
 use mathlib.Core.Bool.{Bool, true, false, not, _&&_}
 use mathlib.Core.List.{List, map}
 use native.Mathlib.Omega.{arith}
@@ -10,7 +10,7 @@ use lib.Dec.{eqb}
 use borrow.Author.Tests.{eq-eqb, ne-eqb}
 use Rattle.lists.proofs.Tables.{length-table}
 use Rattle.settings.specs.Refusal.{first}
-use Rattle.settings.specs.Lengths.{nSfa}
+use Rattle.channels.specs.declared.Scheme.{Scheme}
 use Rattle.channels.specs.Scheme.{SchemeAccepted}
 use Rattle.channels.proofs.Schemes.{scheme-accepted}
 use Rattle.superframe.specs.declared.State.{State}
@@ -21,7 +21,7 @@ use Rattle.superframe.specs.ReadOn.{lostBytes, readOnRefusal, keptCells, lostMa
 use Rattle.superframe.specs.Contracts.{ReadOnFits}
 use Rattle.superframe.proofs.ReadOnCalls.{on-fits, on-accepts, on-refuses}
 use Rattle.cellmemory.specs.Contracts.{StateFits, refusalThen}
-use Rattle.cellmemory.proofs.Chains.{then-stops, then-goes-on, then-fits}
+use Rattle.cellmemory.proofs.Chains.{then-stops, then-goes-on}
 use Rattle.readcall.specs.declared.Blocks.{Blocks}
 use Rattle.readcall.specs.Contracts.{readCall, blocksOf, BlocksLent, BlocksRead}
 use Rattle.keptcells.specs.Contracts.{CellsKept}
@@ -70,6 +70,11 @@ module _ (state : State) (memory : List ℕ) (faccells sdccells msccells : List 
       unfolding first
       none t = sym (last-is ∙ rw t)
 
+-- As many numbers are kept as were received.
+pub kept-long : (s : Scheme) (cells : List ℤ) → length (keptCells s cells) ≡ length cells
+unfolding keptCells
+kept-long s cells = length-table _ 0 (length cells)
+
 -- What is known of a call that no number refuses.
 module _ (state : State) (memory : List ℕ) (faccells sdccells msccells : List ℤ) (fac sdc msc lost : List ℕ)
     (w : ReadOnFits state memory (readOnCall faccells sdccells msccells fac sdc msc lost)) where
@@ -86,17 +91,13 @@ module _ (state : State) (memory : List ℕ) (faccells sdccells msccells : List 
   pub cells-kept : (out : List ℤ) → length out ≡ length msccells → CellsKept (state .scheme) msccells out
   cells-kept out e = record { known = omega (arith, allowed .settings .ranges .partA .mscLow); pairs = omega (arith, w .cells .msclong); room = e }
 
-  kept-long : length (keptCells (state .scheme) msccells) ≡ length msccells
-  unfolding keptCells
-  kept-long = length-table _ 0 (length msccells)
-
   pub blocks-lent : (kept : List ℤ) (fac′ sdc′ msc′ : List ℕ) → kept ≡ keptCells (state .scheme) msccells
       → fac′ ≡ replicate (length fac) 0 → sdc′ ≡ replicate (length sdc) 0 → msc′ ≡ replicate (length msc) 0
       → BlocksLent state memory (readCall faccells sdccells kept fac′ sdc′ msc′)
   blocks-lent kept fac′ sdc′ msc′ e f d m =
       record {
         fits = in-order;
-        cells = record { faclong = w .cells .faclong; sdclong = w .cells .sdclong; msclong = rw e (kept-long ∙ w .cells .msclong) };
+        cells = record { faclong = w .cells .faclong; sdclong = w .cells .sdclong; msclong = rw e (kept-long (state .scheme) msccells ∙ w .cells .msclong) };
         fac = f ∙ rw (w .bytes .faclong);
         sdc = d ∙ rw (w .bytes .sdclong);
         msc = m ∙ rw (w .bytes .msclong);

@@ -15,8 +15,8 @@ abbrev μ-loop : tie.MeasureT-loop
 
 loop-again : tie.Need-loop-again Inv-loop μ-loop
 loop-again c =
-    let k = c .before .before .before .before .before .before .before .before .take .kept in
-    let i = c .before .before .before .before .before .before .before .before .before .before .before .before .before .loop .inv in
+    let k = c .before .before .before .before .before .before .before .before .before .take .kept in
+    let i = c .before .before .before .before .before .before .before .before .before .before .before .before .before .before .loop .inv in
     (omega (arith, k .1 .1 .0, i .0), omega (arith, k .1 .1 .1 .0, i .1), omega (arith, k .1 .1 .1 .1 .0, i .2))
 
 pub run-spec : {M : Type 1} → statement M

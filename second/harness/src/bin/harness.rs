@@ -4,21 +4,13 @@
 use harness::calls::Archive;
 use harness::compare;
 use harness::damage::{ignored, spoil};
-use harness::{disperse, halves, requests};
 use harness::draw::Draw;
 use harness::grids;
-use harness::holds;
 use harness::lent::{Kind, Lent};
 use harness::measured;
 use harness::nearest;
-use harness::{own, previews};
-use harness::own;
-use harness::read_ons;
-use harness::how_long;
-use harness::streams;
-use harness::plans;
-use harness::tables;
 use harness::tally::Tally;
+use harness::{disperse, halves, how_long, own, plans, previews, read_ons, requests, streams, tables};
 use second::settings::{Settings, PAIRINGS};
 use second::superframe::STATE_BYTES;
 use second::{counts, refusals, runs};
@@ -47,18 +39,17 @@ fn main() -> ExitCode {
         ["grid"] => return report(counted(grids::random_calls())),
         ["decide"] => return report(counted(measured::random_calls())),
         ["disperse"] => return report(dispersal_calls()),
-        ["preview"] => return report(previews::calls(SEED, own::preview, requests::preview)),
-        ["how-long"] => return report(how_long::calls(SEED, own::how_long, requests::how_long)),
-        ["streams"] => return report(streams::calls(SEED, &streams::OWN, &requests::MUX)),
         ["tables"] => return report(tables::calls(SEED, &tables::own(), &requests::CODER)),
-        ["hold"] => return report(holds::calls(SEED, &holds::OWN, &requests::HOLD)),
-        ["read_ons"] => return report(read_ons::calls(SEED, own::read_on, requests::read_on)),
+        ["preview"] => return report(previews::calls(SEED, own::preview, requests::preview)),
+        ["read-on"] => return report(read_ons::calls(SEED, own::read_on, requests::read_on)),
+        ["streams"] => return report(streams::calls(SEED, &streams::OWN, &requests::MUX)),
+        ["how-long"] => return report(how_long::calls(SEED, own::how_long, requests::how_long)),
         ["plan"] => return report(plans::calls(SEED, second::plan::plan, requests::plan)),
         ["runs"] => runs::print(&Archive, &mut out),
         ["counts"] => counts::print(&Archive, &mut out),
         ["refusals"] => refusals::print(&Archive, &mut out),
         _ => {
-            eprintln!("harness [grid | decide | disperse | preview | tables | hold | read_ons | streams | how-long | plan | runs | counts | refusals]");
+            eprintln!("harness [grid | decide | disperse | tables | preview | read-on | streams | how-long | plan | runs | counts | refusals]");
             return ExitCode::from(2);
         }
     };

@@ -19,7 +19,7 @@ returns-3 : tie.Need-returns-3
 returns-3 c =
     let f = c .before .before in
     let b = f .before .before .before .before .before in
-    let a = b .before .before .before .before .before .before .before .before .before .before .before .before .args in
+    let a = b .before .before .before .before .before .before .before .before .before .before .before .before .before .args in
     let hs : length (a .state .now) ≡ 208 = search needs in
     let hn : length (a .next .now) ≡ 208 = search needs in
     preview-right _ _ _ _ _ _ _ _ hs hn (b .before .before .before .before .state-of .ensures) (b .preview .ensures) (f .finish .ensures .0) (f .finish .ensures .1)

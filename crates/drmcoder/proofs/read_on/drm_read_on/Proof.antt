@@ -13,7 +13,7 @@ returns c = rw (ne-eqb _ _ (c .if1 .taken))
 returns-2 : tie.Need-returns-2
 returns-2 c =
     let f = c .before .before in
-    let b = f .before .before .before .before .before .before .before .before .before .before in
+    let b = f .before .before .before .before .before .before .before .before .before .before .before .before in
     let t = b .before .before .before .before .before .before in
     read-on-right _ _ _ _ _ _ _ (t .before .before .if1 .left) (t .state-of .ensures) (b .read-on .ensures) (f .finish-read .ensures .0) (f .finish-read .ensures .1)
 

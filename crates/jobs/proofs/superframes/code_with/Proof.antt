@@ -8,8 +8,8 @@ use Rattle.jobs.proofs.superframes.code_with.Tie as tie
 returns : tie.Need-returns
 unfolding codeWritten
 returns c =
-    let a = c .before .before .before .before .before .before .before .before .before .before .before .before .before .before .before .before .before .before .before .before .before .before .args in
-    let k = c .before .before .before .before .before .before .before .before .before .before .before .before .code in
+    let a = c .before .before .before .before .before .before .before .before .before .before .before .before .before .before .before .before .before .before .before .before .before .before .before .before .args in
+    let k = c .before .before .before .before .before .before .before .before .before .before .before .before .before .code in
     let e = rw (rest-part (a .bytes .now) (a .at)) at (k .ensures) in
     let w = c .before .before .write-cells .ensures in
     (w .0 (k .last .1 .1 .1 .1 .0) ∙ ap (λ y. codeWritten y (a .out .now)) e, w .1)

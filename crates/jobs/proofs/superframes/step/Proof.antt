@@ -8,43 +8,43 @@ use Rattle.jobs.proofs.superframes.step.Tie as tie
 
 returns : tie.Need-returns
 returns c =
-    let a = c .before .before .before .before .before .before .before .before .before .before in
+    let a = c .before .before .before .before .before .before .before .before .before .before .before in
     let r = c .refused .ensures in
     (r .0 (a .args .memory .now) (a .args .out .now) ∙ job-refused (a .args .job) (a .args .state) _ (a .args .memory .now) (a .args .bytes .now) (a .args .out .now) _ _ _ _ _ (c .before .before .before .before .before .before .before .scheme-refusal .ensures) (c .before .before .before .before .before .before .sizes .ensures) (c .before .before .before .before .before .grid-length .ensures) (c .before .before .before .before .input-length .ensures) (c .before .before .before .output-length .ensures) (c .before .before .length-refusal .ensures) (c .before .if1 .taken), omega (arith, r .1))
 
 code-bytes-requires : tie.Need-code-bytes-requires
-code-bytes-requires c κs = let a = c .before .before .before .before .before .before .before .before .before .before .before .before .before in job-lent (a .args .job) (a .args .state) _ (a .args .memory .now) (a .args .bytes .now) (a .args .out .now) _ _ _ _ _ (c .before .before .before .before .before .before .before .before .before .before .scheme-refusal .ensures) (c .before .before .before .before .before .before .before .before .before .sizes .ensures) (c .before .before .before .before .before .before .before .before .grid-length .ensures) (c .before .before .before .before .before .before .before .input-length .ensures) (c .before .before .before .before .before .before .output-length .ensures) (c .before .before .before .before .before .length-refusal .ensures) (c .before .before .before .before .if1 .left) Code (c .before .before .enum-told .given .1)
+code-bytes-requires c κs = let a = c .before .before .before .before .before .before .before .before .before .before .before .before .before .before in job-lent (a .args .job) (a .args .state) _ (a .args .memory .now) (a .args .bytes .now) (a .args .out .now) _ _ _ _ _ (c .before .before .before .before .before .before .before .before .before .before .scheme-refusal .ensures) (c .before .before .before .before .before .before .before .before .before .sizes .ensures) (c .before .before .before .before .before .before .before .before .grid-length .ensures) (c .before .before .before .before .before .before .before .input-length .ensures) (c .before .before .before .before .before .before .output-length .ensures) (c .before .before .before .before .before .length-refusal .ensures) (c .before .before .before .before .if1 .left) Code (c .before .before .enum-told .given .1)
 
 read-bytes-requires : tie.Need-read-bytes-requires
-read-bytes-requires c κs = let a = c .before .before .before .before .before .before .before .before .before .before .before .before .before in job-lent (a .args .job) (a .args .state) _ (a .args .memory .now) (a .args .bytes .now) (a .args .out .now) _ _ _ _ _ (c .before .before .before .before .before .before .before .before .before .before .scheme-refusal .ensures) (c .before .before .before .before .before .before .before .before .before .sizes .ensures) (c .before .before .before .before .before .before .before .before .grid-length .ensures) (c .before .before .before .before .before .before .before .input-length .ensures) (c .before .before .before .before .before .before .output-length .ensures) (c .before .before .before .before .before .length-refusal .ensures) (c .before .before .before .before .if1 .left) Read (c .before .before .enum-told2 .given .1)
+read-bytes-requires c κs = let a = c .before .before .before .before .before .before .before .before .before .before .before .before .before .before in job-lent (a .args .job) (a .args .state) _ (a .args .memory .now) (a .args .bytes .now) (a .args .out .now) _ _ _ _ _ (c .before .before .before .before .before .before .before .before .before .before .scheme-refusal .ensures) (c .before .before .before .before .before .before .before .before .before .sizes .ensures) (c .before .before .before .before .before .before .before .before .grid-length .ensures) (c .before .before .before .before .before .before .before .input-length .ensures) (c .before .before .before .before .before .before .output-length .ensures) (c .before .before .before .before .before .length-refusal .ensures) (c .before .before .before .before .if1 .left) Read (c .before .before .enum-told2 .given .1)
 
 place-bytes-requires : tie.Need-place-bytes-requires
-place-bytes-requires c κs = let a = c .before .before .before .before .before .before .before .before .before .before .before .before in job-lent (a .args .job) (a .args .state) _ (a .args .memory .now) (a .args .bytes .now) (a .args .out .now) _ _ _ _ _ (c .before .before .before .before .before .before .before .before .before .scheme-refusal .ensures) (c .before .before .before .before .before .before .before .before .sizes .ensures) (c .before .before .before .before .before .before .before .grid-length .ensures) (c .before .before .before .before .before .before .input-length .ensures) (c .before .before .before .before .before .output-length .ensures) (c .before .before .before .before .length-refusal .ensures) (c .before .before .before .if1 .left) Grid (c .before .enum-told3 .given .1)
+place-bytes-requires c κs = let a = c .before .before .before .before .before .before .before .before .before .before .before .before .before in job-lent (a .args .job) (a .args .state) _ (a .args .memory .now) (a .args .bytes .now) (a .args .out .now) _ _ _ _ _ (c .before .before .before .before .before .before .before .before .before .scheme-refusal .ensures) (c .before .before .before .before .before .before .before .before .sizes .ensures) (c .before .before .before .before .before .before .before .grid-length .ensures) (c .before .before .before .before .before .before .input-length .ensures) (c .before .before .before .before .before .output-length .ensures) (c .before .before .before .before .length-refusal .ensures) (c .before .before .before .if1 .left) Grid (c .before .enum-told3 .given .1)
 
 take-bytes-requires : tie.Need-take-bytes-requires
-take-bytes-requires c κs = let a = c .before .before .before .before .before .before .before .before .before .before .before .before in job-lent (a .args .job) (a .args .state) _ (a .args .memory .now) (a .args .bytes .now) (a .args .out .now) _ _ _ _ _ (c .before .before .before .before .before .before .before .before .before .scheme-refusal .ensures) (c .before .before .before .before .before .before .before .before .sizes .ensures) (c .before .before .before .before .before .before .before .grid-length .ensures) (c .before .before .before .before .before .before .input-length .ensures) (c .before .before .before .before .before .output-length .ensures) (c .before .before .before .before .length-refusal .ensures) (c .before .before .before .if1 .left) Ungrid (c .before .enum-told4 .given .1)
+take-bytes-requires c κs = let a = c .before .before .before .before .before .before .before .before .before .before .before .before .before in job-lent (a .args .job) (a .args .state) _ (a .args .memory .now) (a .args .bytes .now) (a .args .out .now) _ _ _ _ _ (c .before .before .before .before .before .before .before .before .before .scheme-refusal .ensures) (c .before .before .before .before .before .before .before .before .sizes .ensures) (c .before .before .before .before .before .before .before .grid-length .ensures) (c .before .before .before .before .before .before .input-length .ensures) (c .before .before .before .before .before .output-length .ensures) (c .before .before .before .before .length-refusal .ensures) (c .before .before .before .if1 .left) Ungrid (c .before .enum-told4 .given .1)
 
 returns-2 : tie.Need-returns-2
 returns-2 c =
-    let a = c .before .before .before .before .before .before .before .before .before .before .before .before .before .before .before .before .before in
-    let w = c .before .before .before .code-bytes .ensures in
-    (job-called (a .args .job) (a .args .state) _ (a .args .memory .now) (a .args .bytes .now) (a .args .out .now) _ _ _ _ _ (c .before .before .before .before .before .before .before .before .before .before .before .before .before .before .scheme-refusal .ensures) (c .before .before .before .before .before .before .before .before .before .before .before .before .before .sizes .ensures) (c .before .before .before .before .before .before .before .before .before .before .before .before .grid-length .ensures) (c .before .before .before .before .before .before .before .before .before .before .before .input-length .ensures) (c .before .before .before .before .before .before .before .before .before .before .output-length .ensures) (c .before .before .before .before .before .before .before .before .before .length-refusal .ensures) (c .before .before .before .before .before .before .before .before .if1 .left) _ Code (c .before .before .before .before .before .before .enum-told .given .1) (w .0), w .1)
+    let a = c .before .before .before .before .before .before .before .before .before .before .before .before .before .before .before .before .before .before .before in
+    let w = c .before .before .before .before .code-bytes .ensures in
+    (job-called (a .args .job) (a .args .state) _ (a .args .memory .now) (a .args .bytes .now) (a .args .out .now) _ _ _ _ _ (c .before .before .before .before .before .before .before .before .before .before .before .before .before .before .before .scheme-refusal .ensures) (c .before .before .before .before .before .before .before .before .before .before .before .before .before .before .sizes .ensures) (c .before .before .before .before .before .before .before .before .before .before .before .before .before .grid-length .ensures) (c .before .before .before .before .before .before .before .before .before .before .before .before .input-length .ensures) (c .before .before .before .before .before .before .before .before .before .before .before .output-length .ensures) (c .before .before .before .before .before .before .before .before .before .before .length-refusal .ensures) (c .before .before .before .before .before .before .before .before .before .if1 .left) _ Code (c .before .before .before .before .before .before .before .enum-told .given .1) (w .0), w .1)
 
 returns-3 : tie.Need-returns-3
 returns-3 c =
-    let a = c .before .before .before .before .before .before .before .before .before .before .before .before .before .before .before .before .before in
-    let w = c .before .before .before .read-bytes .ensures in
-    (job-called (a .args .job) (a .args .state) _ (a .args .memory .now) (a .args .bytes .now) (a .args .out .now) _ _ _ _ _ (c .before .before .before .before .before .before .before .before .before .before .before .before .before .before .scheme-refusal .ensures) (c .before .before .before .before .before .before .before .before .before .before .before .before .before .sizes .ensures) (c .before .before .before .before .before .before .before .before .before .before .before .before .grid-length .ensures) (c .before .before .before .before .before .before .before .before .before .before .before .input-length .ensures) (c .before .before .before .before .before .before .before .before .before .before .output-length .ensures) (c .before .before .before .before .before .before .before .before .before .length-refusal .ensures) (c .before .before .before .before .before .before .before .before .if1 .left) _ Read (c .before .before .before .before .before .before .enum-told2 .given .1) (w .0), w .1)
+    let a = c .before .before .before .before .before .before .before .before .before .before .before .before .before .before .before .before .before .before .before in
+    let w = c .before .before .before .before .read-bytes .ensures in
+    (job-called (a .args .job) (a .args .state) _ (a .args .memory .now) (a .args .bytes .now) (a .args .out .now) _ _ _ _ _ (c .before .before .before .before .before .before .before .before .before .before .before .before .before .before .before .scheme-refusal .ensures) (c .before .before .before .before .before .before .before .before .before .before .before .before .before .before .sizes .ensures) (c .before .before .before .before .before .before .before .before .before .before .before .before .before .grid-length .ensures) (c .before .before .before .before .before .before .before .before .before .before .before .before .input-length .ensures) (c .before .before .before .before .before .before .before .before .before .before .before .output-length .ensures) (c .before .before .before .before .before .before .before .before .before .before .length-refusal .ensures) (c .before .before .before .before .before .before .before .before .before .if1 .left) _ Read (c .before .before .before .before .before .before .before .enum-told2 .given .1) (w .0), w .1)
 
 returns-4 : tie.Need-returns-4
 returns-4 c =
-    let a = c .before .before .before .before .before .before .before .before .before .before .before .before .before .before .before in
+    let a = c .before .before .before .before .before .before .before .before .before .before .before .before .before .before .before .before in
     let w = c .before .before .place-bytes .ensures in
     (job-called (a .args .job) (a .args .state) _ (a .args .memory .now) (a .args .bytes .now) (a .args .out .now) _ _ _ _ _ (c .before .before .before .before .before .before .before .before .before .before .before .before .scheme-refusal .ensures) (c .before .before .before .before .before .before .before .before .before .before .before .sizes .ensures) (c .before .before .before .before .before .before .before .before .before .before .grid-length .ensures) (c .before .before .before .before .before .before .before .before .before .input-length .ensures) (c .before .before .before .before .before .before .before .before .output-length .ensures) (c .before .before .before .before .before .before .before .length-refusal .ensures) (c .before .before .before .before .before .before .if1 .left) _ Grid (c .before .before .before .before .enum-told3 .given .1) (w .0 (a .args .memory .now)), w .1)
 
 returns-5 : tie.Need-returns-5
 returns-5 c =
-    let a = c .before .before .before .before .before .before .before .before .before .before .before .before .before .before .before in
+    let a = c .before .before .before .before .before .before .before .before .before .before .before .before .before .before .before .before in
     let w = c .before .before .take-bytes .ensures in
     (job-called (a .args .job) (a .args .state) _ (a .args .memory .now) (a .args .bytes .now) (a .args .out .now) _ _ _ _ _ (c .before .before .before .before .before .before .before .before .before .before .before .before .scheme-refusal .ensures) (c .before .before .before .before .before .before .before .before .before .before .before .sizes .ensures) (c .before .before .before .before .before .before .before .before .before .before .grid-length .ensures) (c .before .before .before .before .before .before .before .before .before .input-length .ensures) (c .before .before .before .before .before .before .before .before .output-length .ensures) (c .before .before .before .before .before .before .before .length-refusal .ensures) (c .before .before .before .before .before .before .if1 .left) _ Ungrid (c .before .before .before .before .enum-told4 .given .1) (w .0 (a .args .memory .now)), w .1)
 

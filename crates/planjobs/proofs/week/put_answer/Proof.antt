@@ -1,7 +1,7 @@
 use native.Mathlib.Omega.{arith}
 use borrow.Author.Needs.{needs}
 use Rattle.line.specs.Written.{space, lineEnd}
-use Rattle.console.proofs.Lines.{put-more, put-room}
+use Rattle.words.proofs.Lines.{put-more, put-room}
 use Rattle.planjobs.specs.Week.{answerText}
 use Rattle.planjobs.proofs.week.put_answer.Statement.{statement}
 use Rattle.planjobs.proofs.week.put_answer.Tie as tie

@@ -1,6 +1,6 @@
 use native.Mathlib.Omega.{arith}
 use borrow.Author.Needs.{needs}
-use Rattle.console.proofs.Lines.{put-room, put-as}
+use Rattle.words.proofs.Lines.{put-room, put-as}
 use Rattle.planjobs.proofs.Printing.{no-closing, some-closing}
 use Rattle.planjobs.proofs.week.put_closing.Statement.{statement}
 use Rattle.planjobs.proofs.week.put_closing.Tie as tie
