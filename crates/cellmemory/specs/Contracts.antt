@@ -17,7 +17,7 @@ use Rattle.channels.specs.Scheme.{schemeRefusal, SchemeAccepted}
 use Rattle.superframe.specs.declared.State.{State}
 use Rattle.superframe.specs.Memory.{slotSize}
 use Rattle.superframe.specs.Interleaving.{advanced}
-use Rattle.superframe.specs.Call.{memoryLength}
+use Rattle.superframe.specs.Call.{facBytes, memoryLength}
 use Rattle.superframe.specs.Code.{progressOf, stateOf}
 
 -- State and memory in order: allowed settings and table, position and count below the depth, and memory of its length.
@@ -64,7 +64,7 @@ fillerNumbers = pos 1 ∷ pos 1 ∷ pos 1 ∷ negsuc 0 ∷ []
 
 -- Buffers of packed bytes, and of cells, of so many elements have their lengths.
 abbrev pub bytesLong : Sizes → ℕ → ℕ → ℕ → Bool
-bytesLong z fac sdc msc = eqb fac 27 && (eqb sdc (z .sdcbytes) && eqb msc (z .mscbytes))
+bytesLong z fac sdc msc = eqb fac (3 * facBytes) && (eqb sdc (z .sdcbytes) && eqb msc (z .mscbytes))
 
 abbrev pub cellsLong : Sizes → ℕ → ℕ → ℕ → Bool
 cellsLong z fac sdc msc = eqb fac (z .facnumbers) && (eqb sdc (z .sdcnumbers) && eqb msc (z .mscnumbers))

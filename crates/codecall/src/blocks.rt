@@ -13,6 +13,7 @@ use settings::answers;
 use settings::tables::FAC_BYTES;
 use settings::tables::FAC_NUMBERS;
 use superframe::State;
+ghost use Prim.Native.Nat.{_*_};
 ghost use mathlib.Core.Path.{_≡_};
 ghost use mathlib.Core.List.{map};
 ghost use lib.ListN.{length};
@@ -21,13 +22,13 @@ ghost use Rattle.patterns.specs.Loaded.{Allowed};
 ghost use Rattle.settings.specs.Sizes.{frameBytes};
 ghost use Rattle.cellmemory.specs.Contracts.{StateFits};
 ghost use Rattle.channels.specs.Fac.{facBlock};
-ghost use Rattle.superframe.specs.Call.{parts, joined};
+ghost use Rattle.superframe.specs.Call.{parts, joined, facBytes, facNumbers};
 ghost use Rattle.codecall.specs.Contracts.{frameStored, FrameFits, FrameCoded, MscFits, MscCoded};
 
 // The cells of three FAC blocks.
 pub fn code_fac(s: Scheme, fac: &[u8], cells: &mut [i16])
-    requires { ⌜ Allowed (s .table) × (length (now fac) ≡ 27) × (length (now cells) ≡ 390) ⌝ }
-    ensures { λ r. ⌜ now (cells .exit) ≡ joined (map (cellsFrom (facBlock s)) (parts 9 (now (fac .entry)))) ⌝ }
+    requires { ⌜ Allowed (s .table) × (length (now fac) ≡ 3 * facBytes) × (length (now cells) ≡ 3 * facNumbers) ⌝ }
+    ensures { λ r. ⌜ now (cells .exit) ≡ joined (map (cellsFrom (facBlock s)) (parts facBytes (now (fac .entry)))) ⌝ }
 {
     let mut k = 0;
     while k < 3 {

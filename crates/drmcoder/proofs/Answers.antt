@@ -1,44 +1,22 @@
 -- The calls on bytes, from the calls on states that they make.
-use Prim.Native.Nat.{ℕ, _+_, _*_}
-use mathlib.Core.Path.{_≡_, refl}
+use Prim.Native.Nat.{ℕ}
+use mathlib.Core.Path.{_≡_}
 use mathlib.Core.List.{List}
-use native.Mathlib.Omega.{arith}
 use lib.ListN.{length}
-use borrow.Author.Tests.{eq-eqb, ne-eqb}
+use borrow.Author.Tests.{eq-eqb}
 use Rattle.settings.specs.declared.Settings.{Settings}
 use Rattle.channels.specs.Scheme.{schemeOf}
 use Rattle.superframe.specs.declared.State.{State}
-use Rattle.superframe.specs.declared.Done.{Done}
-use Rattle.superframe.specs.declared.Answer.{Answer}
-use Rattle.superframe.specs.declared.Answer.the-variants.{Finished, Refused}
 use Rattle.superframe.specs.Reset.{ResetYield, resetOf}
 use Rattle.superframe.specs.Code.{CodeCall, CodeYield, codeOf}
 use Rattle.superframe.specs.Preview.{PreviewYield, previewOf}
-use Rattle.superframe.specs.Read.{ReadCall, ReadYield, answerNumber, answerFrames, answerBlock, readOf}
+use Rattle.superframe.specs.Read.{ReadCall, ReadYield, readOf}
 use Rattle.superframe.specs.ReadOn.{ReadOnCall, ReadOnYield, readOnOf}
 use Rattle.drmcoder.specs.ReadOn.{readOnYields, readOnAnswered, readOnBytes}
-use Rattle.drmcoder.specs.Bytes.{settingsOf, stateOf, stateBytes}
+use Rattle.drmcoder.specs.Bytes.{settingsOf, stateOf}
 use Rattle.drmcoder.specs.Calls.{stateAfter, stateRead, answerWord, resetYields, codeYields, readYields, resetAnswered, resetBytes, codeAnswered, codeBytes, readAnswered, readBytes}
 use Rattle.drmcoder.specs.Preview.{previewYields, previewAnswered, previewBytes}
 use Rattle.drmcoder.proofs.Tests.{both-right}
-
-pub after-refused : (done : Done) (bytes : List ℕ) → (done .refusal ≡ 0 → ⊥) → bytes ≡ stateAfter done bytes
-unfolding stateAfter
-after-refused done bytes h = rw (ne-eqb (done .refusal) 0 h)
-
-pub after-accepted : (done : Done) (bytes bytes′ : List ℕ) → done .refusal ≡ 0 → bytes′ ≡ stateBytes (done .state) → bytes′ ≡ stateAfter done bytes
-unfolding stateAfter
-after-accepted done bytes bytes′ h e = rw (eq-eqb (done .refusal) 0 h) e
-
-pub read-finished : (a : Answer) (state : State) (bytes bytes′ : List ℕ) (n : ℕ) → a ≡ Finished n → bytes′ ≡ stateBytes state
-    → (n ≡ answerWord a) × (bytes′ ≡ stateRead a state bytes)
-unfolding answerWord answerNumber answerBlock answerFrames stateRead
-read-finished a state bytes bytes′ n e e′ = (rw e (omega arith), rw e e′)
-
-pub read-refused : (a : Answer) (state : State) (bytes : List ℕ) (r number block : ℕ) → a ≡ Refused number block → r ≡ 256 * number + block
-    → (r ≡ answerWord a) × (bytes ≡ stateRead a state bytes)
-unfolding answerWord answerNumber answerBlock answerFrames stateRead
-read-refused a state bytes r number block e er = (rw e (omega arith), rw e refl)
 
 pub reset-right : (state settings table : List ℕ) (memory : List ℕ) (old : State) (s : Settings) (y : ResetYield) (r : ℕ) (state′ : List ℕ)
     → length state ≡ 208 → length settings ≡ 10 → old ≡ stateOf state → s ≡ settingsOf settings → y ≡ resetOf old (schemeOf s table) memory

@@ -1,19 +1,16 @@
 -- What drm_reset, drm_reset_table, drm_code and drm_read yield, by the calls on states.
-use Prim.Native.Nat.{ℕ, _+_, _*_}
+use Prim.Native.Nat.{ℕ, _*_}
 use mathlib.Core.Bool.{cond, _&&_}
 use mathlib.Core.List.{List}
 use lib.ListN.{length}
 use lib.IntN.{ℤ}
 use lib.Dec.{eqb}
 use Rattle.channels.specs.Scheme.{schemeOf}
-use Rattle.superframe.specs.declared.State.{State}
-use Rattle.superframe.specs.declared.Done.{Done}
-use Rattle.superframe.specs.declared.Answer.{Answer}
-use Rattle.superframe.specs.declared.Answer.the-variants.{Finished, Refused}
 use Rattle.superframe.specs.Reset.{ResetYield, resetOf}
 use Rattle.superframe.specs.Code.{CodeCall, CodeYield, codeOf}
-use Rattle.superframe.specs.Read.{ReadCall, ReadYield, answerNumber, answerFrames, answerBlock, readOf}
-use Rattle.drmcoder.specs.Bytes.{settingsOf, stateOf, stateBytes}
+use Rattle.superframe.specs.Read.{ReadCall, ReadYield, readOf}
+unfoldable pub use Rattle.statebytes.specs.Answers.{stateAfter, answerWord, stateRead}
+use Rattle.drmcoder.specs.Bytes.{settingsOf, stateOf}
 
 -- Answers and buffers as each call leaves them.
 pub record ResetBytes : Type 0 where
@@ -49,10 +46,6 @@ abbrev pub readYields : ℕ → List ℕ → List ℕ → List ℕ → List ℕ 
 readYields answer state memory fac sdc msc =
     record { answer = answer; state = state; memory = memory; fac = fac; sdc = sdc; msc = msc }
 
--- The bytes of a state after Reset and Code: of the new state, or as they were where the call is refused.
-unfoldable pub stateAfter : Done → List ℕ → List ℕ
-stateAfter done bytes = cond (eqb (done .refusal) 0) (stateBytes (done .state)) bytes
-
 -- Reset with a table, which drm_reset takes from the standard. A state or settings of the wrong length: 255, and nothing is written.
 unfoldable pub resetAnswered : ResetYield → List ℕ → ResetBytes
 resetAnswered y state = resetYields (y .done .refusal) (stateAfter (y .done) state) (y .memory)
@@ -72,15 +65,6 @@ unfoldable pub codeBytes : List ℕ → List ℕ → CodeCall → CodeBytes
 codeBytes state memory c =
     cond (eqb (length state) 208) (codeAnswered (codeOf (stateOf state) memory c) state)
     (codeYields 255 state memory (c .faccells) (c .sdccells) (c .msccells))
-
--- An answer in one number: 256 times its number (0 for acceptance), plus its block, plus its finished frames.
-unfoldable pub answerWord : Answer → ℕ
-answerWord a = 256 * answerNumber a + answerBlock a + answerFrames a
-
--- The bytes of a state after Read.
-unfoldable pub stateRead : Answer → State → List ℕ → List ℕ
-stateRead (Finished n) state bytes = stateBytes state
-stateRead (Refused r b) state bytes = bytes
 
 -- Read. A state of the wrong length: 255 times 256, and nothing is written.
 unfoldable pub readAnswered : ReadYield → List ℕ → ReadBytes

@@ -1,57 +1,17 @@
 // The calls drm_reset, drm_reset_table, drm_code and drm_read.
-use crate::bytes::put_state;
 use crate::bytes::settings_of;
 use crate::bytes::state_of;
 use codecall::code::code;
 use codecall::reset::reset_table;
 use patterns::table::standard_table;
 use readcall::read::read;
-use superframe::Answer;
-use superframe::Done;
-use superframe::Reading;
+pub use statebytes::answers::finish;
+pub use statebytes::answers::finish_read;
 ghost use mathlib.Core.Path.{_≡_};
-ghost use lib.ListN.{length};
-ghost use Prim.Native.Nat.{_+_, _*_};
 ghost use Rattle.patterns.specs.Patterns.{table65};
 ghost use Rattle.codecall.specs.Contracts.{codeCall};
 ghost use Rattle.readcall.specs.Contracts.{readCall};
-ghost use Rattle.drmcoder.specs.Calls.{stateAfter, stateRead, answerWord, resetYields, codeYields, readYields, resetBytes, codeBytes, readBytes};
-
-// The answer of Reset, Code and preview, with the state written where the call is accepted.
-pub fn finish(done: Done, bytes: &mut [u8]) -> u8
-    requires { ⌜ length (now bytes) ≡ 208 ⌝ }
-    ensures { λ r. ⌜ r ≡ done .refusal ⌝ }
-    ensures { λ r. ⌜ now (bytes .exit) ≡ stateAfter done (now (bytes .entry)) ⌝ }
-{
-    if done.refusal != 0 {
-        return done.refusal;
-    }
-    put_state(done.state, bytes);
-    0
-}
-
-// 256 times the refusal's number plus its block.
-fn refusal_word(number: u8, block: u8) -> u16
-    ensures { λ r. ⌜ r ≡ 256 * number + block ⌝ }
-{
-    256 * number as u16 + block as u16
-}
-
-// The answer of Read, with the state written where the call is accepted.
-pub fn finish_read(reading: Reading, bytes: &mut [u8]) -> u16
-    requires { ⌜ length (now bytes) ≡ 208 ⌝ }
-    ensures { λ r. ⌜ r ≡ answerWord (reading .answer) ⌝ }
-    ensures { λ r. ⌜ now (bytes .exit) ≡ stateRead (reading .answer) (reading .state) (now (bytes .entry)) ⌝ }
-{
-    let answer = reading.answer;
-    match answer {
-        Answer::Finished(n) => {
-            put_state(reading.state, bytes);
-            n as u16
-        }
-        Answer::Refused(number, block) => refusal_word(number, block),
-    }
-}
+ghost use Rattle.drmcoder.specs.Calls.{resetYields, codeYields, readYields, resetBytes, codeBytes, readBytes};
 
 // Begins a run of settings and a table on a memory.
 fn reset_bytes(state: &mut [u8], settings: &[u8], table: &[u8], memory: &mut [u8]) -> u8

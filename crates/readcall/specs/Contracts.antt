@@ -15,7 +15,7 @@ use Rattle.channels.specs.Msc.{mscBlock}
 use Rattle.superframe.specs.declared.State.{State}
 use Rattle.superframe.specs.declared.Reading.{Reading}
 use Rattle.superframe.specs.Interleaving.{afterRows, finishedFrames}
-use Rattle.superframe.specs.Call.{parts}
+use Rattle.superframe.specs.Call.{parts, facBytes}
 use Rattle.superframe.specs.Code.{progressOf, stateOf}
 use Rattle.superframe.specs.Read.{ReadCall, ReadYield, rowsOf, pointTests, orderRefusal}
 use Rattle.superframe.specs.Blocks.{keptBytes, placedBytes, placedTests}
@@ -35,7 +35,7 @@ readYield reading memory fac sdc msc = record { reading = reading; memory = memo
 pub record BlocksLent (state : State) (memory : List ℕ) (c : ReadCall) : Type 0 where
   pub fits : StateFits state memory
   pub cells : CellsFit (state .scheme .settings) (c .faccells) (c .sdccells) (c .msccells)
-  pub fac : c .fac ≡ replicate 27 0
+  pub fac : c .fac ≡ replicate (3 * facBytes) 0
   pub sdc : c .sdc ≡ replicate (sdcBytes (state .scheme .settings)) 0
   pub msc : c .msc ≡ replicate (3 * frameBytes (state .scheme .settings)) 0
 

@@ -8,18 +8,19 @@ use frames::read::read_rows;
 use settings::tables::FAC_BYTES;
 use settings::tables::FAC_NUMBERS;
 use superframe::State;
+ghost use Prim.Native.Nat.{_*_};
 ghost use mathlib.Core.Path.{_≡_};
 ghost use lib.ListN.{length, replicate};
 ghost use Rattle.patterns.specs.Loaded.{Allowed};
 ghost use Rattle.channels.specs.Fac.{facBlock};
-ghost use Rattle.superframe.specs.Call.{parts};
+ghost use Rattle.superframe.specs.Call.{parts, facBytes, facNumbers};
 ghost use Rattle.frames.specs.Contracts.{PlacesRead};
 ghost use Rattle.readcall.specs.Contracts.{readCall, BlocksLent, BlocksRead};
 
 // Three FAC blocks.
 fn read_fac(s: Scheme, cells: &[i16], out: &mut [u8]) -> [bool; 3]
-    requires { ⌜ Allowed (s .table) × (length (now cells) ≡ 390) × (now out ≡ replicate 27 0) ⌝ }
-    ensures { λ r. ⌜ PlacesRead (facBlock s) 9 (parts 130 (now (cells .entry))) r (now (out .exit)) ⌝ }
+    requires { ⌜ Allowed (s .table) × (length (now cells) ≡ 3 * facNumbers) × (now out ≡ replicate (3 * facBytes) 0) ⌝ }
+    ensures { λ r. ⌜ PlacesRead (facBlock s) facBytes (parts facNumbers (now (cells .entry))) r (now (out .exit)) ⌝ }
 {
     let mut given = [true; 3];
     let mut i = 0;

@@ -15,8 +15,10 @@ use settings::tables::FAC_BYTES;
 use superframe::Answer;
 use superframe::Reading;
 use superframe::State;
+ghost use Prim.Native.Nat.{_*_};
 ghost use mathlib.Core.Path.{_≡_};
 ghost use lib.ListN.{replicate};
+ghost use Rattle.superframe.specs.Call.{facBytes};
 ghost use Rattle.superframe.specs.Code.{byteLengths, cellLengths};
 ghost use Rattle.superframe.specs.Read.{orderRefusal, readOf};
 ghost use Rattle.cellmemory.specs.Contracts.{refusalThen};
@@ -79,7 +81,7 @@ fn order_refusal(
 
 // Working buffers for the largest settings, each from a function of its own: proofs then take its length and do not write it out.
 fn fac_buffer() -> [u8; 3 * FAC_BYTES]
-    ensures { λ r. ⌜ r ≡ replicate 27 0 ⌝ }
+    ensures { λ r. ⌜ r ≡ replicate (3 * facBytes) 0 ⌝ }
 {
     [0u8; 3 * FAC_BYTES]
 }

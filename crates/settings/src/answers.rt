@@ -125,7 +125,7 @@ fn all_sizes(s: Settings) -> Sizes
         refusal: 0,
         sdcbytes: sdc_bytes as u32,
         mscbytes: (3 * frame) as u32,
-        facnumbers: 390,
+        facnumbers: (3 * tables::FAC_NUMBERS) as u32,
         sdcnumbers: (2 * sdc) as u32,
         mscnumbers: (2 * sfa) as u32,
         memory: memory as u32,

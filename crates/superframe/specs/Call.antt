@@ -35,6 +35,10 @@ joined (l ∷ ls) = l ++ joined ls
 abbrev pub facBytes : ℕ
 facBytes = 9
 
+-- Two numbers for each of its 65 cells.
+abbrev pub facNumbers : ℕ
+facNumbers = 130
+
 -- The bytes that memory must have.
 unfoldable pub memoryLength : Settings → ℕ
 memoryLength s = depth s * nMux s

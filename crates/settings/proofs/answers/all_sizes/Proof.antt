@@ -43,4 +43,4 @@ returns : tie.Need-returns
 returns c = is-allSizes _ _ _ _ _ _ (all c)
 
 pub all-sizes-spec : {M : Type 1} → statement M
-all-sizes-spec = tie.close (tie.spec (λ c κs. search needs) sdc-bits-requires bytes-for-requires (λ c κs. search needs) (λ c κs. search needs) (λ c κs. search needs) (λ c. omega (arith, all c .isBytes, low c .sdcBytesFew)) (λ c. omega (arith, all c .isFrame, low c .frameFew)) (λ c. omega (arith, all c .isFrame, low c .frameFew)) (λ c. omega (arith, all c .isSdc, low c .sdcFew)) (λ c. omega (arith, all c .isSdc, low c .sdcFew)) (λ c. omega (arith, all c .isSfa, low c .sfaFew)) (λ c. omega (arith, all c .isSfa, low c .sfaFew)) (λ c. omega (arith, all c .isMemory, low c .memoryFew)) returns)
+all-sizes-spec = tie.close (tie.spec (λ c κs. search needs) sdc-bits-requires bytes-for-requires (λ c κs. search needs) (λ c κs. search needs) (λ c κs. search needs) (λ c. omega (arith, all c .isBytes, low c .sdcBytesFew)) (λ c. omega (arith, all c .isFrame, low c .frameFew)) (λ c. omega (arith, all c .isFrame, low c .frameFew)) (λ c. search needs) (λ c. search needs) (λ c. omega (arith, all c .isSdc, low c .sdcFew)) (λ c. omega (arith, all c .isSdc, low c .sdcFew)) (λ c. omega (arith, all c .isSfa, low c .sfaFew)) (λ c. omega (arith, all c .isSfa, low c .sfaFew)) (λ c. omega (arith, all c .isMemory, low c .memoryFew)) returns)

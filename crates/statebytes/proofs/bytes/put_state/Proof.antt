@@ -1,9 +1,9 @@
 use mathlib.Core.Path.{_≡_, sym, _∙_}
 use lib.ListN.{length}
 use borrow.Author.Needs.{needs}
-use Rattle.drmcoder.proofs.Stores.{rest-long, state-stored}
-use Rattle.drmcoder.proofs.bytes.put_state.Statement.{statement}
-use Rattle.drmcoder.proofs.bytes.put_state.Tie as tie
+use Rattle.statebytes.proofs.Stores.{rest-long, state-stored}
+use Rattle.statebytes.proofs.bytes.put_state.Statement.{statement}
+use Rattle.statebytes.proofs.bytes.put_state.Tie as tie
 
 copy-requires : tie.Need-copy-requires
 copy-requires c κs =

@@ -1,7 +1,7 @@
 use borrow.Author.Needs.{needs}
-use Rattle.drmcoder.proofs.Answers.{read-finished, read-refused}
-use Rattle.drmcoder.proofs.calls.finish_read.Statement.{statement}
-use Rattle.drmcoder.proofs.calls.finish_read.Tie as tie
+use Rattle.statebytes.proofs.After.{read-finished, read-refused}
+use Rattle.statebytes.proofs.answers.finish_read.Statement.{statement}
+use Rattle.statebytes.proofs.answers.finish_read.Tie as tie
 
 returns : tie.Need-returns
 returns c =

@@ -1,9 +1,9 @@
 use borrow.Author.Needs.{needs}
 use native.Mathlib.Omega.{arith}
 use lib.ListN.{length-set}
-use Rattle.drmcoder.proofs.Stores.{front-stored}
-use Rattle.drmcoder.proofs.bytes.put_front.Statement.{statement}
-use Rattle.drmcoder.proofs.bytes.put_front.Tie as tie
+use Rattle.statebytes.proofs.Stores.{front-stored}
+use Rattle.statebytes.proofs.bytes.put_front.Statement.{statement}
+use Rattle.statebytes.proofs.bytes.put_front.Tie as tie
 
 returns : tie.Need-returns
 returns c =

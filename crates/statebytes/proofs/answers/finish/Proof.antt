@@ -1,8 +1,8 @@
 use borrow.Author.Needs.{needs}
 use mathlib.Core.Path.{refl, sym}
-use Rattle.drmcoder.proofs.Answers.{after-refused, after-accepted}
-use Rattle.drmcoder.proofs.calls.finish.Statement.{statement}
-use Rattle.drmcoder.proofs.calls.finish.Tie as tie
+use Rattle.statebytes.proofs.After.{after-refused, after-accepted}
+use Rattle.statebytes.proofs.answers.finish.Statement.{statement}
+use Rattle.statebytes.proofs.answers.finish.Tie as tie
 
 returns : tie.Need-returns
 returns c = (refl, after-refused (c .before .before .before .args .done) _ (c .if1 .taken))

@@ -1,7 +1,7 @@
 use borrow.Author.Needs.{needs}
-use Rattle.drmcoder.proofs.Stores.{state-read}
-use Rattle.drmcoder.proofs.bytes.state_of.Statement.{statement}
-use Rattle.drmcoder.proofs.bytes.state_of.Tie as tie
+use Rattle.statebytes.proofs.Stores.{state-read}
+use Rattle.statebytes.proofs.bytes.state_of.Statement.{statement}
+use Rattle.statebytes.proofs.bytes.state_of.Tie as tie
 
 returns : tie.Need-returns
 returns c = state-read _ _ _ (c .before .before .before .before .settings-of .ensures) (c .before .before .scheme-of .ensures)
