@@ -173,6 +173,10 @@ point-full k re im h =
     let z : pos 0 ≡ re = sameNumber-true (pos 0) re (and-left (sameNumber (pos 0) re) _ e) in
     never-both _ (and-left (onAxis (pointsOf k .real) re) _ h) (rw (← z) (zero-off (k .constellation))))
 
+zero-no-point : (k : Block) → isPoint (pointsOf k) (pos 0) (pos 0) ≡ false
+unfolding pointsOf isPoint
+zero-no-point k = rw (zero-off (k .constellation))
+
 -- A cell of three parts of n cells stands in one of them.
 module _ (n : ℕ) (l : List ℤ) (P : ℤ → ℤ → Type 0)
     (each : (i j : ℕ) → i < 3 → j < n → P (getD (part (2 * n) l i) (2 * j) (pos 0)) (getD (part (2 * n) l i) (2 * j + 1) (pos 0))) where
@@ -267,6 +271,7 @@ module _ (coding : (s : Scheme) → schemeRefusal s ≡ 0 → Coding s) (run : R
 pub no-empty-cells-of : ((s : Scheme) → schemeRefusal s ≡ 0 → Coding s) → NoEmptyCells
 no-empty-cells-of coding =
     record {
+      noPoint = λ s. zero-no-point (mscBlock s);
       points = sent-points coding;
       none = λ run m h.
           let s = run .begun .scheme in

@@ -233,6 +233,7 @@ on-runs-of coding =
     record {
       tells = λ reader R calls fit F. on-tells coding reader R fit calls F;
       readable = λ reader R fit. on-readable coding reader R fit;
+      sent = sent-whole coding;
       costs = λ run reader m R calls e spoiled fit F.
           on-rights coding reader R fit run e (spoiled .long) _ _ _ calls
           (λ i h x. spoiled .others (i / 3) (by-three m i x))

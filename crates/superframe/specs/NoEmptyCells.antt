@@ -9,6 +9,7 @@ use Rattle.settings.specs.declared.Settings.{Settings}
 use Rattle.settings.specs.Cells.{facCells}
 use Rattle.settings.specs.Lengths.{nMux, nSdc}
 use Rattle.settings.specs.Sizes.{depth}
+use Rattle.block.specs.Points.{isPoint}
 use Rattle.block.specs.Block.{pointsOf}
 use Rattle.channels.specs.declared.Scheme.{Scheme}
 use Rattle.channels.specs.Fac.{facBlock}
@@ -49,6 +50,8 @@ pub record DifferIgnored (s : Settings) (count : ℕ) (one two : ReadCall) : Typ
   pub mscOut : one .msc ≡ two .msc
 
 pub record NoEmptyCells : Type 0 where
+  -- (0, 0) is a point of no MSC constellation, so memory that has it falls under 12.
+  pub noPoint : (s : Scheme) → isPoint (pointsOf (mscBlock s)) (pos 0) (pos 0) ≡ false
   -- Every cell that an accepted Code call of a run leaves is a point of its constellation or a filler,
   pub points : (run : Run) (m : ℕ) → m < length (cells run) → Points (run .begun .scheme) (sentAt run m)
   -- and none is (0, 0).

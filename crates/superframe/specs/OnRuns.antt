@@ -122,6 +122,8 @@ pub record OnRuns : Type 0 where
       → whole (reader .scheme .settings) received ≡ true
       → (calls : List ReadOnCall)
       × (Fed readingOn received (stateAt reader) (memoryAt reader) calls × (readCount readingOn (stateAt reader) (memoryAt reader) calls ≡ length received))
+  -- The cells of a run have such lengths, so `tells` and `readable` speak of them too.
+  pub sent : (run : Run) → whole (run .begun .scheme .settings) (cells run) ≡ true
   -- Spoiled in super frame m alone, a run's cells give all blocks of others, and all frames outside 3m - (D - 1) to 3m + 2, as brought.
   pub costs :
       (run : Run) (reader : Begun) (m : ℕ) (received : List SuperFrame) (calls : List ReadOnCall)
