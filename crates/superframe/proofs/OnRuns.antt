@@ -7,11 +7,13 @@ use mathlib.Core.List.{List, [], map}
 use native.Mathlib.Nat.{zero-add, sub-zero, zero-sub, mul-zero}
 use native.Mathlib.Omega.{arith}
 use lib.ListN.{length, getD}
-use lib.IntN.{ℤ}
+use lib.IntN.{ℤ, pos}
 use Rattle.lists.specs.Lists.{table}
 use Rattle.lists.proofs.Bools.{holds-or, every-table}
 use Rattle.lists.proofs.Tables.{length-table, getD-table, map-table}
 use Rattle.settings.specs.Cells.{facCells}
+use Rattle.interleaver.specs.Interleaving.{place}
+use Rattle.settings.specs.Lengths.{nMux}
 use Rattle.settings.specs.Sizes.{depth}
 use Rattle.block.specs.declared.Block.{Block}
 use Rattle.block.specs.Block.{cellsOf}
@@ -31,7 +33,7 @@ use Rattle.superframe.specs.Runs.{Begun, stateAt, memoryAt, Bits, SuperF
 use Rattle.superframe.specs.Standard.{standardRow, superFrame, standard}
 use Rattle.superframe.specs.WholeRuns.{standardCells}
 use Rattle.superframe.specs.Code.{cellLengths}
-use Rattle.superframe.specs.Received.{receivedAt, receivedFac, receivedSdc, receivedFrame}
+use Rattle.superframe.specs.Received.{receivedAt, receivedFac, receivedSdc, receivedRow, receivedFrame}
 use Rattle.superframe.specs.OnRuns.{readingOn, Out, Outs, outAt, handedOn, Told, ToldAll, Right, RightWhere, Outside, whole, OnRuns}
 use Rattle.superframe.specs.OnRuns.Told.{isLost, isKept}
 use Rattle.superframe.proofs.Places.{delay-low}
@@ -45,7 +47,7 @@ use Rattle.superframe.proofs.Calls.{fit-cells}
 use Rattle.superframe.proofs.FedRuns.{Goes, begun-runs, begun-all}
 use Rattle.superframe.proofs.SameBits.{rows-frames}
 use Rattle.superframe.proofs.SingleCalls.{as-table}
-use Rattle.superframe.proofs.Received.{row-number, received-carries}
+use Rattle.superframe.proofs.Received.{carried-cell, row-number, received-carries}
 use Rattle.superframe.proofs.ReadOnCalls.{outOf}
 use Rattle.superframe.proofs.ReadOnRuns.{facOut, sdcOut, frameOut, betweenOn, onHanding, KeepsOn, on-goes, lendOn, lend-on}
 use Rattle.superframe.proofs.ReadOnSame.{number-kept, as-read}
@@ -228,10 +230,18 @@ module _ (coding : (s : Scheme) → schemeRefusal s ≡ 0 → Coding s) where
       rw (run-sends coding run, map-table (λ f. cellLengths (s .settings) (f .fac) (f .sdc) (f .msc)) (superFrame s (bits run)) 0 (length (bits run .sdc)))
       (every-table _ 0 (length (bits run .sdc)) (λ m x y. fit-cells (s .settings) _ _ _ (cells-long s (bits run) m (coded-by coding (run .begun)))))
 
+  -- A received frame's cells.
+  on-carried : (reader : Begun) (R : List SuperFrame) (f i j : ℕ) → i < nMux (reader .scheme .settings) → j < 2
+      → getD (receivedFrame (reader .scheme) R f) (2 * place 5 (nMux (reader .scheme .settings)) i + j) (pos 0)
+      ≡ getD (receivedRow (reader .scheme) R (f + i % depth (reader .scheme .settings))) (2 * i + j) (pos 0)
+  unfolding receivedFrame
+  on-carried reader R f i j h b = carried-cell (reader .scheme .settings) (coded-by coding reader .big) (receivedRow (reader .scheme) R) f i j h b
+
 pub on-runs-of : ((s : Scheme) → schemeRefusal s ≡ 0 → Coding s) → OnRuns
 on-runs-of coding =
     record {
       tells = λ reader R calls fit F. on-tells coding reader R fit calls F;
+      carried = λ reader R f i j h b. on-carried coding reader R f i j h b;
       readable = λ reader R fit. on-readable coding reader R fit;
       sent = sent-whole coding;
       costs = λ run reader m R calls e spoiled fit F.

@@ -63,6 +63,15 @@ module _ (s : Settings) (big : 5 ≤ nMux s) (rows : ℕ → List ℤ) where
       getD-table (pos 0) (λ k. getD (deinterleaved (pos 0) 5 (sentNumbers s rows f (k % 2))) (k / 2) (pos 0)) (2 * n) (2 * place 5 n (k / 2) + k % 2) (omega arith)
       ∙ rw (a, b) (rw e at (back-at f (k % 2) (k / 2) (omega arith)))
 
+  -- The same by cell and number.
+  pub carried-cell : (f i j : ℕ) → i < nMux s → j < 2
+      → getD (carriedFrame s rows f) (2 * place 5 (nMux s) i + j) (pos 0) ≡ getD (rows (f + i % depth s)) (2 * i + j) (pos 0)
+  unfolding sentPlace delay slotSize
+  carried-cell f i j h b =
+      let c : (2 * i + j) / 2 ≡ i = omega arith in
+      let n : (2 * i + j) % 2 ≡ j = omega arith in
+      rw (c, n) at (carried-at f (2 * i + j) (omega arith))
+
 -- A cell that is kept is a point or (0, 0), and each number of the kept cells is kept by its own cell.
 module _ (s : Scheme) where
   kept-by : (cells : List ℤ) (k : ℕ) → getD cells k (pos 0) ≡ pos 0 → keptNumber s cells k ≡ pos 0

@@ -1,15 +1,17 @@
 -- What spoiled cells cost: runs of a reader that reads on, in one statement about lists of calls from an accepted Reset, refused ones in between. 02, S-13.
-use Prim.Native.Nat.{ℕ, _+_, _-_, _*_, _<_}
+use Prim.Native.Nat.{ℕ, _+_, _-_, _*_, _%_, _<_}
 use mathlib.Core.Path.{_≡_}
 use mathlib.Core.Logic.{_⊎_}
 use mathlib.Core.Bool.{Bool, true, cond, _&&_}
 use mathlib.Core.List.{List, [], _∷_, _++_, map}
 use lib.ListN.{length, getD, replicate}
-use lib.IntN.{ℤ}
+use lib.IntN.{ℤ, pos}
 use lib.Dec.{eqb}
 use Rattle.lists.specs.Lists.{table}
 use Rattle.lists.specs.Bools.{every}
 use Rattle.settings.specs.declared.Settings.{Settings}
+use Rattle.interleaver.specs.Interleaving.{place}
+use Rattle.settings.specs.Lengths.{nMux}
 use Rattle.settings.specs.Sizes.{depth, frameBytes, sdcBytes}
 use Rattle.block.specs.declared.Block.{Block}
 use Rattle.block.specs.Block.{cellsFrom}
@@ -25,7 +27,7 @@ use Rattle.superframe.specs.Code.{byteLengths, cellLengths}
 use Rattle.superframe.specs.Read.{ReadCall, answerFrames, readOf}
 use Rattle.superframe.specs.ReadOn.{ReadOnCall, lostBytes, readOnOf}
 use Rattle.superframe.specs.Runs.{Begun, stateAt, memoryAt, Bits, bitsOf, SuperFrame, Reader, reading, reads, readCount, Fed, Accepts, Run, bits, cells}
-use Rattle.superframe.specs.Received.{receivedAt, receivedFac, receivedSdc, receivedFrame}
+use Rattle.superframe.specs.Received.{receivedAt, receivedFac, receivedSdc, receivedRow, receivedFrame}
 
 -- Reading on is a reader as Read is; its outputs have room if those of Read have and there are seven bytes.
 abbrev pub readingOn : Reader ReadOnCall
@@ -116,6 +118,13 @@ pub record OnRuns : Type 0 where
       → Fed readingOn received (stateAt reader) (memoryAt reader) calls
       → Accepts readingOn received (stateAt reader) (memoryAt reader) calls
       × ToldAll (reader .scheme) received (readCount readingOn (stateAt reader) (memoryAt reader) calls) (handedOn (stateAt reader) (memoryAt reader) calls)
+  -- Cell P(i) of received frame f is cell i of row f + (i mod D), its real number (j = 0) and its imaginary one (j = 1).
+  pub carried :
+      (reader : Begun) (received : List SuperFrame) (f i j : ℕ)
+      → i < nMux (reader .scheme .settings)
+      → j < 2
+      → getD (receivedFrame (reader .scheme) received f) (2 * place 5 (nMux (reader .scheme .settings)) i + j) (pos 0)
+      ≡ getD (receivedRow (reader .scheme) received (f + i % depth (reader .scheme .settings))) (2 * i + j) (pos 0)
   -- Any such cells can be fed whole: there are such calls.
   pub readable :
       (reader : Begun) (received : List SuperFrame)
