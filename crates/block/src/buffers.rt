@@ -14,9 +14,6 @@ pub const MOST_BITS: usize = 6 * MOST_CELLS;
 // The same, packed.
 pub const MOST_BYTES: usize = (MOST_BITS + 7) / 8;
 
-// The most of memory: in long interleaving five slots, each for a frame's cells.
-pub const MOST_MEMORY: usize = 5 * MOST_NUMBERS;
-
 // The most bytes of an SDC block: 1,680 bits, of mode A with occupancy 5 in 16-QAM.
 pub const MOST_SDC_BYTES: usize = 210;
 

@@ -1,11 +1,11 @@
 -- Cells that are kept, two numbers a turn. Assumes nothing.
 use Prim.Native.Nat.{ℕ, _+_, _-_, _*_, _/_, _%_, _≤_, _<_, _^_}
-use mathlib.Core.Path.{_≡_, refl, sym, ap, _∙_}
+use mathlib.Core.Path.{_≡_, sym, ap, _∙_}
 use mathlib.Core.Bool.{Bool, false, cond, and-true}
 use mathlib.Core.List.{List, map}
 use native.Mathlib.Nat.{add-zero}
 use native.Mathlib.Omega.{arith}
-use lib.ListN.{length, getD, set, replicate, take, drop, length-take, length-drop}
+use lib.ListN.{length, getD, set, take, drop, length-take, length-drop}
 use lib.Seq.{getD-take, getD-drop, take-all}
 use lib.IntN.{ℤ, pos}
 use lib.Signed.{mag}
@@ -15,7 +15,7 @@ use mir.Syntax.{w16}
 use mir.Facts.{toZ-ofZ}
 use Rattle.lists.specs.Bools.{every}
 use Rattle.lists.specs.Lists.{table}
-use Rattle.lists.proofs.Tables.{Filled, filled-turn, filled-end, map-table, take-table, replicate-table}
+use Rattle.lists.proofs.Tables.{Filled, filled-turn, filled-end, map-table, take-table}
 use Rattle.block.specs.Mapping.{constellation}
 use Rattle.block.specs.Block.{pointsOf}
 use Rattle.block.specs.Points.{isPoint}
@@ -82,9 +82,3 @@ marks-end given lost₀ lost i g l h k w =
     filled-end _ _ _ _ 7 l (rw e at w)
     ∙ sym (map-table lostMark (λ k. getD given k false) 0 7)
     ∙ ap (map lostMark) (take-table false given 7 (omega arith) ∙ take-all 7 given (omega arith))
-
--- Zeros, one a turn.
-pub zeros-end : (d out : List ℕ) (i : ℕ) → i ≤ length d → length out ≤ i → Filled 0 (λ k. 0) d out i → out ≡ replicate (length d) 0
-zeros-end d out i h k w =
-    let e : i ≡ length d = omega (arith, w .long) in
-    filled-end 0 (λ j. 0) d out (length d) refl (rw e at w) ∙ sym (replicate-table 0 0 (length d))

@@ -7,7 +7,7 @@ ghost use mathlib.Core.Path.{_≡_};
 ghost use mathlib.Core.Bool.{cond};
 ghost use mathlib.Core.List.{map};
 ghost use lib.IntN.{pos};
-ghost use lib.ListN.{length, replicate};
+ghost use lib.ListN.{length};
 ghost use Rattle.mapping.specs.PointTests.{pointsPass, pointsOnly};
 ghost use Rattle.superframe.specs.ReadOn.{keptCells, lostMark};
 ghost use Rattle.keptcells.specs.Contracts.{CellsKept};
@@ -72,17 +72,6 @@ pub fn mark_lost(given: [bool; 7], lost: &mut [u8])
     let mut i = 0;
     while i < 7 {
         lost[i] = lost_mark(given[i]);
-        i += 1;
-    }
-}
-
-// Every byte becomes zero.
-pub fn clear(bytes: &mut [u8])
-    ensures { λ _. ⌜ now (bytes .exit) ≡ replicate (length (now (bytes .entry))) 0 ⌝ }
-{
-    let mut i = 0;
-    while i < bytes.len() {
-        bytes[i] = 0;
         i += 1;
     }
 }

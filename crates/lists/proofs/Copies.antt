@@ -1,19 +1,18 @@
--- Lists written over from the front by another list's elements, or by zeros. Assumes nothing.
+-- Lists written over from the front by another list's elements, or by one value. Assumes nothing.
 use Prim.Native.Nat.{ℕ, _≤_}
 use mathlib.Core.Path.{_≡_, refl, sym, _∙_}
 use mathlib.Core.List.{List}
 use native.Mathlib.Omega.{arith}
 use lib.ListN.{length, getD, replicate}
 use lib.Seq.{ext-getD}
-use lib.IntN.{ℤ, pos}
 use Rattle.lists.proofs.Tables.{Filled, filled-end, replicate-table}
 
 -- what is filled with a list's elements is this list
 pub copied : {A : Type 0} (z : A) (from d out : List A) (i : ℕ) → length d ≡ length from → i ≡ length from → Filled z (λ k. getD from k z) d out i → out ≡ from
 copied z from d out i e n w = ext-getD z out from (w .long ∙ e) (λ k h. w .done k (omega (arith, w .long)))
 
--- a list that is filled with zeros up to its end
-pub zeros-end : (d out : List ℤ) (i : ℕ) → i ≤ length d → length out ≤ i → Filled (pos 0) (λ k. pos 0) d out i → out ≡ replicate (length d) (pos 0)
-zeros-end d out i h k w =
+-- a list that is filled with one value up to its end
+pub filled-whole : {A : Type 0} (z : A) (d out : List A) (i : ℕ) → i ≤ length d → length out ≤ i → Filled z (λ k. z) d out i → out ≡ replicate (length d) z
+filled-whole z d out i h k w =
     let e : i ≡ length d = omega (arith, w .long) in
-    filled-end (pos 0) (λ j. pos 0) d out (length d) refl (rw e at w) ∙ sym (replicate-table (pos 0) 0 (length d))
+    filled-end z (λ j. z) d out (length d) refl (rw e at w) ∙ sym (replicate-table z 0 (length d))

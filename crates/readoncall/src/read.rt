@@ -1,9 +1,9 @@
 // The call that reads on. 02, S-13.
 use block::buffers::MOST_NUMBERS;
 use cellmemory::refusal::in_order;
-use keptcells::kept::clear;
 use keptcells::kept::keep_cells;
 use keptcells::kept::mark_lost;
+use lists::bytes::clear;
 use readcall::places::read_blocks;
 use readcall::read::read_lengths;
 use superframe::Answer;

@@ -5,7 +5,7 @@ use borrow.Author.Needs.{needs}
 use lib.ListN.{length}
 use lib.IntN.{pos}
 use Rattle.lists.proofs.Tables.{Filled, filled-start, filled-turn}
-use Rattle.lists.proofs.Copies.{zeros-end}
+use Rattle.lists.proofs.Copies.{filled-whole}
 use Rattle.lists.proofs.numbers.clear.Statement.{statement}
 use Rattle.lists.proofs.numbers.clear.Tie as tie
 
@@ -19,7 +19,7 @@ loop-again : tie.Need-loop-again Inv-loop μ-loop
 loop-again c = (search needs, filled-turn _ _ _ _ _ _ (search needs) refl (c .before .loop .inv .1))
 
 returns : tie.Need-returns Inv-loop μ-loop
-returns c = zeros-end _ _ _ (c .before .loop .inv .0) (c .loop-test .left) (c .before .loop .inv .1)
+returns c = filled-whole _ _ _ _ (c .before .loop .inv .0) (c .loop-test .left) (c .before .loop .inv .1)
 
 pub clear-spec : {M : Type 1} → statement M
 clear-spec =

@@ -1,12 +1,12 @@
--- `kept::clear` meets its contract. The loop's invariant: the bytes before i are zero. Assumes nothing.
+-- `bytes::clear` meets its contract. The loop's invariant: the bytes before i are zero. Assumes nothing.
 use Prim.Native.Nat.{ℕ, _-_, _≤_}
 use mathlib.Core.Path.{refl}
 use borrow.Author.Needs.{needs}
 use lib.ListN.{length}
 use Rattle.lists.proofs.Tables.{Filled, filled-start, filled-turn}
-use Rattle.keptcells.proofs.Turns.{zeros-end}
-use Rattle.keptcells.proofs.kept.clear.Statement.{statement}
-use Rattle.keptcells.proofs.kept.clear.Tie as tie
+use Rattle.lists.proofs.Copies.{filled-whole}
+use Rattle.lists.proofs.bytes.clear.Statement.{statement}
+use Rattle.lists.proofs.bytes.clear.Tie as tie
 
 abbrev Inv-loop : tie.InvT-loop
 Inv-loop bytes₀ i₀ bytes i = (i ≤ length bytes₀) × Filled 0 (λ (k : ℕ). 0) bytes₀ bytes i
@@ -18,7 +18,7 @@ loop-again : tie.Need-loop-again Inv-loop μ-loop
 loop-again c = (search needs, filled-turn _ _ _ _ _ _ (search needs) refl (c .before .loop .inv .1))
 
 returns : tie.Need-returns Inv-loop μ-loop
-returns c = zeros-end _ _ _ (c .before .loop .inv .0) (c .loop-test .left) (c .before .loop .inv .1)
+returns c = filled-whole _ _ _ _ (c .before .loop .inv .0) (c .loop-test .left) (c .before .loop .inv .1)
 
 pub clear-spec : {M : Type 1} → statement M
 clear-spec =
