@@ -1,0 +1,4 @@
+pub mod Hexadecimal
+pub mod Files
+pub mod Convert
+pub mod Contracts
