@@ -1,6 +1,6 @@
 -- A file's heading and its lines are the file. Assumes nothing.
-use Prim.Native.Nat.{ℕ, zero, suc, _+_, _-_, _*_, _≤_, _<_}
-use mathlib.Core.Path.{_≡_, refl, sym, ap, ap₂, subst, _∙_}
+use Prim.Native.Nat.{ℕ, _+_, _*_, _≤_}
+use mathlib.Core.Path.{_≡_, sym, ap, ap₂, subst, _∙_}
 use mathlib.Core.Bool.{Bool, true, false, cond}
 use mathlib.Core.List.{List, [], _∷_, _++_}
 use native.Mathlib.Nat.{mul-comm, mul-assoc, mul-le-mul-left}
@@ -12,7 +12,6 @@ use lib.Dec.{eqb}
 use Rattle.lists.proofs.Parts.{sets-whole}
 use Rattle.component.proofs.Sets.{sets-append}
 use Rattle.settings.specs.declared.Settings.{Settings}
-use Rattle.settings.specs.Accepted.{Accepted}
 use Rattle.settings.specs.Lengths.{nMux}
 use Rattle.settings.specs.Sizes.{depth}
 use Rattle.cellbytes.specs.CellBytes.{numbers}

@@ -1,19 +1,18 @@
 -- What the code finds of digits and numbers. Assumes nothing.
-use Prim.Native.Nat.{ℕ, zero, suc, _+_, _-_, _*_, _/_, _%_, _^_, _≤_, _<_}
-use mathlib.Core.Path.{_≡_, refl, sym, ap, ap₂, subst, _∙_}
-use mathlib.Core.Bool.{Bool, true, false, cond, _&&_, _||_}
+use Prim.Native.Nat.{ℕ, suc, _+_, _-_, _*_, _≤_, _<_}
+use mathlib.Core.Path.{_≡_, refl, sym, ap, subst, _∙_}
+use mathlib.Core.Bool.{Bool, true, false, cond, _&&_}
 use mathlib.Core.Logic.{_⊎_, inl, inr}
-use mathlib.Core.List.{List, [], _∷_, _++_, map}
+use mathlib.Core.List.{List, [], _∷_}
 use native.Mathlib.Omega.{arith}
-use borrow.Author.Tests.{lt-ltb, le-ltb, le-leb, lt-leb, eqb-true, eq-eqb, ne-eqb}
+use borrow.Author.Tests.{lt-ltb, le-ltb, le-leb, lt-leb, eqb-true, eq-eqb}
 use lib.ListN.{length, getD, take, drop}
-use lib.Dec.{ltb, leb, eqb}
+use lib.Dec.{ltb, eqb}
 use lib.IntN.{ℤ, pos, negsuc}
-use lib.Seq.{drop-cons, drop-drop}
-use Rattle.lists.specs.Same.{sameNumber}
+use lib.Seq.{drop-cons}
 use Rattle.lists.specs.Bools.{every}
 use Rattle.lists.proofs.Same.{sameNumber-refl, sameNumber-true}
-use Rattle.lists.proofs.Bools.{holds-or, never-both, unless-true, both, and-left, and-right}
+use Rattle.lists.proofs.Bools.{holds-or, unless-true, both, and-left, and-right}
 use Rattle.lists.proofs.Counting.{below-or}
 use Rattle.cellbytes.specs.TwosComplement.{modulo, twosComplement}
 use Rattle.cellbytes.specs.CellBytes.{signed, fourBits}

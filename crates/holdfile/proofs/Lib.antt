@@ -11,3 +11,4 @@ pub mod FilePut
 pub mod Valid
 pub mod SmallPoints
 pub mod Turning
+pub mod Undone

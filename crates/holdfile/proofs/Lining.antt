@@ -1,12 +1,12 @@
 -- The loop over a file's lines. Assumes nothing.
-use Prim.Native.Nat.{ℕ, zero, suc, _+_, _-_, _*_, _/_, _≤_, _<_}
+use Prim.Native.Nat.{ℕ, suc, _+_, _-_, _*_, _/_, _≤_, _<_}
 use mathlib.Core.Path.{_≡_, refl, sym, ap, ap₂, subst, _∙_}
 use mathlib.Core.Bool.{Bool, true, false, _&&_}
-use mathlib.Core.List.{List, [], _∷_, _++_}
+use mathlib.Core.List.{List, [], _++_}
 use native.Mathlib.Nat.{mul-comm, mul-assoc}
 use native.Mathlib.Omega.{arith}
 use lib.ListN.{length, take, drop, length-take, length-drop}
-use lib.Seq.{sets, drop-drop, take-take, length-sets}
+use lib.Seq.{sets, drop-drop, take-take}
 use Rattle.lists.specs.Lists.{table}
 use Rattle.lists.proofs.Bools.{never-both}
 use Rattle.lists.proofs.Parts.{sets-whole}

@@ -1,21 +1,21 @@
 -- The digits of cells as the code writes them. Assumes nothing.
-use Prim.Native.Nat.{ℕ, zero, suc, _+_, _-_, _*_, _/_, _%_, _^_, _≤_, _<_}
+use Prim.Native.Nat.{ℕ, zero, suc, _+_, _-_, _*_, _/_, _%_, _≤_, _<_}
 use mathlib.Core.Path.{_≡_, refl, sym, ap, ap₂, subst, _∙_}
 use mathlib.Core.Bool.{Bool, true, false, cond}
 use mathlib.Core.Logic.{inl, inr}
 use mathlib.Core.List.{List, [], _∷_, _++_}
-use native.Mathlib.Nat.{suc-mul, add-comm, zero-add, mul-comm, mul-assoc, mod-eq-of-lt, div-eq-of-lt, add-div-left, add-mod-left}
+use native.Mathlib.Nat.{suc-mul, zero-add, mod-eq-of-lt, div-eq-of-lt, add-div-left, add-mod-left}
 use native.Mathlib.Omega.{arith}
 use borrow.Author.Tests.{eq-eqb, ne-eqb}
 use lib.ListN.{length, getD, set, length-set, List·getD-append}
 use lib.Seq.{sets, getD-append-add}
-use lib.IntN.{ℤ, pos, negsuc}
+use lib.IntN.{ℤ, pos}
 use lib.Dec.{eqb}
 use Rattle.lists.specs.Lists.{table}
 use Rattle.lists.proofs.Counting.{below-or}
-use Rattle.lists.proofs.Tables.{length-table, table-add, table-is, table-ext}
+use Rattle.lists.proofs.Tables.{length-table, table-add, table-is}
 use Rattle.component.proofs.Sets.{sets-append}
-use Rattle.cellbytes.specs.TwosComplement.{modulo, twosComplement}
+use Rattle.cellbytes.specs.TwosComplement.{modulo}
 use Rattle.cellbytes.specs.CellBytes.{signed, realOf, imaginaryOf, numberAt, numbers}
 use Rattle.cellbytes.proofs.TwosComplement.{lower, upper}
 use Rattle.cellbytes.proofs.CellBytes.{length-numbers, number-at}

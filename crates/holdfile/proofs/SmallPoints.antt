@@ -1,7 +1,7 @@
 -- The points of every constellation have small coordinates. Assumes nothing.
-use Prim.Native.Nat.{ℕ, zero, suc, _+_, _*_, _/_, _%_, _≤_, _<_}
-use mathlib.Core.Path.{_≡_, refl, sym, ap, subst, _∙_}
-use mathlib.Core.Bool.{Bool, true, false, cond, _&&_, _||_}
+use Prim.Native.Nat.{ℕ, zero, suc, _%_}
+use mathlib.Core.Path.{_≡_, refl, ap, subst, _∙_}
+use mathlib.Core.Bool.{Bool, true, false, cond}
 use mathlib.Core.Logic.{inl, inr}
 use mathlib.Core.List.{List, [], _∷_, map}
 use native.Mathlib.Omega.{arith}
@@ -14,7 +14,7 @@ use Rattle.lists.specs.Bools.{every}
 use Rattle.lists.proofs.Same.{sameNumber-true}
 use Rattle.lists.proofs.Counting.{below-or}
 use Rattle.lists.proofs.Bools.{holds-or, never-both, both, and-left, and-right, table-every}
-use Rattle.block.specs.Mapping.{coordinate, qam4, qam16, standard64, symmetric64, Constellation, constellation, axis}
+use Rattle.block.specs.Mapping.{coordinate, qam4, qam16, standard64, symmetric64, constellation, axis}
 use Rattle.block.specs.Points.{onAxis, arePoints}
 use Rattle.cellbytes.specs.TwosComplement.{modulo, twosComplement}
 use Rattle.cellbytes.specs.CellBytes.{signed, fourBits, numbers, bytes}

@@ -1,11 +1,11 @@
 -- A file in the other form, and each way undoes the other. Assumes nothing.
-use Prim.Native.Nat.{ℕ, _+_, _*_, _/_, _%_, _≤_, _<_}
-use mathlib.Core.Path.{_≡_, refl, sym, ap, ap₂, subst, _∙_}
+use Prim.Native.Nat.{ℕ, _*_, _/_, _%_, _<_}
+use mathlib.Core.Path.{_≡_, refl, sym, ap, ap₂, _∙_}
 use mathlib.Core.Bool.{Bool, true, false, _&&_}
-use mathlib.Core.List.{List, [], _∷_, _++_}
+use mathlib.Core.List.{List, [], _∷_}
 use native.Mathlib.Omega.{arith}
 use borrow.Author.Tests.{lt-ltb, ltb-true, eqb-true, eq-eqb, ne-eqb}
-use lib.ListN.{length, getD, take, drop, replicate}
+use lib.ListN.{length, getD, drop, replicate}
 use lib.IntN.{ℤ}
 use lib.Dec.{ltb, eqb}
 use Rattle.lists.specs.Bools.{every}
@@ -23,11 +23,11 @@ use Rattle.cellbytes.proofs.CellBytes.{length-bytes, numbers-bytes}
 use Rattle.holdfile.specs.declared.Form.{Form}
 use Rattle.holdfile.specs.declared.Form.the-variants.{Old, New}
 use Rattle.holdfile.specs.Hexadecimal.{digit, digitValue, isDigit}
-use Rattle.holdfile.specs.Files.{numberDigits, LINE_FEED, ended, linesOf, heldBy, Held, fileOf, heldIn, fileLength, isLine, areLines, holds, valid}
+use Rattle.holdfile.specs.Files.{numberDigits, LINE_FEED, ended, Held, fileOf, heldIn, fileLength, isLine, areLines, holds, valid}
 use Rattle.holdfile.specs.Convert.{other, convertYield, convertRefusal, convertOf}
 use Rattle.holdfile.specs.Contracts.{digitOr, heldFrom, FileRoom, FileTaken, TurnRoom, Turned, Turnable}
 use Rattle.holdfile.proofs.Hexadecimal.{digit-is, value-is}
-use Rattle.holdfile.proofs.Lines.{line-is, length-held, lines-are, held-lines, lines-held}
+use Rattle.holdfile.proofs.Lines.{length-held, lines-are, held-lines, lines-held}
 use Rattle.holdfile.proofs.Lining.{halved}
 use Rattle.holdfile.proofs.FilePut.{depth-few}
 use Rattle.holdfile.proofs.SmallPoints.{points-small}

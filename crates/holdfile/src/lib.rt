@@ -2,6 +2,7 @@
 pub mod convert;
 pub mod digits;
 pub mod reading;
+pub mod theorems;
 pub mod writing;
 
 // The form of a file: eight digits a cell, or two.

@@ -1,9 +1,9 @@
 -- `take_line` meets its contract. Assumes nothing.
-use Prim.Native.Nat.{_+_, _*_, _-_, _≤_}
-use mathlib.Core.Path.{_≡_, sym, ap, _∙_}
+use Prim.Native.Nat.{_+_, _*_, _-_}
+use mathlib.Core.Path.{ap}
 use native.Mathlib.Omega.{arith}
 use borrow.Author.Needs.{needs}
-use lib.ListN.{length, getD}
+use lib.ListN.{getD}
 use Rattle.holdfile.specs.Files.{numberDigits}
 use Rattle.holdfile.proofs.Taking.{number-room, Taking, taking-start, taking-turn, real-missing, imaginary-missing, line-taken}
 use Rattle.holdfile.proofs.reading.take_line.Statement.{statement}

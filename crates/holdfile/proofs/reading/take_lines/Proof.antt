@@ -1,11 +1,8 @@
 -- `take_lines` meets its contract. Assumes nothing.
-use Prim.Native.Nat.{_+_, _*_, _-_, _≤_}
-use mathlib.Core.Path.{_≡_, sym, ap, subst, _∙_}
-use native.Mathlib.Omega.{arith}
+use Prim.Native.Nat.{_+_, _-_, _≤_}
 use borrow.Author.Needs.{needs}
 use borrow.Author.Tests.{not-true, not-false}
-use lib.ListN.{length, take, drop}
-use Rattle.holdfile.specs.Files.{numberDigits}
+use lib.ListN.{length}
 use Rattle.holdfile.proofs.Lining.{Lining, lining-start, line-within, slot-within, line-lent, lining-turn, lining-stop, lining-end}
 use Rattle.holdfile.proofs.reading.take_lines.Statement.{statement}
 use Rattle.holdfile.proofs.reading.take_lines.Tie as tie

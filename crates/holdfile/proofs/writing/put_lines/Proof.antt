@@ -1,6 +1,5 @@
 -- `put_lines` meets its contract. Assumes nothing.
 use Prim.Native.Nat.{_+_, _-_, _≤_}
-use native.Mathlib.Omega.{arith}
 use borrow.Author.Needs.{needs}
 use lib.ListN.{length}
 use Rattle.holdfile.proofs.LinesPut.{Writing, writing-start, slot-within, line-within, line-room, writing-turn, writing-end}

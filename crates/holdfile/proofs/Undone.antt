@@ -1,0 +1,53 @@
+-- Each way undoes the other. Assumes nothing.
+use Prim.Native.Nat.{ℕ}
+use mathlib.Core.Path.{_≡_, refl, sym, ap, _∙_}
+use mathlib.Core.Bool.{true}
+use mathlib.Core.List.{List}
+use borrow.Author.Tests.{eq-eqb}
+use lib.ListN.{length}
+use Rattle.settings.specs.declared.Settings.{Settings}
+use Rattle.settings.specs.Refusal.{first, refusal}
+use Rattle.cellbytes.specs.TwosComplement.{modulo}
+use Rattle.holdfile.specs.declared.Form.{Form}
+use Rattle.holdfile.specs.declared.Form.the-variants.{Old, New}
+use Rattle.holdfile.specs.Hexadecimal.{digit, digits}
+use Rattle.holdfile.specs.Files.{numberDigits, written, allWritten, fileOf, heldIn, fileLength, valid}
+use Rattle.holdfile.specs.Convert.{other, convertYield, convertRefusal, convertOf}
+use Rattle.holdfile.specs.Theorems.{turned, Undone, CallsUndo, ByHand, HoldFiles}
+use Rattle.holdfile.proofs.Turning.{valid-sound, file-held, held-file, file-valid}
+
+other-other : (form : Form) → other (other form) ≡ form
+unfolding other
+other-other Old = refl
+other-other New = refl
+
+undone : (form : Form) → Undone form
+unfolding turned
+undone form =
+    record {
+      stays = λ s file v. file-valid (other form) s (heldIn form s file) (valid-sound form s file v);
+      back = λ s file v. ap (fileOf (other (other form)) s) (held-file (other form) s (heldIn form s file) (valid-sound form s file v))
+          ∙ ap (λ f. fileOf f s (heldIn form s file)) (other-other form) ∙ file-held form s file v;
+    }
+
+-- a call that is not refused
+accepted-call : (form : Form) (s : Settings) (file out : List ℕ) → refusal s ≡ 0 → valid form s file ≡ true → length out ≡ fileLength (other form) s
+    → convertOf form s file out ≡ convertYield 0 (turned form s file)
+unfolding convertOf convertRefusal first turned
+accepted-call form s file out e v l = rw (e, eq-eqb (length out) (fileLength (other form) s) l, v)
+
+calls-undo : (form : Form) → CallsUndo form
+calls-undo form s file out again e v l m =
+    let u = undone form in (
+      accepted-call form s file out e v l,
+      accepted-call (other form) s (turned form s file) again e (u .stays s file v) (m ∙ ap (λ f. fileLength f s) (sym (other-other form)))
+          ∙ ap (convertYield 0) (u .back s file v),
+    )
+
+by-hand : ByHand
+unfolding allWritten written digits digit numberDigits modulo
+by-hand = record { old = refl; new = refl }
+
+pub hold-files : HoldFiles
+hold-files =
+    record { fromOld = undone Old; fromNew = undone New; callsFromOld = calls-undo Old; callsFromNew = calls-undo New; byHand = by-hand }

@@ -1,0 +1,42 @@
+-- The theorem of 02, S-7, on files: each way undoes the other on every valid file. Over the definitions that the contracts cite.
+use Prim.Native.Nat.{ℕ}
+use mathlib.Core.Path.{_≡_}
+use mathlib.Core.Bool.{true}
+use mathlib.Core.List.{List, [], _∷_}
+use lib.ListN.{length}
+use lib.IntN.{pos, negsuc}
+use Rattle.settings.specs.declared.Settings.{Settings}
+use Rattle.settings.specs.Refusal.{refusal}
+use Rattle.holdfile.specs.declared.Form.{Form}
+use Rattle.holdfile.specs.declared.Form.the-variants.{Old, New}
+use Rattle.holdfile.specs.Files.{allWritten, fileOf, heldIn, fileLength, valid}
+use Rattle.holdfile.specs.Convert.{other, convertYield, convertOf}
+
+-- The other form of a file: that of what it holds.
+unfoldable pub turned : Form → Settings → List ℕ → List ℕ
+turned form s file = fileOf (other form) s (heldIn form s file)
+
+-- For every valid file of a form its other form is valid, and turned back it is the file.
+pub record Undone (form : Form) : Type 0 where
+  pub stays : (s : Settings) (file : List ℕ) → valid form s file ≡ true → valid (other form) s (turned form s file) ≡ true
+  pub back : (s : Settings) (file : List ℕ) → valid form s file ≡ true → turned (other form) s (turned form s file) ≡ file
+
+-- So do the calls: settings that are allowed, a valid file and room of the right lengths are refused on neither way.
+abbrev pub CallsUndo : Form → Type 0
+CallsUndo form =
+    (s : Settings) (file out again : List ℕ) → refusal s ≡ 0 → valid form s file ≡ true
+    → length out ≡ fileLength (other form) s → length again ≡ fileLength form s
+    → (convertOf form s file out ≡ convertYield 0 (turned form s file))
+    × (convertOf (other form) s (turned form s file) again ≡ convertYield 0 file)
+
+-- The cell (-7, 5) by hand: FFF90005 in the old form, 95 in the new.
+pub record ByHand : Type 0 where
+  pub old : allWritten Old (negsuc 6 ∷ pos 5 ∷ []) ≡ 0x46 ∷ 0x46 ∷ 0x46 ∷ 0x39 ∷ 0x30 ∷ 0x30 ∷ 0x30 ∷ 0x35 ∷ []
+  pub new : allWritten New (negsuc 6 ∷ pos 5 ∷ []) ≡ 0x39 ∷ 0x35 ∷ []
+
+pub record HoldFiles : Type 0 where
+  pub fromOld : Undone Old
+  pub fromNew : Undone New
+  pub callsFromOld : CallsUndo Old
+  pub callsFromNew : CallsUndo New
+  pub byHand : ByHand
