@@ -3,7 +3,7 @@ use Prim.Native.Nat.{ℕ, _+_, _*_, _≤_}
 use mathlib.Core.Path.{_≡_, sym, ap, ap₂, subst, _∙_}
 use mathlib.Core.Bool.{Bool, true, false, cond}
 use mathlib.Core.List.{List, [], _∷_, _++_}
-use native.Mathlib.Nat.{mul-comm, mul-assoc, mul-le-mul-left}
+use native.Mathlib.Nat.{mul-comm, mul-assoc, mul-le-mul-left, mul-le-mul-right}
 use native.Mathlib.Omega.{arith}
 use borrow.Author.Tests.{eq-eqb, ne-eqb}
 use lib.ListN.{length, set, length-set, length-append}
@@ -49,6 +49,13 @@ pub short-file : (form : Form) (s : Settings) (n long : ℕ) → n ≡ nMux s �
 unfolding fileLength depth
 short-file form s n long e f i =
     rw (ne-eqb (s .interleaving) 0 i) (ap (λ m. 3 + m) (f ∙ ap (λ m. 2 * m * numberDigits form + 1) e ∙ omega arith))
+
+pub file-few : (form : Form) (s : Settings) → nMux s ≤ 6118 → fileLength form s ≤ 244728
+unfolding fileLength
+file-few form s h =
+    let l = line-few form (nMux s) h in
+    let d = mul-le-mul-right (2 * nMux s * numberDigits form + 1) (depth-few s) in
+    omega (arith, l, d)
 
 module _ (form : Form) (s : Settings) (position count : ℕ) (memory out : List ℕ) (f : FileRoom form s position count memory out) where
   abbrev headed : ℕ → ℕ → List ℕ

@@ -24,7 +24,7 @@ use Rattle.holdfile.specs.declared.Form.{Form}
 use Rattle.holdfile.specs.declared.Form.the-variants.{Old, New}
 use Rattle.holdfile.specs.Hexadecimal.{digit, digitValue, isDigit}
 use Rattle.holdfile.specs.Files.{numberDigits, LINE_FEED, ended, Held, fileOf, heldIn, fileLength, isLine, areLines, holds, valid}
-use Rattle.holdfile.specs.Convert.{other, convertYield, convertRefusal, convertOf}
+use Rattle.holdfile.specs.Convert.{other, convertYield, convertRefusal, convertOf, fileSizesOf}
 use Rattle.holdfile.specs.Contracts.{digitOr, heldFrom, FileRoom, FileTaken, TurnRoom, Turned, Turnable}
 use Rattle.holdfile.proofs.Hexadecimal.{digit-is, value-is}
 use Rattle.holdfile.proofs.Lines.{length-held, lines-are, held-lines, lines-held}
@@ -218,3 +218,13 @@ module _ (form : Form) (s : Settings) (file out : List ℕ) where
     pub file-turned : r ≡ true → convertYield 0 after ≡ convertOf form s file out
     unfolding convertRefusal first convertOf
     file-turned f = rw (e, eq-eqb (length out) (fileLength (other form) s) l, sym (t .test) ∙ f) (ap (convertYield 0) (t .turned f))
+
+-- the bytes of files
+pub sizes-refused : (s : Settings) (r : ℕ) → r ≡ refusal s → (r ≡ 0 → ⊥) → record { refusal = r; old = 0; new = 0 } ≡ fileSizesOf s
+unfolding fileSizesOf
+sizes-refused s r e n = rw (← e, ne-eqb r 0 n)
+
+pub sizes-found : (s : Settings) (old new : ℕ) → refusal s ≡ 0 → old ≡ fileLength Old s → new ≡ fileLength New s
+    → record { refusal = 0; old = old; new = new } ≡ fileSizesOf s
+unfolding fileSizesOf
+sizes-found s old new e f g = rw (e, f, g)

@@ -1,4 +1,5 @@
 // The calls that turn a file into the other form, and the bytes of files. 02, S-7.
+use crate::FileSizes;
 use crate::Form;
 use crate::digits::digit_or;
 use crate::reading::file_bytes;
@@ -12,8 +13,27 @@ ghost use lib.ListN.{length};
 ghost use Rattle.lists.specs.Buffers.{Long};
 ghost use Rattle.settings.specs.Accepted.{Accepted};
 ghost use Rattle.holdfile.specs.Files.{fileOf, heldIn, fileLength};
-ghost use Rattle.holdfile.specs.Convert.{other, convertYield, convertOf};
+ghost use Rattle.holdfile.specs.Convert.{other, convertYield, convertOf, fileSizesOf};
 ghost use Rattle.holdfile.specs.Contracts.{Turnable, TurnRoom, Turned};
+
+// The bytes of an old and of a new file, 0 where the settings are refused.
+pub fn sizes(s: Settings) -> FileSizes
+    ensures { λ r. ⌜ r ≡ fileSizesOf s ⌝ }
+{
+    let number = refusal(s);
+    if number != 0 {
+        return FileSizes {
+            refusal: number,
+            old: 0,
+            new: 0,
+        };
+    }
+    FileSizes {
+        refusal: 0,
+        old: file_bytes(Form::Old, s) as u32,
+        new: file_bytes(Form::New, s) as u32,
+    }
+}
 
 // Memory of the largest settings: five slots of 6118 cells.
 pub const MOST_CELLS: usize = 30590;
