@@ -50,6 +50,15 @@
  *   A byte for each cell: its high half is the real number, its low half the imaginary one, each a 4-bit two's-complement
  *   number. Slot after slot of N1 + N2 cells in mapping order, five slots in long interleaving and one in short.
  *
+ * Hold files
+ *   Position, count and memory as text, for a power-down; settings and table are not in it. Lines of the digits 0 to 9 and
+ *   A to F, each ended by a line feed (byte 10), and nothing after the last: a line of two digits, position and count, then
+ *   a line for each slot of memory, slot 0 first, with its cells in mapping order. Old form: eight digits a cell, the real
+ *   and the imaginary number in 16-bit two's complement, high digit first. New form: two digits a cell, memory's byte, high
+ *   half first. Every position and count up to 4 (0 in short interleaving) passes, and every point of the MSC's
+ *   constellation; the cell (0, 0), which was stored in a run's first frames while frames before the first had such
+ *   cells, does not.
+ *
  * Cells
  *   Two numbers a cell, real before imaginary, odd, from -1 to 1 in 4-QAM, -3 to 3 in 16-QAM and -7 to 7 in 64-QAM.
  *   The FAC has 390 numbers for its three blocks. The MSC numbers are three rows of N1 + N2 sent cells each, and then
@@ -78,6 +87,8 @@
  *    15  a field of an FAC block too large for its bits, or against the settings
  *    16  an FAC block with a wrong CRC
  *    17  a grid of the wrong length
+ *    18  a hold file with a wrong number of lines, a line of a wrong length, a digit outside 0 to 9 and A to F, a position
+ *        or count that 12 refuses, or a cell that is no point of the MSC's constellation: a wrong length is 18 and not 9
  *    19  a multiplex description whose part A lengths do not add up to X, or whose bytes are too many for the frame or for
  *        its VSPP
  *    20  a multiplex frame whose filling is not zero
@@ -123,6 +134,7 @@ enum {
     DRM_FAC_VALUES = 130,
     DRM_FAC_CELLS = 65,
     DRM_GRID_SIZES = 3,
+    DRM_HOLD_SIZES = 2,
     DRM_LOST_BYTES = 7,
     DRM_HOW_LONG_NUMBERS = 3,
     DRM_RULE_BYTES = 14,
@@ -137,6 +149,8 @@ enum {
     DRM_MOST_MSC_NUMBERS = 36708,
     DRM_MOST_MEMORY_BYTES = 30590,
     DRM_MOST_GRID_NUMBERS = 62235,
+    DRM_MOST_OLD_HOLD_BYTES = 244728,
+    DRM_MOST_NEW_HOLD_BYTES = 61188,
     DRM_MOST_RULES = 64
 };
 
@@ -163,6 +177,7 @@ enum {
     DRM_REFUSED_FIELD = 15,
     DRM_REFUSED_CRC = 16,
     DRM_REFUSED_GRID_LENGTH = 17,
+    DRM_REFUSED_HOLD_FILE = 18,
     DRM_REFUSED_STREAM_LENGTHS = 19,
     DRM_REFUSED_FILLING = 20,
     DRM_REFUSED_VALUE = 21,
@@ -281,6 +296,34 @@ uint16_t drm_read_on(uint8_t *state, size_t state_len, uint8_t *memory, size_t m
                      size_t fac_cells_len, const int16_t *sdc_cells, size_t sdc_cells_len, const int16_t *msc_cells,
                      size_t msc_cells_len, uint8_t *fac, size_t fac_len, uint8_t *sdc, size_t sdc_len, uint8_t *msc,
                      size_t msc_len, uint8_t *lost, size_t lost_len);
+
+/*
+ * Sizes of hold files: bytes of an old and of a new one.
+ *   settings   10 bytes
+ *   sizes      2 numbers, written if the answer is 0
+ * Answers 0, 1 to 7, or 255.
+ */
+uint8_t drm_hold_sizes(const uint8_t *settings, size_t settings_len, uint32_t *sizes, size_t sizes_len);
+
+/*
+ * Turns an old hold file into the new form. drm_to_old turns it back, byte for byte.
+ *   settings   10 bytes, those that the file was stored under
+ *   old_file   as many bytes as drm_hold_sizes says, else 18
+ *   new_file   as many bytes as drm_hold_sizes says: all are written if the answer is 0
+ * Answers 0, 1 to 7, 10 (new_file), 18 or 255.
+ */
+uint8_t drm_to_new(const uint8_t *settings, size_t settings_len, const uint8_t *old_file, size_t old_file_len,
+                   uint8_t *new_file, size_t new_file_len);
+
+/*
+ * Turns a new hold file into the old form. drm_to_new turns it back, byte for byte.
+ *   settings   10 bytes, those that the file was stored under
+ *   new_file   as many bytes as drm_hold_sizes says, else 18
+ *   old_file   as many bytes as drm_hold_sizes says: all are written if the answer is 0
+ * Answers 0, 1 to 7, 10 (old_file), 18 or 255.
+ */
+uint8_t drm_to_old(const uint8_t *settings, size_t settings_len, const uint8_t *new_file, size_t new_file_len,
+                   uint8_t *old_file, size_t old_file_len);
 
 /*
  * Builds an FAC block from its fields; reserved bits are zero.

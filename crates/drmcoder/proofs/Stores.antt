@@ -13,9 +13,12 @@ use Rattle.settings.specs.Lengths.{lengthsOf}
 use Rattle.settings.specs.Sizes.{sizesOf}
 use Rattle.grid.specs.declared.GridSizes.{GridSizes}
 use Rattle.grid.specs.Calls.{gridSizes}
+use Rattle.holdfile.specs.declared.FileSizes.{FileSizes}
+use Rattle.holdfile.specs.Convert.{fileSizesOf}
 use Rattle.drmcoder.specs.Bytes.{settingsOf}
 use Rattle.drmcoder.specs.Numbers.{Numbers, yielded, lengthsInto, lengthsBytes, sizesInto, sizesBytes}
 use Rattle.drmcoder.specs.Grids.{gridSizesInto, gridSizesBytes}
+use Rattle.drmcoder.specs.Holds.{fileSizesInto, holdSizesBytes}
 use Rattle.drmcoder.proofs.Tests.{both-right}
 
 pub lengths-stored : (l : Lengths) (d : List ℕ) → l .refusal ≡ 0 → length d ≡ 5
@@ -61,3 +64,17 @@ pub grid-sizes-right : (s d : List ℕ) (t : Settings) (z : GridSizes) (y : Numb
     → y ≡ gridSizesInto z d → y ≡ gridSizesBytes s d
 unfolding gridSizesBytes
 grid-sizes-right s d t z y hs hd et ez ey = rw (ey, ez, et) (both-right _ _ _ _ _ _ hs hd)
+
+-- The bytes of hold files.
+pub hold-sizes-stored : (z : FileSizes) (d : List ℕ) → z .refusal ≡ 0 → length d ≡ 2 → yielded 0 (sets d 0 (z .old ∷ z .new ∷ [])) ≡ fileSizesInto z d
+unfolding fileSizesInto
+hold-sizes-stored z d e h = rw (eq-eqb (z .refusal) 0 e, sets-whole d (z .old ∷ z .new ∷ []) h)
+
+pub hold-sizes-refused : (z : FileSizes) (d : List ℕ) → (z .refusal ≡ 0 → ⊥) → yielded (z .refusal) d ≡ fileSizesInto z d
+unfolding fileSizesInto
+hold-sizes-refused z d h = rw (ne-eqb (z .refusal) 0 h)
+
+pub hold-sizes-right : (s d : List ℕ) (t : Settings) (z : FileSizes) (y : Numbers) → length s ≡ 10 → length d ≡ 2 → t ≡ settingsOf s → z ≡ fileSizesOf t
+    → y ≡ fileSizesInto z d → y ≡ holdSizesBytes s d
+unfolding holdSizesBytes
+hold-sizes-right s d t z y hs hd et ez ey = rw (ey, ez, et) (both-right _ _ _ _ _ _ hs hd)

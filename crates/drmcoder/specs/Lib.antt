@@ -5,6 +5,7 @@ pub mod Calls
 pub mod Preview
 pub mod ReadOn
 pub mod Grids
+pub mod Holds
 pub mod HowLong
 pub mod Mux
 pub mod Decide

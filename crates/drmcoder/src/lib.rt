@@ -5,6 +5,7 @@ pub mod decide;
 pub mod disperse;
 pub mod fac;
 pub mod grids;
+pub mod holds;
 pub mod long;
 pub mod mux;
 pub mod numbers;
