@@ -207,6 +207,44 @@ static void treat_in_pieces(void) {
     must(drm_disperse(0, 12, whole, 2, two, 2) == DRM_REFUSED_SPARE_BIT, "a spare bit is refused by 11");
 }
 
+/* A new hold file of the coder by hand: position and count, then a line for each slot. */
+static void write_file(const uint8_t *settings, uint8_t *file) {
+    static const char digits[] = "0123456789ABCDEF";
+    size_t slots = settings[9] == 0 ? 5 : 1, i, k = 0;
+    file[k++] = (uint8_t)digits[coder.state[10]];
+    file[k++] = (uint8_t)digits[coder.state[11]];
+    file[k++] = '\n';
+    for (i = 0; i < sizes[MEMORY]; i++) {
+        file[k++] = (uint8_t)digits[coder.memory[i] / 16];
+        file[k++] = (uint8_t)digits[coder.memory[i] % 16];
+        if ((i + 1) % (sizes[MEMORY] / slots) == 0)
+            file[k++] = '\n';
+    }
+}
+
+/* The coder's hold file in the new form, turned into the old one and back; then files that are none. */
+static void hold_files(const uint8_t *settings) {
+    static uint8_t file[DRM_MOST_NEW_HOLD_BYTES], old[DRM_MOST_OLD_HOLD_BYTES], back[DRM_MOST_NEW_HOLD_BYTES];
+    uint32_t bytes[DRM_HOLD_SIZES];
+    must(drm_hold_sizes(settings, DRM_SETTINGS_BYTES, bytes, DRM_HOLD_SIZES) == DRM_ACCEPTED, "the settings have hold files");
+    write_file(settings, file);
+    must(drm_to_old(settings, DRM_SETTINGS_BYTES, file, bytes[1], old, bytes[0]) == DRM_ACCEPTED, "the file is turned");
+    must(drm_to_new(settings, DRM_SETTINGS_BYTES, old, bytes[0], back, bytes[1]) == DRM_ACCEPTED, "it is turned back");
+    must(memcmp(back, file, bytes[1]) == 0, "it is the file again");
+    printf("hold file: %u bytes, %u in the old form, first cell %.2s and %.8s, turned there and back\n", bytes[1], bytes[0],
+           (const char *)file + 3, (const char *)old + 3);
+    must(drm_to_new(settings, DRM_SETTINGS_BYTES, old, bytes[0], back, bytes[1] - 1) == DRM_REFUSED_OUTPUT_LENGTH,
+         "room without its last byte is refused by 10");
+    must(drm_to_new(settings, DRM_SETTINGS_BYTES, old, bytes[0] - 1, back, bytes[1]) == DRM_REFUSED_HOLD_FILE,
+         "a file without its last line feed is refused by 18");
+    memcpy(old + 3, "00000000", 8);
+    must(drm_to_new(settings, DRM_SETTINGS_BYTES, old, bytes[0], back, bytes[1]) == DRM_REFUSED_HOLD_FILE,
+         "the cell (0, 0) is refused by 18");
+    file[3] = 'f';
+    must(drm_to_old(settings, DRM_SETTINGS_BYTES, file, bytes[1], old, bytes[0]) == DRM_REFUSED_HOLD_FILE,
+         "a small letter is refused by 18");
+}
+
 /* Whether what was read is what was brought, out frames being handed out before. */
 static void compare(size_t out, size_t finished) {
     size_t bytes = sizes[MSC_BYTES] / 3, i;
@@ -248,6 +286,8 @@ static void run(const uint8_t *settings) {
     }
     must(out >= 3 * (SUPER_FRAMES - CLOSING), "every frame before the closing is read");
     printf("; %d frames brought, %d read as brought\n", FRAMES, (int)out);
+    printf("  ");
+    hold_files(settings);
 }
 
 /* A super frame with a puncturing table of one's own: rate 3/5 keeps b1 of its second column, not of its third. */
