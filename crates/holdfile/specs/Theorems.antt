@@ -1,15 +1,19 @@
 -- The theorem of 02, S-7, on files: each way undoes the other on every valid file. Over the definitions that the contracts cite.
-use Prim.Native.Nat.{ℕ}
+use Prim.Native.Nat.{ℕ, _*_}
 use mathlib.Core.Path.{_≡_}
 use mathlib.Core.Bool.{true}
 use mathlib.Core.List.{List, [], _∷_}
 use lib.ListN.{length}
-use lib.IntN.{pos, negsuc}
+use lib.IntN.{ℤ, pos, negsuc}
 use Rattle.settings.specs.declared.Settings.{Settings}
 use Rattle.settings.specs.Refusal.{refusal}
+use Rattle.settings.specs.Lengths.{nMux}
+use Rattle.settings.specs.Sizes.{depth}
+use Rattle.cellbytes.specs.CellBytes.{cellByte}
 use Rattle.holdfile.specs.declared.Form.{Form}
 use Rattle.holdfile.specs.declared.Form.the-variants.{Old, New}
-use Rattle.holdfile.specs.Files.{allWritten, fileOf, heldIn, fileLength, valid}
+use Rattle.holdfile.specs.Hexadecimal.{digits}
+use Rattle.holdfile.specs.Files.{allWritten, Held, fileOf, heldIn, fileLength, holds, valid}
 use Rattle.holdfile.specs.Convert.{other, convertYield, convertOf}
 
 -- The other form of a file: that of what it holds.
@@ -29,6 +33,17 @@ CallsUndo form =
     → (convertOf form s file out ≡ convertYield 0 (turned form s file))
     × (convertOf (other form) s (turned form s file) again ≡ convertYield 0 file)
 
+-- The valid files of a form are exactly the files of what may be held, one for each: every position and count that 12 lets pass,
+-- and every memory of MSC points.
+pub record Exact (form : Form) : Type 0 where
+  pub only : (s : Settings) (file : List ℕ) → valid form s file ≡ true → fileOf form s (heldIn form s file) ≡ file
+  pub every : (s : Settings) (h : Held) → length (h .numbers) ≡ depth s * (2 * nMux s) → holds s h ≡ true
+      → (valid form s (fileOf form s h) ≡ true) × (heldIn form s (fileOf form s h) ≡ h)
+
+-- The two digits of a cell in the new form are those of its byte of memory.
+abbrev pub DigitsOfByte : Type 0
+DigitsOfByte = (re im : ℤ) → allWritten New (re ∷ im ∷ []) ≡ digits 2 (cellByte re im)
+
 -- The cell (-7, 5) by hand: FFF90005 in the old form, 95 in the new.
 pub record ByHand : Type 0 where
   pub old : allWritten Old (negsuc 6 ∷ pos 5 ∷ []) ≡ 0x46 ∷ 0x46 ∷ 0x46 ∷ 0x39 ∷ 0x30 ∷ 0x30 ∷ 0x30 ∷ 0x35 ∷ []
@@ -39,4 +54,6 @@ pub record HoldFiles : Type 0 where
   pub fromNew : Undone New
   pub callsFromOld : CallsUndo Old
   pub callsFromNew : CallsUndo New
+  pub exact : (form : Form) → Exact form
+  pub digitsOfByte : DigitsOfByte
   pub byHand : ByHand
