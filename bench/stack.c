@@ -10,11 +10,11 @@
 
 #include "drmcoder.h"
 
-enum { STACK = 8 * 1024 * 1024, PAINT = 0xA5, CALLS = 17 };
+enum { STACK = 8 * 1024 * 1024, PAINT = 0xA5, CALLS = 19 };
 
 static const char *const names[CALLS] = {"lengths", "sizes", "reset", "code", "read", "nearest", "fac_build",
                                          "fac_read", "grid_sizes", "grid_place", "grid_take", "decide", "disperse",
-                                         "reset_table", "preview", "mux_build", "mux_read"};
+                                         "reset_table", "preview", "mux_build", "mux_read", "to_old", "to_new"};
 static unsigned char *stack;
 
 /* What the calls are lent; all bits are zero. */
@@ -33,6 +33,7 @@ static uint8_t measured_kinds[DRM_FAC_CELLS], measured_bits[6 * DRM_FAC_CELLS];
 static float measured[2 * DRM_FAC_CELLS];
 static int16_t points[2 * DRM_FAC_CELLS];
 static uint8_t logical[DRM_MOST_MSC_BYTES / 3];
+static uint8_t new_file[DRM_MOST_NEW_HOLD_BYTES], old_file[DRM_MOST_OLD_HOLD_BYTES];
 static unsigned answer;
 
 /* Bodies of the threads. */
@@ -117,6 +118,29 @@ static void *call_mux_read(void *unused) {
     return unused;
 }
 
+/* The new hold file of memory, position and count being 0. */
+static void *call_to_old(void *unused) {
+    static const char digits[] = "0123456789ABCDEF";
+    uint32_t bytes[DRM_HOLD_SIZES], slot = sizes[5] / (settings[9] == 0 ? 5 : 1), i, k = 3;
+    memcpy(new_file, "00\n", 3);
+    for (i = 0; i < sizes[5]; i++) {
+        new_file[k++] = (uint8_t)digits[memory[i] / 16];
+        new_file[k++] = (uint8_t)digits[memory[i] % 16];
+        if ((i + 1) % slot == 0)
+            new_file[k++] = '\n';
+    }
+    drm_hold_sizes(settings, sizeof settings, bytes, DRM_HOLD_SIZES);
+    answer = drm_to_old(settings, sizeof settings, new_file, bytes[1], old_file, bytes[0]);
+    return unused;
+}
+
+static void *call_to_new(void *unused) {
+    uint32_t bytes[DRM_HOLD_SIZES];
+    drm_hold_sizes(settings, sizeof settings, bytes, DRM_HOLD_SIZES);
+    answer = drm_to_new(settings, sizeof settings, old_file, bytes[0], new_file, bytes[1]);
+    return unused;
+}
+
 /* The four fields that must agree with the settings. */
 static void *call_fac_build(void *unused) {
     fields[2] = settings[1];
@@ -185,8 +209,9 @@ static void measure(size_t deepest[CALLS]) {
                                               call_code,    call_reset, call_read,  call_read, call_read,
                                               call_nearest, call_fac_build, call_fac_read, call_grid_sizes,
                                               call_grid_place, call_grid_take, call_decide, call_disperse,
-                                              call_reset_table, call_preview, call_mux_build, call_mux_read};
-    static const int kinds[] = {0, 1, 2, 3, 3, 3, 2, 4, 4, 4, 5, 6, 7, 8, 9, 10, 11, 12, 13, 14, 15, 16};
+                                              call_reset_table, call_preview, call_mux_build, call_mux_read, call_to_old,
+                                              call_to_new};
+    static const int kinds[] = {0, 1, 2, 3, 3, 3, 2, 4, 4, 4, 5, 6, 7, 8, 9, 10, 11, 12, 13, 14, 15, 16, 17, 18};
     size_t empty = depth(nothing), k;
     for (k = 0; k < sizeof kinds / sizeof kinds[0]; k++) {
         size_t used = depth(bodies[k]) - empty;
