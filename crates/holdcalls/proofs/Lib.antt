@@ -1,0 +1,2 @@
+pub mod StoreCalls
+pub mod RestoreCalls
