@@ -1,2 +1,5 @@
 pub mod StoreCalls
 pub mod RestoreCalls
+pub mod StoredBack
+pub mod MemoryBytes
+pub mod RunsOn

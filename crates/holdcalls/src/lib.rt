@@ -2,3 +2,4 @@
 pub mod refusals;
 pub mod restore;
 pub mod store;
+pub mod theorems;
