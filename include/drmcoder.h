@@ -29,8 +29,8 @@
  * State: 208 bytes
  *   The ten bytes of the settings, the position (0 to 4: the slot of memory that is written next), the count of
  *   frames seen (0 to 4, where it stops), and the 196 numbers of the puncturing table. In short interleaving position
- *   and count are 0. A coder and a reader each have a state and a memory of their own; before the first drm_reset or
- *   drm_reset_table both may hold anything.
+ *   and count are 0. A coder and a reader each have a state and a memory of their own; before the first drm_reset,
+ *   drm_reset_table or drm_restore_.. both may hold anything.
  *
  * Puncturing table: 196 numbers
  *   For the code rates 1/4, 3/10, 1/3, 4/11, 1/2, 4/7, 3/5, 2/3, 8/11, 3/4, 4/5, 7/8, 8/9 in this order: the rows B0, B1,
@@ -74,7 +74,7 @@
  *     6  SDC mode or interleaving
  *     7  part A too long: N1 leaves part B fewer than 20 cells
  *    23  a puncturing table, lent or in a state, that does not pass or has not 196 numbers (not the one of the old state
- *        that is handed to a reset); this goes after 7 and before 8
+ *        that is handed to a reset or a restore); this goes after 7 and before 8
  *     8  memory of the wrong length
  *     9  an input of the wrong length
  *    10  an output of the wrong length
@@ -324,6 +324,54 @@ uint8_t drm_to_new(const uint8_t *settings, size_t settings_len, const uint8_t *
  */
 uint8_t drm_to_old(const uint8_t *settings, size_t settings_len, const uint8_t *new_file, size_t new_file_len,
                    uint8_t *old_file, size_t old_file_len);
+
+/*
+ * Stores a state and its memory in an old hold file. Between two calls of a run only 10 refuses it. Neither state nor memory
+ * is written; keep the settings, and a table of one's own, beside the file.
+ *   state      208 bytes, as the last accepted call of the run left them
+ *   memory     likewise
+ *   file       as many bytes as drm_hold_sizes says: all are written if the answer is 0
+ * Answers 0, 1 to 7, 23, 8, 10 (file), 12, or 255.
+ */
+uint8_t drm_store_old(const uint8_t *state, size_t state_len, const uint8_t *memory, size_t memory_len, uint8_t *file,
+                      size_t file_len);
+
+/* The same in a new hold file: what drm_to_new makes of the old one. */
+uint8_t drm_store_new(const uint8_t *state, size_t state_len, const uint8_t *memory, size_t memory_len, uint8_t *file,
+                      size_t file_len);
+
+/*
+ * Restores a run from an old hold file: the state takes the settings, the standard's puncturing table, and position and
+ * count of the file, and memory its cells. With the settings that it was stored under, the run goes on as if it had not
+ * been interrupted.
+ *   state      208 bytes, whatever they hold
+ *   settings   10 bytes, those that the file was stored under
+ *   file       as many bytes as drm_hold_sizes says, else 18
+ *   memory     as many bytes as drm_sizes says, whatever they hold
+ * Answers 0, 1 to 8, 18, or 255.
+ */
+uint8_t drm_restore_old(uint8_t *state, size_t state_len, const uint8_t *settings, size_t settings_len,
+                        const uint8_t *file, size_t file_len, uint8_t *memory, size_t memory_len);
+
+/* The same from a new hold file. */
+uint8_t drm_restore_new(uint8_t *state, size_t state_len, const uint8_t *settings, size_t settings_len,
+                        const uint8_t *file, size_t file_len, uint8_t *memory, size_t memory_len);
+
+/*
+ * Restores a run that has a puncturing table of its own from an old hold file: drm_restore_old with that table in place of
+ * the standard's.
+ *   table      196 numbers, those that the run was begun with
+ *   the others as for drm_restore_old
+ * Answers 0, 1 to 7, 23, 8, 18, or 255.
+ */
+uint8_t drm_restore_old_table(uint8_t *state, size_t state_len, const uint8_t *settings, size_t settings_len,
+                              const uint8_t *table, size_t table_len, const uint8_t *file, size_t file_len,
+                              uint8_t *memory, size_t memory_len);
+
+/* The same from a new hold file. */
+uint8_t drm_restore_new_table(uint8_t *state, size_t state_len, const uint8_t *settings, size_t settings_len,
+                              const uint8_t *table, size_t table_len, const uint8_t *file, size_t file_len,
+                              uint8_t *memory, size_t memory_len);
 
 /*
  * Builds an FAC block from its fields; reserved bits are zero.

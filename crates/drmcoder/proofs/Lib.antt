@@ -3,3 +3,4 @@ pub mod Tests
 pub mod Answers
 pub mod Placed
 pub mod Planned
+pub mod Restored

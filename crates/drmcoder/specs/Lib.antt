@@ -4,6 +4,7 @@ pub mod Numbers
 pub mod Calls
 pub mod Preview
 pub mod ReadOn
+pub mod Restores
 pub mod Grids
 pub mod Holds
 pub mod HowLong

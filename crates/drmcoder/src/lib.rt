@@ -12,3 +12,4 @@ pub mod numbers;
 pub mod plans;
 pub mod preview;
 pub mod read_on;
+pub mod restores;
