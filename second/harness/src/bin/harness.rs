@@ -10,7 +10,7 @@ use harness::lent::{Kind, Lent};
 use harness::measured;
 use harness::nearest;
 use harness::tally::Tally;
-use harness::{disperse, halves, how_long, own, plans, previews, read_ons, requests, streams, tables};
+use harness::{disperse, halves, holds, how_long, own, plans, previews, read_ons, requests, streams, tables};
 use second::settings::{Settings, PAIRINGS};
 use second::superframe::STATE_BYTES;
 use second::{counts, refusals, runs};
@@ -40,6 +40,7 @@ fn main() -> ExitCode {
         ["decide"] => return report(counted(measured::random_calls())),
         ["disperse"] => return report(dispersal_calls()),
         ["tables"] => return report(tables::calls(SEED, &tables::own(), &requests::CODER)),
+        ["hold"] => return report(holds::calls(SEED, &holds::OWN, &requests::HOLD)),
         ["preview"] => return report(previews::calls(SEED, own::preview, requests::preview)),
         ["read-on"] => return report(read_ons::calls(SEED, own::read_on, requests::read_on)),
         ["streams"] => return report(streams::calls(SEED, &streams::OWN, &requests::MUX)),
@@ -49,7 +50,7 @@ fn main() -> ExitCode {
         ["counts"] => counts::print(&Archive, &mut out),
         ["refusals"] => refusals::print(&Archive, &mut out),
         _ => {
-            eprintln!("harness [grid | decide | disperse | tables | preview | read-on | streams | how-long | plan | runs | counts | refusals]");
+            eprintln!("harness [grid | decide | disperse | tables | hold | preview | read-on | streams | how-long | plan | runs | counts | refusals]");
             return ExitCode::from(2);
         }
     };
