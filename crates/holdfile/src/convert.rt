@@ -5,6 +5,7 @@ use crate::digits::digit_or;
 use crate::reading::file_bytes;
 use crate::reading::take_file;
 use crate::writing::put_file;
+use block::buffers::MOST_CELLS;
 use settings::Settings;
 use settings::answers;
 use settings::refusals::refusal;
@@ -35,13 +36,11 @@ pub fn sizes(s: Settings) -> FileSizes
     }
 }
 
-// Memory of the largest settings: five slots of 6118 cells.
-pub const MOST_CELLS: usize = 30590;
-
-fn cells() -> [u8; 30590]
+// Memory of the largest settings: five slots.
+fn memory_buffer() -> [u8; 5 * MOST_CELLS]
     ensures { λ r. ⌜ Long 30590 r ⌝ }
 {
-    [0u8; 30590]
+    [0u8; 5 * MOST_CELLS]
 }
 
 // The other form.
@@ -86,7 +85,7 @@ fn turn_file(form: Form, s: Settings, file: &[u8], out: &mut [u8]) -> bool
     ensures { λ r. ⌜ Turned form s (now (file .entry)) (now (out .entry)) r (now (out .exit)) ⌝ }
 {
     let n = answers::memory_bytes(s);
-    let mut memory = cells();
+    let mut memory = memory_buffer();
     turn_in(form, s, file, &mut memory[0..n], out)
 }
 

@@ -11,7 +11,7 @@ use Rattle.holdfile.proofs.convert.turn_file.Tie as tie
 part-memory-end : tie.Need-part-memory-end
 part-memory-end c =
     let s = c .before .before .before .before in
-    omega (arith, c .before .memory-bytes .ensures, memory-low (s .args .s) (s .pre .0), c .cells .ensures .long)
+    omega (arith, c .before .memory-bytes .ensures, memory-low (s .args .s) (s .pre .0), c .memory-buffer .ensures .long)
 
 turn-in-requires : tie.Need-turn-in-requires
 turn-in-requires c κs =
@@ -19,8 +19,8 @@ turn-in-requires c κs =
     record {
       accepted = s .pre .0;
       cells =
-          length-take (c .before .before .before .memory-bytes .result - 0) (c .before .before .cells .result)
-          ∙ omega (arith, c .before .before .before .memory-bytes .ensures, memory-low (s .args .s) (s .pre .0), c .before .before .cells .ensures .long);
+          length-take (c .before .before .before .memory-bytes .result - 0) (c .before .before .memory-buffer .result)
+          ∙ omega (arith, c .before .before .before .memory-bytes .ensures, memory-low (s .args .s) (s .pre .0), c .before .before .memory-buffer .ensures .long);
       room = s .pre .1;
     }
 
