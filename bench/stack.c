@@ -10,11 +10,12 @@
 
 #include "drmcoder.h"
 
-enum { STACK = 8 * 1024 * 1024, PAINT = 0xA5, CALLS = 19 };
+enum { STACK = 8 * 1024 * 1024, PAINT = 0xA5, CALLS = 23 };
 
 static const char *const names[CALLS] = {"lengths", "sizes", "reset", "code", "read", "nearest", "fac_build",
                                          "fac_read", "grid_sizes", "grid_place", "grid_take", "decide", "disperse",
-                                         "reset_table", "preview", "mux_build", "mux_read", "to_old", "to_new"};
+                                         "reset_table", "preview", "mux_build", "mux_read", "to_old", "to_new",
+                                         "store_old", "store_new", "restore_old", "restore_new_table"};
 static unsigned char *stack;
 
 /* What the calls are lent; all bits are zero. */
@@ -34,6 +35,8 @@ static float measured[2 * DRM_FAC_CELLS];
 static int16_t points[2 * DRM_FAC_CELLS];
 static uint8_t logical[DRM_MOST_MSC_BYTES / 3];
 static uint8_t new_file[DRM_MOST_NEW_HOLD_BYTES], old_file[DRM_MOST_OLD_HOLD_BYTES];
+static uint32_t of_files[DRM_HOLD_SIZES];
+static uint8_t table[DRM_TABLE_NUMBERS];
 static unsigned answer;
 
 /* Bodies of the threads. */
@@ -59,7 +62,6 @@ static void *call_reset(void *unused) {
 
 /* With the table of the last accepted reset. */
 static void *call_reset_table(void *unused) {
-    static uint8_t table[DRM_TABLE_NUMBERS];
     memcpy(table, state + sizeof state - sizeof table, sizeof table);
     answer = drm_reset_table(state, sizeof state, settings, sizeof settings, table, sizeof table, memory, sizes[5]);
     return unused;
@@ -118,26 +120,35 @@ static void *call_mux_read(void *unused) {
     return unused;
 }
 
-/* The new hold file of memory, position and count being 0. */
+/* State and memory to files, a file to the other form, and state and memory back. */
+static void *call_store_old(void *unused) {
+    answer = drm_store_old(state, sizeof state, memory, sizes[5], old_file, of_files[0]);
+    return unused;
+}
+
+static void *call_store_new(void *unused) {
+    answer = drm_store_new(state, sizeof state, memory, sizes[5], new_file, of_files[1]);
+    return unused;
+}
+
 static void *call_to_old(void *unused) {
-    static const char digits[] = "0123456789ABCDEF";
-    uint32_t bytes[DRM_HOLD_SIZES], slot = sizes[5] / (settings[9] == 0 ? 5 : 1), i, k = 3;
-    memcpy(new_file, "00\n", 3);
-    for (i = 0; i < sizes[5]; i++) {
-        new_file[k++] = (uint8_t)digits[memory[i] / 16];
-        new_file[k++] = (uint8_t)digits[memory[i] % 16];
-        if ((i + 1) % slot == 0)
-            new_file[k++] = '\n';
-    }
-    drm_hold_sizes(settings, sizeof settings, bytes, DRM_HOLD_SIZES);
-    answer = drm_to_old(settings, sizeof settings, new_file, bytes[1], old_file, bytes[0]);
+    answer = drm_to_old(settings, sizeof settings, new_file, of_files[1], old_file, of_files[0]);
     return unused;
 }
 
 static void *call_to_new(void *unused) {
-    uint32_t bytes[DRM_HOLD_SIZES];
-    drm_hold_sizes(settings, sizeof settings, bytes, DRM_HOLD_SIZES);
-    answer = drm_to_new(settings, sizeof settings, old_file, bytes[0], new_file, bytes[1]);
+    answer = drm_to_new(settings, sizeof settings, old_file, of_files[0], new_file, of_files[1]);
+    return unused;
+}
+
+static void *call_restore_old(void *unused) {
+    answer = drm_restore_old(state, sizeof state, settings, sizeof settings, old_file, of_files[0], memory, sizes[5]);
+    return unused;
+}
+
+static void *call_restore_new_table(void *unused) {
+    answer = drm_restore_new_table(state, sizeof state, settings, sizeof settings, table, sizeof table, new_file,
+                                   of_files[1], memory, sizes[5]);
     return unused;
 }
 
@@ -209,9 +220,10 @@ static void measure(size_t deepest[CALLS]) {
                                               call_code,    call_reset, call_read,  call_read, call_read,
                                               call_nearest, call_fac_build, call_fac_read, call_grid_sizes,
                                               call_grid_place, call_grid_take, call_decide, call_disperse,
-                                              call_reset_table, call_preview, call_mux_build, call_mux_read, call_to_old,
-                                              call_to_new};
-    static const int kinds[] = {0, 1, 2, 3, 3, 3, 2, 4, 4, 4, 5, 6, 7, 8, 9, 10, 11, 12, 13, 14, 15, 16, 17, 18};
+                                              call_reset_table, call_preview, call_mux_build, call_mux_read,
+                                              call_store_old, call_store_new, call_to_old, call_to_new,
+                                              call_restore_old, call_restore_new_table};
+    static const int kinds[] = {0, 1, 2, 3, 3, 3, 2, 4, 4, 4, 5, 6, 7, 8, 9, 10, 11, 12, 13, 14, 15, 16, 19, 20, 17, 18, 21, 22};
     size_t empty = depth(nothing), k;
     for (k = 0; k < sizeof kinds / sizeof kinds[0]; k++) {
         size_t used = depth(bodies[k]) - empty;
@@ -231,6 +243,7 @@ static void measure_all(size_t deepest[CALLS]) {
         settings[7] = (uint8_t)(k / 96 % 2 * 100);
         settings[9] = (uint8_t)(k / 192);
         if (drm_lengths(settings, sizeof settings, lengths, DRM_LENGTHS) == 0) {
+            must(drm_hold_sizes(settings, sizeof settings, of_files, DRM_HOLD_SIZES) == 0, "settings without hold files");
             measure(deepest);
             measured++;
         }

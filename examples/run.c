@@ -222,12 +222,31 @@ static void write_file(const uint8_t *settings, uint8_t *file) {
     }
 }
 
+/* A coder or a reader is stored in the old form or in the new, lost, and restored with the settings. */
+static void power_down(const uint8_t *settings, struct side *side, int in_old) {
+    static uint8_t file[DRM_MOST_OLD_HOLD_BYTES];
+    static struct side before;
+    uint32_t bytes[DRM_HOLD_SIZES], n;
+    must(drm_hold_sizes(settings, DRM_SETTINGS_BYTES, bytes, DRM_HOLD_SIZES) == DRM_ACCEPTED, "the settings have hold files");
+    n = bytes[in_old ? 0 : 1];
+    must((in_old ? drm_store_old : drm_store_new)(side->state, DRM_STATE_BYTES, side->memory, sizes[MEMORY], file, n) ==
+             DRM_ACCEPTED, "state and memory are stored");
+    before = *side;
+    memset(side, 0xA5, sizeof *side);
+    must((in_old ? drm_restore_old : drm_restore_new)(side->state, DRM_STATE_BYTES, settings, DRM_SETTINGS_BYTES, file, n,
+                                                      side->memory, sizes[MEMORY]) == DRM_ACCEPTED, "they are restored");
+    must(memcmp(side->state, before.state, DRM_STATE_BYTES) == 0 &&
+             memcmp(side->memory, before.memory, sizes[MEMORY]) == 0, "state and memory are what they were");
+}
+
 /* The coder's hold file in the new form, turned into the old one and back; then files that are none. */
 static void hold_files(const uint8_t *settings) {
     static uint8_t file[DRM_MOST_NEW_HOLD_BYTES], old[DRM_MOST_OLD_HOLD_BYTES], back[DRM_MOST_NEW_HOLD_BYTES];
     uint32_t bytes[DRM_HOLD_SIZES];
     must(drm_hold_sizes(settings, DRM_SETTINGS_BYTES, bytes, DRM_HOLD_SIZES) == DRM_ACCEPTED, "the settings have hold files");
     write_file(settings, file);
+    must(drm_store_new(coder.state, DRM_STATE_BYTES, coder.memory, sizes[MEMORY], back, bytes[1]) == DRM_ACCEPTED &&
+             memcmp(back, file, bytes[1]) == 0, "storing writes that file");
     must(drm_to_old(settings, DRM_SETTINGS_BYTES, file, bytes[1], old, bytes[0]) == DRM_ACCEPTED, "the file is turned");
     must(drm_to_new(settings, DRM_SETTINGS_BYTES, old, bytes[0], back, bytes[1]) == DRM_ACCEPTED, "it is turned back");
     must(memcmp(back, file, bytes[1]) == 0, "it is the file again");
@@ -283,11 +302,28 @@ static void run(const uint8_t *settings) {
         must(finished == (settings[9] == 0 ? in_long[m] : 3), "frames finish 0 2 3 3 3 in long interleaving, else 3");
         compare(out, finished);
         out += finished;
+        power_down(settings, &coder, m % 2 == 0);
+        power_down(settings, &reader, m % 2 == 1);
     }
     must(out >= 3 * (SUPER_FRAMES - CLOSING), "every frame before the closing is read");
     printf("; %d frames brought, %d read as brought\n", FRAMES, (int)out);
     printf("  ");
     hold_files(settings);
+}
+
+/* The coder restored with a table of its own: a file does not hold it, so without it the state has the standard's. */
+static void restore_with(const uint8_t *settings, const uint8_t *table) {
+    static uint8_t file[DRM_MOST_NEW_HOLD_BYTES], state[DRM_STATE_BYTES];
+    uint32_t bytes[DRM_HOLD_SIZES];
+    must(drm_hold_sizes(settings, DRM_SETTINGS_BYTES, bytes, DRM_HOLD_SIZES) == DRM_ACCEPTED, "the settings have hold files");
+    must(drm_store_new(coder.state, DRM_STATE_BYTES, coder.memory, sizes[MEMORY], file, bytes[1]) == DRM_ACCEPTED,
+         "a coder with a table is stored");
+    must(drm_restore_new(state, DRM_STATE_BYTES, settings, DRM_SETTINGS_BYTES, file, bytes[1], coder.memory,
+                         sizes[MEMORY]) == DRM_ACCEPTED &&
+             memcmp(state, coder.state, DRM_STATE_BYTES) != 0, "without the table another state is restored");
+    must(drm_restore_new_table(state, DRM_STATE_BYTES, settings, DRM_SETTINGS_BYTES, table, DRM_TABLE_NUMBERS, file,
+                               bytes[1], coder.memory, sizes[MEMORY]) == DRM_ACCEPTED &&
+             memcmp(state, coder.state, DRM_STATE_BYTES) == 0, "with it the same");
 }
 
 /* A super frame with a puncturing table of one's own: rate 3/5 keeps b1 of its second column, not of its third. */
@@ -311,6 +347,7 @@ static void own_table(const uint8_t *settings) {
     must(memcmp(cells.sdc, standard.sdc, sizeof cells.sdc) == 0, "the SDC, of other rates, has the same");
     must(read_back(DRM_STATE_BYTES) == 3, "the reader with the table reads them");
     compare(0, 3);
+    restore_with(settings, table);
     table[RATE_3_5] = 0;
     must(drm_reset_table(coder.state, DRM_STATE_BYTES, settings, DRM_SETTINGS_BYTES, table, sizeof table, coder.memory,
                          sizes[MEMORY]) == DRM_REFUSED_TABLE, "a table that leaves out a b0 is refused by 23");
