@@ -22,7 +22,7 @@ use Rattle.holdfile.specs.Convert.{convertYield}
 use Rattle.holdcalls.specs.Store.{storeOf}
 use Rattle.holdcalls.specs.Restore.{restoreYield, restoreOf}
 use Rattle.holdcalls.specs.HeldRuns.{goneOn, restored, GoesOn, HeldRuns}
-use Rattle.holdcalls.proofs.StoredBack.{store-answers, stored-and-restored}
+use Rattle.holdcalls.proofs.StoredBack.{store-answers, restores-of}
 use Rattle.holdcalls.proofs.MemoryBytes.{run-low}
 
 -- What later calls yield is what they yield from the state and memory that the earlier ones leave.
@@ -74,7 +74,7 @@ module _ (run : Run) where
     unfolding restored
     comes-back =
         ap (λ s. restoreOf form old s (storeOf form (stateNow run) (memoryNow run) room .out) lent) (sym (stands .scheme))
-        ∙ stored-and-restored .restores form (stateNow run) (memoryNow run) room (run-low run) accepted old lent
+        ∙ restores-of form (stateNow run) (memoryNow run) room (run-low run) accepted old lent
         (l ∙ ap (λ s. memoryLength (s .settings)) (sym (stands .scheme)))
 
     -- and what follows them follows.

@@ -31,7 +31,6 @@ use Rattle.holdfile.specs.Convert.{other, convertYield, convertRefusal, convert
 use Rattle.holdfile.proofs.Turning.{Sound, held-file, file-valid}
 use Rattle.holdcalls.specs.Store.{heldOf, storeRefusal, storeOf}
 use Rattle.holdcalls.specs.Restore.{restoreRefusal, heldState, restoreYield, restoreOf}
-use Rattle.holdcalls.specs.Held.{StoredAndRestored}
 use Rattle.holdcalls.proofs.StoreCalls.{store-fits, store-accepts, store-refuses}
 use Rattle.holdcalls.proofs.RestoreCalls.{restore-accepts}
 
@@ -109,7 +108,7 @@ module _ (state : State) (memory : List ℕ) (f : Fits (state .scheme) memory) (
         ∙ ap (λ h. restoreYield (record { refusal = 0; state = heldState (state .scheme) h }) (bytes (h .numbers))) (held-file form (state .scheme .settings) (heldOf state memory) stored-sound)
         ∙ ap (restoreYield (record { refusal = 0; state = state })) (bytes-numbers memory low)
 
-turns-of : (form : Form) (state : State) (memory file out : List ℕ)
+pub turns-of : (form : Form) (state : State) (memory file out : List ℕ)
     → storeOf form state memory file .answer ≡ 0
     → convertOf form (state .scheme .settings) (storeOf form state memory file .out) out ≡ storeOf (other form) state memory out
 turns-of form state memory file out e =
@@ -119,7 +118,7 @@ turns-of form state memory file out e =
     ∙ convert-answers state memory (k .fits) (k .order) form out
     ∙ sym (store-answers state memory (k .fits) (k .order) (other form) out)
 
-restores-of : (form : Form) (state : State) (memory file : List ℕ) → AllBytes memory → storeOf form state memory file .answer ≡ 0
+pub restores-of : (form : Form) (state : State) (memory file : List ℕ) → AllBytes memory → storeOf form state memory file .answer ≡ 0
     → (old : State) (lent : List ℕ) → length lent ≡ memoryLength (state .scheme .settings)
     → restoreOf form old (state .scheme) (storeOf form state memory file .out) lent ≡ restoreYield (record { refusal = 0; state = state }) memory
 restores-of form state memory file low e old lent l =
@@ -127,7 +126,3 @@ restores-of form state memory file low e old lent l =
     let k = store-fits form state memory file h in
     ap (λ y. restoreOf form old (state .scheme) (y .out) lent) (store-accepts form state memory file h)
     ∙ restore-answers state memory (k .fits) (k .order) form lent l old low
-
--- S-7 of state and memory.
-pub stored-and-restored : StoredAndRestored
-stored-and-restored = record { turns = turns-of; restores = restores-of }

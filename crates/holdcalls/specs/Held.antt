@@ -4,10 +4,12 @@ use mathlib.Core.Path.{_≡_}
 use mathlib.Core.List.{List}
 use lib.ListN.{length}
 use Rattle.cellbytes.specs.Contracts.{AllBytes}
+use Rattle.channels.specs.declared.Scheme.{Scheme}
 use Rattle.superframe.specs.declared.State.{State}
 use Rattle.superframe.specs.Call.{memoryLength}
 use Rattle.holdfile.specs.declared.Form.{Form}
-use Rattle.holdfile.specs.Convert.{other, convertOf}
+use Rattle.holdfile.specs.Files.{fileLength}
+use Rattle.holdfile.specs.Convert.{other, convertYield, convertOf}
 use Rattle.holdcalls.specs.Store.{storeOf}
 use Rattle.holdcalls.specs.Restore.{restoreYield, restoreOf}
 
@@ -25,3 +27,8 @@ pub record StoredAndRestored : Type 0 where
       → length lent ≡ memoryLength (state .scheme .settings)
       → restoreOf form old (state .scheme) (storeOf form state memory file .out) lent
       ≡ restoreYield (record { refusal = 0; state = state }) memory
+  -- What is restored from a file is stored again as that file. So 12 lets pass what 18 does, and nothing of a file is lost.
+  pub storesAgain : (form : Form) (old : State) (s : Scheme) (file lent room : List ℕ)
+      → restoreOf form old s file lent .done .refusal ≡ 0
+      → length room ≡ fileLength form (s .settings)
+      → storeOf form (restoreOf form old s file lent .done .state) (restoreOf form old s file lent .memory) room ≡ convertYield 0 file

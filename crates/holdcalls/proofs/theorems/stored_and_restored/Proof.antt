@@ -1,5 +1,5 @@
 -- `theorems::stored_and_restored` meets its contract: S-7 of state and memory holds of the definitions.
-use Rattle.holdcalls.proofs.StoredBack.{stored-and-restored}
+use Rattle.holdcalls.proofs.StoredAgain.{stored-and-restored}
 use Rattle.holdcalls.proofs.theorems.stored_and_restored.Statement.{statement}
 use Rattle.holdcalls.proofs.theorems.stored_and_restored.Tie as tie
 
