@@ -326,8 +326,9 @@ uint8_t drm_to_old(const uint8_t *settings, size_t settings_len, const uint8_t *
                    uint8_t *old_file, size_t old_file_len);
 
 /*
- * Stores a state and its memory in an old hold file. Between two calls of a run only 10 refuses it. Neither state nor memory
- * is written; keep the settings, and a table of one's own, beside the file.
+ * Stores a state and its memory in an old hold file: between two calls of a coder's run only 10 refuses it; a memory in
+ * which drm_read_on keeps a cell as (0, 0) is refused by 12. Neither state nor memory is written; keep the settings, and the
+ * run's own table, beside the file.
  *   state      208 bytes, as the last accepted call of the run left them
  *   memory     likewise
  *   file       as many bytes as drm_hold_sizes says: all are written if the answer is 0

@@ -13,13 +13,14 @@ use Rattle.holdfile.specs.Convert.{other, convertYield, convertOf}
 use Rattle.holdcalls.specs.Store.{storeOf}
 use Rattle.holdcalls.specs.Restore.{restoreYield, restoreOf}
 
--- For every state and memory that storing accepts; what the file and the lent buffers held before is no matter.
 pub record StoredAndRestored : Type 0 where
   -- Storing in one form and turning the file into the other is storing in the other form: the same answer, 10 included, and the same bytes.
+  -- For every state and memory that storing accepts, whatever the file's room held before.
   pub turns : (form : Form) (state : State) (memory file out : List ℕ)
       → storeOf form state memory file .answer ≡ 0
       → convertOf form (state .scheme .settings) (storeOf form state memory file .out) out ≡ storeOf (other form) state memory out
   -- Restoring what was stored, under the same settings and table, gives state and memory back. Memory is bytes.
+  -- For every state and memory that storing accepts, whatever the file's room, the old state and the lent memory held before.
   pub restores : (form : Form) (state : State) (memory file : List ℕ)
       → AllBytes memory
       → storeOf form state memory file .answer ≡ 0

@@ -14,7 +14,7 @@ use Rattle.cellbytes.proofs.CellBytes.{four-low}
 use Rattle.holdfile.specs.declared.Form.{Form}
 use Rattle.holdfile.specs.declared.Form.the-variants.{Old, New}
 use Rattle.holdfile.specs.Hexadecimal.{digit, digits}
-use Rattle.holdfile.specs.Files.{numberDigits, written, allWritten, fileOf, heldIn, fileLength, valid}
+use Rattle.holdfile.specs.Files.{numberDigits, written, allWritten, ended, fileOf, heldIn, fileLength, valid}
 use Rattle.holdfile.specs.Convert.{other, convertYield, convertRefusal, convertOf}
 use Rattle.holdfile.specs.Theorems.{turned, Undone, CallsUndo, Exact, DigitsOfByte, ByHand, HoldFiles}
 use Rattle.holdfile.proofs.Turning.{valid-sound, holds-sound, file-held, held-file, file-valid}
@@ -64,8 +64,8 @@ digits-of-byte re im =
     ap₂ (λ x y. digit x ∷ (digit y ∷ [])) (h .0) (h .1)
 
 by-hand : ByHand
-unfolding allWritten written digits digit numberDigits modulo
-by-hand = record { old = refl; new = refl }
+unfolding allWritten written digits digit numberDigits modulo fileOf ended
+by-hand = record { old = refl; new = refl; heading = λ form s ns. refl }
 
 pub hold-files : HoldFiles
 hold-files =

@@ -74,7 +74,7 @@ heldIn form s file =
       numbers = heldBy form (2 * nMux s) (depth s) (drop 3 file);
     }
 
--- Its bytes.
+-- How many bytes it has.
 unfoldable pub fileLength : Form → Settings → ℕ
 fileLength form s = 3 + depth s * (2 * nMux s * numberDigits form + 1)
 

@@ -3,7 +3,7 @@ use Prim.Native.Nat.{ℕ, _*_}
 use mathlib.Core.Path.{_≡_}
 use mathlib.Core.Bool.{true}
 use mathlib.Core.List.{List, [], _∷_}
-use lib.ListN.{length}
+use lib.ListN.{length, take}
 use lib.IntN.{ℤ, pos, negsuc}
 use Rattle.settings.specs.declared.Settings.{Settings}
 use Rattle.settings.specs.Refusal.{refusal}
@@ -25,7 +25,7 @@ pub record Undone (form : Form) : Type 0 where
   pub stays : (s : Settings) (file : List ℕ) → valid form s file ≡ true → valid (other form) s (turned form s file) ≡ true
   pub back : (s : Settings) (file : List ℕ) → valid form s file ≡ true → turned (other form) s (turned form s file) ≡ file
 
--- So do the calls: settings that are allowed, a valid file and room of the right lengths are refused on neither way.
+-- The calls do the same: settings that are allowed, a valid file and room of the right lengths are refused on neither way.
 abbrev pub CallsUndo : Form → Type 0
 CallsUndo form =
     (s : Settings) (file out again : List ℕ) → refusal s ≡ 0 → valid form s file ≡ true
@@ -44,10 +44,12 @@ pub record Exact (form : Form) : Type 0 where
 abbrev pub DigitsOfByte : Type 0
 DigitsOfByte = (re im : ℤ) → allWritten New (re ∷ im ∷ []) ≡ digits 2 (cellByte re im)
 
--- The cell (-7, 5) by hand: FFF90005 in the old form, 95 in the new.
+-- The cell (-7, 5) by hand, FFF90005 in the old form, 95 in the new, and the line of position 3 and count 4, which every such file begins with.
 pub record ByHand : Type 0 where
   pub old : allWritten Old (negsuc 6 ∷ pos 5 ∷ []) ≡ 0x46 ∷ 0x46 ∷ 0x46 ∷ 0x39 ∷ 0x30 ∷ 0x30 ∷ 0x30 ∷ 0x35 ∷ []
   pub new : allWritten New (negsuc 6 ∷ pos 5 ∷ []) ≡ 0x39 ∷ 0x35 ∷ []
+  pub heading : (form : Form) (s : Settings) (ns : List ℤ)
+      → take 3 (fileOf form s (record { position = 3; count = 4; numbers = ns })) ≡ 0x33 ∷ 0x34 ∷ 0x0A ∷ []
 
 pub record HoldFiles : Type 0 where
   pub fromOld : Undone Old
