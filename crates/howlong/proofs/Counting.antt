@@ -56,7 +56,7 @@ unfolding zeroBits
 no-zero-bits bits n e = rw (eq-eqb n 0 e)
 
 -- without part A every cell is one of part B
-no-cells : (msc level : ℕ) → Level msc level → cellsA msc level 0 ≡ 0
+pub no-cells : (msc level : ℕ) → Level msc level → cellsA msc level 0 ≡ 0
 unfolding cellsA roundUp
 no-cells msc level h =
     let p = partA msc level (commonDenominator msc level) in

@@ -1,0 +1,7 @@
+pub mod Pieces
+pub mod OneStream
+pub mod Frames
+pub mod Calls
+pub mod Handed
+pub mod Codable
+pub mod Theorem
