@@ -430,6 +430,25 @@ static void streams(const uint8_t *settings) {
     printf("streams: %d bytes in a frame of %d, split as lent\n", (int)n, (int)bytes);
 }
 
+/* How long bytes take in a programme that is all one stream of part B: no byte, a full frame, a byte more than a super frame. */
+static void how_long(const uint8_t *with_part_a) {
+    uint8_t settings[DRM_SETTINGS_BYTES];
+    uint32_t numbers[DRM_HOW_LONG_NUMBERS], whole;
+    must(drm_how_long(with_part_a, DRM_SETTINGS_BYTES, 1, numbers, DRM_HOW_LONG_NUMBERS) == DRM_REFUSED_PART_A_OR_VSPP,
+         "part A is refused by 27");
+    memcpy(settings, with_part_a, DRM_SETTINGS_BYTES);
+    settings[6] = settings[7] = 0;
+    begin(settings);
+    whole = lengths[3] / 8;
+    must(drm_how_long(settings, DRM_SETTINGS_BYTES, 0, numbers, DRM_HOW_LONG_NUMBERS) == DRM_ACCEPTED, "no byte has numbers");
+    must(numbers[0] == CLOSING && numbers[1] == sizes[MEMORY] && numbers[2] == 0, "it needs only the closing");
+    must(drm_how_long(settings, DRM_SETTINGS_BYTES, whole, numbers, DRM_HOW_LONG_NUMBERS) == DRM_ACCEPTED, "a frame has them");
+    must(numbers[0] == CLOSING + 1 && numbers[2] == lengths[3] - 8 * whole, "a full frame has the bits that hold no byte");
+    must(drm_how_long(settings, DRM_SETTINGS_BYTES, 3 * whole + 1, numbers, DRM_HOW_LONG_NUMBERS) == DRM_ACCEPTED, "so do four");
+    must(numbers[0] == CLOSING + 2 && numbers[2] == lengths[3] - 8u, "the last has one byte");
+    printf("how long: %d bytes a frame, %d bytes take %d super frames\n", (int)whole, (int)(3 * whole + 1), (int)numbers[0]);
+}
+
 /* A rule of minutes first to after - 1. */
 static void rule(uint8_t *bytes, unsigned first, unsigned after, const uint8_t *settings) {
     bytes[0] = (uint8_t)(first / 256);
@@ -469,6 +488,7 @@ int main(void) {
     own_table(runs[1]);
     streams(runs[0]);
     streams(runs[2]);
+    how_long(runs[0]);
     week_plan();
     printf("all as it must be\n");
     return 0;
