@@ -3,10 +3,12 @@ use Prim.Native.Nat.{ℕ, _+_, _-_, _*_, _/_, _%_, _≤_, _<_}
 use mathlib.Core.Path.{_≡_, refl, ap, subst, _∙_}
 use mathlib.Core.Bool.{Bool, true, false, cond, _||_}
 use mathlib.Core.List.{List, [], _∷_}
-use native.Mathlib.Nat.{mod-lt, div-le-self, add-div-right, div-add-mod', div-eq-of-lt, zero-mul}
+use native.Mathlib.Nat.{mod-lt, div-le-self, add-div-right, div-add-mod', div-eq-of-lt, zero-mul, mul-le-mul}
 use native.Mathlib.Omega.{arith}
 use borrow.Author.Tests.{eq-eqb, ne-eqb}
-use lib.ListN.{length, set}
+use mir.Syntax.{w32, w64}
+use mir.Val.{Fits}
+use lib.ListN.{length, set, length-set}
 use lib.Dec.{T, eqb, leb, leb→le}
 use Rattle.settings.specs.declared.Settings.{Settings}
 use Rattle.settings.specs.Cells.{entry, muxTable}
@@ -27,9 +29,18 @@ use Rattle.lists.specs.Lists.{total}
 use Rattle.howlong.specs.HowLong.{wholeBytes, framesFor, superFrames, memoryBytes, zeroBits, numbersFor}
 use Rattle.howlong.specs.Contracts.{Counts}
 
--- the frames in use are few
-pub few-frames : (c n : ℕ) → c ≤ 8191 → n ≤ 4294967295 → (n + (c - 1)) / c ≤ 4294975485
-few-frames c n h k = omega (arith, div-le-self (n + (c - 1)) c)
+-- a quotient of so small a number and what is made of it are few, whatever the divisor and the closing
+few-over : (m c : ℕ) → m ≤ 4294975486 → m / c ≤ 4294975486
+few-over m c h = omega (arith, div-le-self m c)
+
+pub frames-fit : (m c : ℕ) → m ≤ 4294975486 → Fits w64 (m / c + 2)
+frames-fit m c h = omega (arith, few-over m c h)
+
+pub closing-fits : (m c k : ℕ) → m ≤ 4294975486 → k ≤ 2 → Fits w64 ((m / c + 2) / 3 + k)
+closing-fits m c k h l = omega (arith, few-over m c h)
+
+pub few-super-frames : (m c k : ℕ) → m ≤ 4294975486 → k ≤ 2 → (m / c + 2) / 3 + k ≤ 2000000000
+few-super-frames m c k h l = omega (arith, few-over m c h)
 
 pub super-frames : (bits n : ℕ) → ((n + (bits / 8 - 1)) / (bits / 8) + 2) / 3 + 2 ≡ superFrames bits n
 unfolding superFrames framesFor wholeBytes roundUp
@@ -87,16 +98,24 @@ module _ (s : Settings) (ok : refusal s ≡ 0) (none : s .x ≡ 0) (plain : hier
       let low = frame-low s (accepted-of s ok) in
       record { some = omega (arith, a-byte); few = omega (arith, low); low = h }
 
--- memory's bytes are few
-pub memory-few : (s : Settings) → refusal s ≡ 0 → {d m : ℕ} → d ≡ depth s → m ≡ entry muxTable (s .mode) (s .occupancy) → d * m ≤ 30590
-unfolding depth nMux
-memory-few s ok {d} {m} ed em =
-    let h : m ≤ 6118 = omega (arith, em, accepted-of s ok .ranges .muxMost) in
-    rw ed (go (eqb (s .interleaving) 0) h)
+-- depth and N_MUX are few, and so is a product of two that are
+pub depth-few : (s : Settings) {d : ℕ} → d ≡ depth s → d ≤ 5
+unfolding depth
+depth-few s e = rw e (go (eqb (s .interleaving) 0))
   where
-    go : (b : Bool) → m ≤ 6118 → cond b 5 1 * m ≤ 30590
-    go true h = omega arith
-    go false h = omega arith
+    go : (b : Bool) → cond b 5 1 ≤ 5
+    go true = omega arith
+    go false = omega arith
+
+pub mux-few : (s : Settings) → refusal s ≡ 0 → {m : ℕ} → m ≡ entry muxTable (s .mode) (s .occupancy) → m ≤ 6118
+unfolding nMux
+mux-few s ok e = omega (arith, e, accepted-of s ok .ranges .muxMost)
+
+pub product-fits : (d m : ℕ) → d ≤ 5 → m ≤ 6118 → Fits w64 (d * m)
+product-fits d m h k = omega (arith, mul-le-mul h k)
+
+pub product-fits-32 : (d m : ℕ) → d ≤ 5 → m ≤ 6118 → Fits w32 (d * m)
+product-fits-32 d m h k = omega (arith, mul-le-mul h k)
 
 -- three numbers written over three
 pub three : (l : List ℕ) (a b c : ℕ) → length l ≡ 3 → set (set (set l 0 a) 1 b) 2 c ≡ a ∷ b ∷ c ∷ []
@@ -105,6 +124,9 @@ three (x ∷ []) a b c e = absurd (omega arith)
 three (x ∷ (y ∷ [])) a b c e = absurd (omega arith)
 three (x ∷ (y ∷ (z ∷ []))) a b c e = refl
 three (x ∷ (y ∷ (z ∷ (v ∷ l)))) a b c e = absurd (omega arith)
+
+pub third-there : (l : List ℕ) (a b : ℕ) → length l ≡ 3 → 2 < length (set (set l 0 a) 1 b)
+third-there l a b e = rw (length-set (set l 0 a) 1 b, length-set l 0 a, e) (omega arith)
 
 -- L2 among the lengths
 pub l2-is : (s : Settings) → refusal s ≡ 0 → {l : Lengths} → l ≡ lengthsOf s → l .l2 ≡ l2 s

@@ -1,11 +1,10 @@
 -- `how_long` meets its contract. Assumes nothing.
-use Prim.Native.Nat.{_*_}
 use mathlib.Core.Path.{sym, ap, _∙_}
 use native.Mathlib.Omega.{arith}
 use borrow.Author.Needs.{needs}
-use lib.ListN.{set, length-set}
+use lib.ListN.{length-set}
 use Rattle.howlong.specs.HowLong.{howLongYield}
-use Rattle.howlong.proofs.Counting.{counts, memory-few, l2-is, numbers-made, three}
+use Rattle.howlong.proofs.Counting.{counts, depth-few, mux-few, product-fits, product-fits-32, l2-is, numbers-made, three, third-there}
 use Rattle.howlong.proofs.Refusals.{taken, refused, yields}
 use Rattle.howlong.proofs.calls.how_long.Statement.{statement}
 use Rattle.howlong.proofs.calls.how_long.Tie as tie
@@ -20,10 +19,10 @@ slice-write-numbers : tie.Need-slice-write-numbers
 slice-write-numbers c = let A = taken _ _ (sym (c .before .before .before .before .how-long-refusal .ensures) ∙ c .before .before .before .if1 .left) in omega (arith, A .three)
 
 mul-numbers : tie.Need-mul-numbers
-mul-numbers c = let A = taken _ _ (sym (c .before .before .before .before .before .before .how-long-refusal .ensures) ∙ c .before .before .before .before .before .if1 .left) in omega (arith, memory-few _ (A .settings) (c .before .depth .ensures) (c .n-mux .ensures))
+mul-numbers c = let A = taken _ _ (sym (c .before .before .before .before .before .before .how-long-refusal .ensures) ∙ c .before .before .before .before .before .if1 .left) in product-fits _ _ (omega (arith, depth-few _ (c .before .depth .ensures))) (mux-few _ (A .settings) (c .n-mux .ensures))
 
 cast-numbers-2 : tie.Need-cast-numbers-2
-cast-numbers-2 c = let A = taken _ _ (sym (c .before .before .before .before .before .before .how-long-refusal .ensures) ∙ c .before .before .before .before .before .if1 .left) in omega (arith, memory-few _ (A .settings) (c .before .depth .ensures) (c .n-mux .ensures))
+cast-numbers-2 c = let A = taken _ _ (sym (c .before .before .before .before .before .before .how-long-refusal .ensures) ∙ c .before .before .before .before .before .if1 .left) in product-fits-32 _ _ (omega (arith, depth-few _ (c .before .depth .ensures))) (mux-few _ (A .settings) (c .n-mux .ensures))
 
 slice-write-numbers-2 : tie.Need-slice-write-numbers-2
 slice-write-numbers-2 c = let A = taken _ _ (sym (c .before .before .before .before .before .before .how-long-refusal .ensures) ∙ c .before .before .before .before .before .if1 .left) in omega (arith, A .three, length-set (c .before .before .before .before .before .before .before .before .args .numbers .now) 0 (c .before .before .super-frames .result))
@@ -34,8 +33,7 @@ zero-bits-requires c κs = let A = taken _ _ (sym (c .before .before .before .be
 slice-write-numbers-3 : tie.Need-slice-write-numbers-3
 slice-write-numbers-3 c =
     let A = taken _ _ (sym (c .before .before .before .before .before .before .before .how-long-refusal .ensures) ∙ c .before .before .before .before .before .before .if1 .left) in
-    let l = c .before .before .before .before .before .before .before .before .before .args .numbers .now in
-    omega (arith, A .three, length-set l 0 (c .before .before .before .super-frames .result), length-set (set l 0 (c .before .before .before .super-frames .result)) 1 (c .before .before .depth .result * c .before .n-mux .result))
+    third-there (c .before .before .before .before .before .before .before .before .before .args .numbers .now) _ _ (A .three)
 
 returns-2 : tie.Need-returns-2
 returns-2 c =
