@@ -5,11 +5,12 @@ use mathlib.Core.Logic.{_⊎_, inl, inr}
 use mathlib.Core.List.{List, [], _∷_, _++_}
 use native.Mathlib.Nat.{add-div-right, div-eq-of-lt, mod-eq-of-lt, mod-eq-sub-mod}
 use native.Mathlib.Omega.{arith}
-use lib.ListN.{length, take, drop, getD, take-append-drop, length-drop, drop-of-length-le}
-use lib.Seq.{take-all, getD-drop}
+use lib.ListN.{length, take, drop, take-append-drop, length-drop, drop-of-length-le}
+use lib.Seq.{take-all}
 use Rattle.lists.proofs.Counting.{below-or}
 use Rattle.settings.specs.Formulas.{roundUp}
 use Rattle.block.specs.Fits.{Bytes}
+use Rattle.multiplex.proofs.Octets.{bytes-take, bytes-drop}
 use Rattle.superframe.specs.Call.{joined}
 use Rattle.howlongruns.specs.BytesCoded.{cut}
 
@@ -50,18 +51,6 @@ round-some c n h k = go (below-or n c)
         let f : (n - c + (c - 1) + c) / c ≡ (n - c + (c - 1)) / c + 1 = add-div-right (n - c + (c - 1)) h in
         ap (λ (m : ℕ). m / c) e ∙ omega (arith, f)
 
-bytes-front : (n : ℕ) (l : List ℕ) → Bytes l → Bytes (take n l)
-bytes-front n l B = record { byte = go n l (B .byte) }
-  where
-    go : (n : ℕ) (l : List ℕ) → ((k : ℕ) → getD l k 0 < 256) → (k : ℕ) → getD (take n l) k 0 < 256
-    go zero l h k = omega arith
-    go (suc n) [] h k = omega arith
-    go (suc n) (b ∷ l) h zero = h 0
-    go (suc n) (b ∷ l) h (suc k) = go n l (λ i. h (suc i)) k
-
-bytes-rest : (n : ℕ) (l : List ℕ) → Bytes l → Bytes (drop n l)
-bytes-rest n l B = record { byte = λ k. rw (getD-drop n l k 0) (B .byte (n + k)) }
-
 front-low : (n : ℕ) (l : List ℕ) → length (take n l) ≤ n
 front-low zero l = omega arith
 front-low (suc n) [] = omega arith
@@ -93,7 +82,7 @@ module _ (c : ℕ) (some : 0 < c) where
   unfolding cut
   pieces-short zero l B = tt {0}
   pieces-short (suc k) [] B = tt {0}
-  pieces-short (suc k) (b ∷ l) B = (front-low c (b ∷ l), bytes-front c (b ∷ l) B, pieces-short k (drop c (b ∷ l)) (bytes-rest c (b ∷ l) B))
+  pieces-short (suc k) (b ∷ l) B = (front-low c (b ∷ l), bytes-take c B, pieces-short k (drop c (b ∷ l)) (bytes-drop c B))
 
   some-pieces : (k : ℕ) (l : List ℕ) → length l ≤ k → 0 < length l → 0 < length (cut c k l)
   unfolding cut

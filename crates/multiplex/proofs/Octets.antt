@@ -155,7 +155,7 @@ pub bytes-append : {l m : List ℕ} → Bytes l → Bytes m → Bytes (l ++ m)
 bytes-append {l = []} H K = K
 bytes-append {l = b ∷ l} H K = bytes-cons (H .byte 0) (bytes-append {l = l} (record { byte = λ k. H .byte (suc k) }) K)
 
-bytes-take : {l : List ℕ} (n : ℕ) → Bytes l → Bytes (take n l)
+pub bytes-take : {l : List ℕ} (n : ℕ) → Bytes l → Bytes (take n l)
 bytes-take {l} n H = record { byte = λ i. go i (below-or i n) }
   where
     go : (i : ℕ) → (i < n) ⊎ (n ≤ i) → getD (take n l) i 0 < 256
