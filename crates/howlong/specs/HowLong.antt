@@ -42,7 +42,7 @@ pub record HowLongYield : Type 0 where
 abbrev pub howLongYield : ℕ → List ℕ → HowLongYield
 howLongYield answer numbers = record { answer = answer; numbers = numbers }
 
--- The lowest number that applies, 0 for acceptance, where so many numbers are lent: 1 to 7 of the settings; 10 not three numbers; 27 part A or VSPP in use.
+-- The lowest number that applies, 0 for acceptance: 1 to 7 of the settings; 10 unless three numbers are lent; 27 part A or VSPP in use.
 unfoldable pub howLongRefusal : Settings → ℕ → ℕ
 howLongRefusal s numbers =
     first (ltb 0 (refusal s)) (refusal s)

@@ -2,7 +2,7 @@
 use Prim.Native.Nat.{ℕ, zero, suc, _-_, _*_, _/_, _%_, _^_, _≤_, _<_}
 use mathlib.Core.Path.{_≡_, refl, sym, ap, ap₂, _∙_}
 use mathlib.Core.Bool.{true}
-use mathlib.Core.Logic.{_⊎_, inl, inr}
+use mathlib.Core.Logic.{_⊎_, inl, inr, _↔_}
 use mathlib.Core.List.{List, [], _∷_, _++_, map}
 use native.Mathlib.Nat.{zero-div}
 use native.Mathlib.Omega.{arith}
@@ -15,6 +15,7 @@ use Rattle.settings.specs.declared.Settings.{Settings}
 use Rattle.settings.specs.Lengths.{l2}
 use Rattle.settings.specs.Sizes.{frameBits, frameBytes}
 use Rattle.block.specs.Packing.{bitAt, unpacked, spareZero}
+use Rattle.multiplex.specs.Build.{buildOf}
 use Rattle.multiplex.specs.Read.{readOf}
 use Rattle.multiplex.specs.Theorems.{splitOf}
 use Rattle.superframe.specs.Call.{joined}
@@ -22,7 +23,7 @@ use Rattle.howlong.specs.HowLong.{wholeBytes}
 use Rattle.howlong.proofs.Refusals.{Taken}
 use Rattle.howlongruns.specs.BytesCoded.{oneStream, buildings, zeroFrame, lastFilling, streamReadings}
 use Rattle.howlongruns.proofs.Pieces.{Short, lastOf}
-use Rattle.howlongruns.proofs.OneStream.{build-is, build-long, build-spare, build-filling, read-is}
+use Rattle.howlongruns.proofs.OneStream.{built-low, build-is, build-long, build-spare, build-filling, read-is}
 
 -- Frames of their length in which no spare bit is set.
 abbrev pub Good : Settings → List (List ℕ) → Type 0
@@ -77,6 +78,14 @@ module _ (s : Settings) (t : Taken s 3) where
   low : (n : ℕ) → n ≤ c → 8 * n ≤ l2 s
   unfolding wholeBytes
   low n h = omega arith
+
+  high : (n : ℕ) → 8 * n ≤ l2 s → n ≤ c
+  unfolding wholeBytes
+  high n h = omega arith
+
+  -- the pieces that a frame takes
+  pub most-bytes : (p r : List ℕ) → length r ≡ frameBytes s → (buildOf s (oneStream (length p)) p r .answer ≡ 0) ↔ (length p ≤ c)
+  most-bytes p r e = (λ h. high (length p) (built-low s t p r h), λ h. ap (λ y. y .answer) (build-is s t p r (low (length p) h) e))
 
   -- every call that builds is accepted
   pub all-built : (ps lent : List (List ℕ)) → Short c ps → map length lent ≡ replicate (length ps) (frameBytes s)

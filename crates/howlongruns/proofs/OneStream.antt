@@ -5,9 +5,10 @@ use mathlib.Core.Bool.{true}
 use mathlib.Core.List.{List}
 use native.Mathlib.Nat.{add-zero, zero-add, zero-mul}
 use native.Mathlib.Omega.{arith}
-use borrow.Author.Tests.{eq-eqb, le-leb}
+use borrow.Author.Tests.{eq-eqb, le-leb, leb-true}
 use lib.ListN.{length, replicate}
-use Rattle.lists.proofs.Bools.{both}
+use lib.Dec.{eqb, leb}
+use Rattle.lists.proofs.Bools.{both, and-left, and-right}
 use Rattle.settings.specs.declared.Settings.{Settings}
 use Rattle.settings.specs.Rates.{commonDenominator}
 use Rattle.settings.specs.Formulas.{partA, cellsA}
@@ -25,7 +26,7 @@ use Rattle.multiplex.specs.Frame.{zeroFilled, built, handed}
 use Rattle.multiplex.specs.Build.{buildYield, buildOf}
 use Rattle.multiplex.specs.Read.{readOf}
 use Rattle.multiplex.specs.Theorems.{Passes, Zero, splitOf}
-use Rattle.multiplex.proofs.Refusals.{build-yields}
+use Rattle.multiplex.proofs.Refusals.{build-yields, build-zero}
 use Rattle.multiplex.proofs.RoundTrip.{built-split, built-long, built-spare, filled-zero, handed-filled, read-frame}
 use Rattle.howlong.proofs.Refusals.{Taken}
 use Rattle.howlong.proofs.Counting.{no-cells}
@@ -46,6 +47,17 @@ module _ (s : Settings) (t : Taken s 3) where
   layout-is : (n : ℕ) → layoutOf s (oneStream n) ≡ record { vspp = lVspp s; rest = l2 s; head = 0; a = 0; b = n }
   unfolding layoutOf oneStream headBytes streamsOf uncounted sharesIn sums total
   layout-is n = rw (t .plain, no-l1, add-zero n, zero-add (l2 s))
+
+  -- 19 lets no more bits pass
+  pub built-low : (p frame : List ℕ) → buildOf s (oneStream (length p)) p frame .answer ≡ 0 → 8 * length p ≤ l2 s
+  unfolding fits
+  built-low p frame h =
+      let n = length p in
+      let f : fits (record { vspp = lVspp s; rest = l2 s; head = 0; a = 0; b = n }) (s .x) ≡ true =
+      ap (λ l. fits l (s .x)) (sym (layout-is n)) ∙ build-zero s (oneStream n) p frame h .fit in
+      let g = and-left (leb (8 * (0 + n)) (l2 s)) (leb (8 * 0) (lVspp s)) (and-right (eqb 0 (s .x)) _ f) in
+      let k = leb-true (8 * (0 + n)) (l2 s) g in
+      omega (arith, k)
 
   module _ (n : ℕ) (low : 8 * n ≤ l2 s) where
     stream-passes : Passes s (oneStream n)

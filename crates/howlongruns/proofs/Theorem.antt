@@ -36,7 +36,7 @@ use Rattle.howlong.proofs.Refusals.{Taken, taken, yields}
 use Rattle.howlong.proofs.Counting.{a-byte, zero-bits, no-zero-bits}
 use Rattle.howlongruns.specs.BytesCoded.{cut, piecesOf, framesOf, zeroFrame, filledUp, Codes, lastFilling, framesHanded, streamReadings, Reads, GivesBack, Holds, BytesCoded}
 use Rattle.howlongruns.proofs.Pieces.{Short, pieces-joined, pieces-count, pieces-short, last-long}
-use Rattle.howlongruns.proofs.Frames.{Good, good-append, good-zeros, zero-unpacked, all-built, built-count, built-good, last-filled, all-read}
+use Rattle.howlongruns.proofs.Frames.{Good, good-append, good-zeros, zero-unpacked, most-bytes, all-built, built-count, built-good, last-filled, all-read}
 use Rattle.howlongruns.proofs.Calls.{threes-count, Brings, run-brings}
 use Rattle.howlongruns.proofs.Codable.{codable}
 use Rattle.howlongruns.proofs.Handed.{handed-good, handed-bits}
@@ -194,6 +194,13 @@ module _ (bytes : List ℕ) (lent : List (List ℕ)) (run : Run) (C : Codes byte
   unfolding numbersFor
   three-numbers = rw (super-frames, memory-bytes, filling-long)
 
+  -- the calls of a reader
+  readers : (reader : Begun) → reader .scheme ≡ scheme → (calls : List ReadCall) × Reads run reader calls
+  readers reader same =
+      let r = whole-runs .readable run reader same in
+      let fed = subst (λ l. Fed reading l (stateAt reader) (memoryAt reader) (r .0)) (sym (whole-runs .sends run)) (r .1 .0) in
+      (r .0, record { same = same; fed = fed; all = r .1 .1 ∙ sym (sent-long coding run) })
+
   -- a reader
   module _ (reader : Begun) (calls : List ReadCall) (R : Reads run reader calls) where
     fed : Fed reading (standardCells run) (stateAt reader) (memoryAt reader) calls
@@ -248,6 +255,7 @@ module _ (bytes : List ℕ) (lent : List (List ℕ)) (run : Run) (C : Codes byte
         closed = closed;
         numbers = λ numbers e. yields s (length bytes) numbers (ap (howLongRefusal s) e ∙ C .allowed) ∙ ap (howLongYield 0) three-numbers;
         zeros = filling ∙ ap (λ (n : ℕ). replicate n 0) (sym filling-long);
+        readable = readers;
         back = λ reader calls streams R e. bytes-back reader calls R streams e;
       }
 
@@ -260,4 +268,4 @@ reset-length old s memory h p =
     )
 
 pub bytes-coded : BytesCoded
-bytes-coded = record { resets = reset-length; codable = codable; holds = run-holds }
+bytes-coded = record { resets = reset-length; most = λ s p r h. most-bytes s (taken s 3 h) p r; codable = codable; holds = run-holds }

@@ -1,6 +1,6 @@
 -- The theorem of 02, S-14: the three numbers equal those of actually coding that many bytes, one stream in part B, and a reader gets every byte back.
 -- It is stated over lists of any length; the call is asked about those below 2^32.
-use Prim.Native.Nat.{ℕ, zero, suc, _+_, _-_, _*_, _%_}
+use Prim.Native.Nat.{ℕ, zero, suc, _+_, _-_, _*_, _%_, _≤_}
 use mathlib.Core.Path.{_≡_}
 use mathlib.Core.Bool.{true, cond}
 use mathlib.Core.Logic.{_↔_}
@@ -93,7 +93,7 @@ lastFilling s (piece ∷ (next ∷ pieces)) (frame ∷ frames) = lastFilling s (
 abbrev pub fillingOf : Settings → List ℕ → List (List ℕ) → List ℕ
 fillingOf s bytes lent = lastFilling s (piecesOf s bytes) (framesOf s bytes lent)
 
--- A reader with the run's settings and table that was fed all its cells.
+-- A reader with the run's settings and table that has accepted all the run's cells. That none of its calls that feed is refused is WholeRuns.readsBack.
 pub record Reads (run : Run) (reader : Begun) (calls : List ReadCall) : Type 0 where
   pub same : reader .scheme ≡ run .begun .scheme
   pub fed : Fed reading (cells run) (stateAt reader) (memoryAt reader) calls
@@ -132,6 +132,8 @@ pub record Holds (bytes : List ℕ) (lent : List (List ℕ)) (run : Run) : Type 
       → howLongOf (settingsOf run) (length bytes) numbers
       ≡ howLongYield 0 (length (run .calls) ∷ length (run .begun .lent) ∷ length (fillingOf (settingsOf run) bytes lent) ∷ [])
   pub zeros : fillingOf (settingsOf run) bytes lent ≡ replicate (length (fillingOf (settingsOf run) bytes lent)) 0
+  -- Every accepted Reset with the run's settings and table, its own for one, begins such a reader.
+  pub readable : (reader : Begun) → reader .scheme ≡ run .begun .scheme → (calls : List ReadCall) × Reads run reader calls
   -- From the frames that a reader hands out S-8's calls get every byte back, each lent as many bytes as its piece has.
   pub back : (reader : Begun) (calls : List ReadCall) (streams : List (List ℕ)) → Reads run reader calls
       → map length streams ≡ map length (piecesOf (settingsOf run) bytes)
@@ -142,6 +144,9 @@ pub record BytesCoded : Type 0 where
   -- With any table that passes, Reset accepts exactly a memory of as many bytes as the second number says.
   pub resets : (old : State) (s : Scheme) (memory : List ℕ) → howLongRefusal (s .settings) 3 ≡ 0 → passes (s .table) ≡ true
       → (resetOf old s memory .done .refusal ≡ 0) ↔ (length memory ≡ memoryBytes (s .settings))
+  -- A frame holds no more: S-8's call takes a piece, whatever its bytes, exactly if it has at most as many as each frame but the last carries.
+  pub most : (s : Settings) (piece frame : List ℕ) → howLongRefusal s 3 ≡ 0 → length frame ≡ frameBytes s
+      → (buildOf s (oneStream (length piece)) piece frame .answer ≡ 0) ↔ (length piece ≤ wholeBytes (l2 s))
   -- From every such Reset there are runs that code these bytes,
   pub codable : (begun : Begun) (bytes : List ℕ) → howLongRefusal (begun .scheme .settings) 3 ≡ 0 → Bytes bytes
       → (lent : List (List ℕ)) × (calls : List CodeCall) × Codes bytes lent (record { begun = begun; calls = calls })
