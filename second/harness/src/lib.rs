@@ -19,7 +19,6 @@ pub mod plans;
 pub mod previews;
 pub mod read_ons;
 pub mod requests;
-pub mod rig;
 pub mod streams;
 pub mod tables;
 pub mod tally;
