@@ -1,4 +1,4 @@
-//! Calls of the archive of include/drmcoder.h, compared with the second program's own results and timed beside them.
+//! Calls of the archive of include/drmcoder.h, compared with the second program's own results; `bench` uses both too.
 
 pub mod archive;
 pub mod beside;
