@@ -27,7 +27,7 @@ struct Beside {
     seen: BTreeMap<(&'static str, u8), usize>,
 }
 
-/// Runs of Code and Read from a reset, with changed calls beside them; prints how many, and panics where programs differ.
+/// Runs of Code and Read from a reset, with changed calls beside them; panics where programs differ.
 pub fn all() {
     let (draw, seen) = (Draw(SEED), BTreeMap::new());
     let mut beside = Beside { draw, one: Tuned::new(false), three: Tuned::new(true), seen };

@@ -21,20 +21,25 @@ bench coded-bits MODE OCCUPANCY MSC-MODE long|short
 fn main() -> ExitCode {
     let args: Vec<String> = std::env::args().skip(1).collect();
     let args: Vec<&str> = args.iter().map(String::as_str).collect();
-    let done = match args[..] {
-        [] => Some(times::print()),
-        ["compare"] => Some(compare::all()),
-        ["coded-bits", ref words @ ..] => words_settings(words).map(|s| println!("{}", rig::coded_bits(&s))),
-        [call, ref words @ .., calls, program] => some_calls(call, words, calls, program),
-        _ => None,
-    };
-    match done {
+    match done(&args) {
         Some(()) => ExitCode::SUCCESS,
         None => {
             eprintln!("{USAGE}");
             ExitCode::from(2)
         }
     }
+}
+
+/// Does what the words ask for, if these are right.
+fn done(args: &[&str]) -> Option<()> {
+    match args {
+        [] => times::print(),
+        ["compare"] => compare::all(),
+        ["coded-bits", words @ ..] => println!("{}", rig::coded_bits(&words_settings(words)?)),
+        [call, words @ .., calls, program] => some_calls(call, words, calls, program)?,
+        _ => return None,
+    }
+    Some(())
 }
 
 /// Both parts in use, half of the greatest X; protection levels 0 and 1, VSPP level 0, SDC in 16-QAM.
@@ -55,7 +60,7 @@ fn words_settings(words: &[&str]) -> Option<Settings> {
     (s.refusal() == 0).then_some(s)
 }
 
-/// Makes the calls that the words ask for, if these are right.
+/// Makes so many calls of a program.
 fn some_calls(call: &str, words: &[&str], calls: &str, program: &str) -> Option<()> {
     let call: fn(&mut Rig) = match call {
         "code" => Rig::code,

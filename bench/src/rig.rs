@@ -16,7 +16,7 @@ use tuned::Tuned;
 pub enum Program {
     Library,
     Second,
-    /// The tuned version, frame by frame, its tables made in each call: like the library it keeps nothing between calls.
+    /// The tuned version, frame by frame, its tables made in each call: like the library it keeps nothing.
     Tuned,
     /// The tuned version with three frames at once and its tables kept from call to call.
     Kept,
@@ -140,7 +140,7 @@ impl Rig {
         self.read_bytes.iter_mut().for_each(|bytes| bytes.fill(0xA5));
     }
 
-    /// Panics unless both runs have sent the same cells, have read the bits brought, and have equal states and memories.
+    /// Panics unless both runs sent the same cells, read the bits brought, and have equal states and memories.
     pub fn assert_same(&self, other: &Rig) {
         let same = |holds: bool, what: &str| assert!(holds, "{}: different {what}", self.settings.hex());
         same(self.cells == other.cells, "cells");

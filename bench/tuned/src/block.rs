@@ -52,7 +52,9 @@ impl<const L: usize> Labelling<L> {
 }
 
 /// Codes a block in each lane.
-pub fn code<const L: usize>(block: &Block, orders: &Orders, bytes: [&[u8]; L], cells: &mut [Cells; L], work: &mut Work) {
+pub fn code<const L: usize>(
+    block: &Block, orders: &Orders, bytes: [&[u8]; L], cells: &mut [Cells; L], work: &mut Work,
+) {
     unpack(bytes, &mut work.bits);
     disperse::<L>(block, &mut work.bits);
     for level in block.levels() {

@@ -173,7 +173,7 @@ fn tail_parities(input: &Input, level: &Level, i: usize) -> [u8; 4] {
     [b0, a(0) ^ a(1) ^ a(2) ^ a(3) ^ a(6), a(0) ^ a(1) ^ a(4) ^ a(6), b0]
 }
 
-/// Finds the bits that give a level's coded bits; 1 in each stream that has none. The input gets them behind its lead.
+/// Finds the bits that give a level's coded bits, behind the input's lead; 1 in each stream that has none.
 pub fn decode(level: &Level, coded: &[u8], work: &mut Input, input: &mut Input, b: &mut Parities) -> u8 {
     let [at_b, at_tail] = starts(level);
     let (bits_a, n) = (level.a.bits, level.a.bits + level.b.bits);
@@ -203,7 +203,7 @@ fn decode_tail(level: &Level, coded: &[u8], input: &mut Input) -> u8 {
     differ
 }
 
-/// Divides by g = 133 octal: 1/g = g g(x²) g(x⁴) g(x⁸) / g(x¹⁶), since g(x²) is the square of g. The quotient is in `out`.
+/// Divides by g, 133 octal: 1/g = g g(x²) g(x⁴) g(x⁸) / g(x¹⁶), since g(x²) is the square of g. `out` gets the quotient.
 fn divide(n: usize, work: &mut Input, out: &mut Input) {
     times::<1>(n, work, out);
     times::<2>(n, out, work);

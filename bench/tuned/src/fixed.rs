@@ -63,7 +63,7 @@ pub type Weights = [u8; 3];
 pub const STANDARD: Weights = [1, 2, 4];
 pub const HIERARCHICAL: Weights = [4, 1, 2];
 
-/// From the level bits of `L` lanes to their coordinates, and back; levels stand `L` bits apart, lanes next to each other.
+/// From level bits of `L` lanes to coordinates, and back; levels stand `L` bits apart, lanes next to each other.
 pub struct Labels<const L: usize> {
     /// Real axis, imaginary axis: the coordinate's half byte of each lane in the lane's byte.
     pub map: [[u32; 512]; 2],

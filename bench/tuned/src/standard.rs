@@ -98,7 +98,8 @@ type Protection = (&'static [usize], usize);
 static OF_SM16: [Protection; 2] = [(&[R1_3, R2_3], 3), (&[R1_2, R3_4], 4)];
 static OF_SM64: [Protection; 4] =
     [(&[R1_4, R1_2, R3_4], 4), (&[R1_3, R2_3, R4_5], 15), (&[R1_2, R3_4, R7_8], 8), (&[R2_3, R4_5, R8_9], 45)];
-static OF_HMSYM: [Protection; 4] = [(&[R3_10, R3_5], 10), (&[R4_11, R8_11], 11), (&[R4_7, R7_8], 56), (&[R2_3, R8_9], 9)];
+static OF_HMSYM: [Protection; 4] =
+    [(&[R3_10, R3_5], 10), (&[R4_11, R8_11], 11), (&[R4_7, R7_8], 56), (&[R2_3, R8_9], 9)];
 /// Imaginary 0, real 1, imaginary 1, real 2, imaginary 2.
 static OF_HMMIX: [Protection; 4] = [
     (&[R1_4, R3_10, R1_2, R3_5, R3_4], 20),

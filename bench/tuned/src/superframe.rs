@@ -290,7 +290,9 @@ fn known(s: &Settings, count: usize, r: usize) -> usize {
 }
 
 fn take_row(row: &[i16], places: &[u16], starts: [usize; DEPTH], known: usize, memory: &mut [u8]) {
-    let mut put = |delay: usize, cell: [i16; 2], place: u16| memory[starts[delay] + place as usize] = byte(cell[0], cell[1]);
+    let mut put = |delay: usize, [real, imaginary]: [i16; 2], place: u16| {
+        memory[starts[delay] + place as usize] = byte(real, imaginary);
+    };
     let (fives, rest) = row.as_chunks::<2>().0.as_chunks::<DEPTH>();
     let (place_fives, place_rest) = places.as_chunks::<DEPTH>();
     for (cells, places) in fives.iter().zip(place_fives) {
@@ -336,7 +338,7 @@ fn bytes_pass(memory: &[u8], top: i16) -> bool {
 }
 
 fn in_range(s: &Settings, state: &[u8]) -> bool {
-    state[10].max(state[11]) as usize <= s.slots() - 1
+    (state[10].max(state[11]) as usize) < s.slots()
 }
 
 /// Whether a spare bit of a packed block is set.
