@@ -10,12 +10,8 @@
 
 #include "drmcoder.h"
 
-enum { STACK = 8 * 1024 * 1024, PAINT = 0xA5, CALLS = 20 };
+enum { STACK = 8 * 1024 * 1024, PAINT = 0xA5 };
 
-static const char *const names[CALLS] = {"lengths", "sizes", "reset", "code", "read", "nearest", "fac_build",
-                                         "fac_read", "grid_sizes", "grid_place", "grid_take", "decide", "disperse",
-                                         "reset_table", "preview", "mux_build", "mux_read", "read_on",
-                                         "how_long", "plan"};
 static unsigned char *stack;
 
 /* What the calls are lent; all bits are zero. */
@@ -216,23 +212,59 @@ static size_t depth(void *(*body)(void *)) {
     return STACK - left;
 }
 
-/* Makes all calls with these settings; a reader, just reset, reads the cells that the coder gave three times. */
+/* In this order; a reader, just reset, reads the cells that the coder gave three times, and then goes on over them. */
+static const struct {
+    const char *name;
+    void *(*body)(void *);
+} calls[] = {
+    {"lengths", call_lengths},
+    {"sizes", call_sizes},
+    {"reset", call_reset},
+    {"code", call_code},
+    {"code", call_code},
+    {"code", call_code},
+    {"reset", call_reset},
+    {"read", call_read},
+    {"read", call_read},
+    {"read", call_read},
+    {"nearest", call_nearest},
+    {"fac_build", call_fac_build},
+    {"fac_read", call_fac_read},
+    {"grid_sizes", call_grid_sizes},
+    {"grid_place", call_grid_place},
+    {"grid_take", call_grid_take},
+    {"decide", call_decide},
+    {"disperse", call_disperse},
+    {"reset_table", call_reset_table},
+    {"preview", call_preview},
+    {"mux_build", call_mux_build},
+    {"mux_read", call_mux_read},
+    {"reset", call_reset},
+    {"read_on", call_read_on},
+    {"read_on", call_read_on},
+    {"read_on", call_read_on},
+    {"how_long", call_how_long},
+    {"plan", call_plan},
+};
+
+enum { CALLS = sizeof calls / sizeof calls[0] };
+
+/* The first of the calls with the name of call k. */
+static size_t first(size_t k) {
+    size_t i = 0;
+    while (strcmp(calls[i].name, calls[k].name) != 0)
+        i++;
+    return i;
+}
+
+/* Makes all calls with these settings. */
 static void measure(size_t deepest[CALLS]) {
-    static void *(*const bodies[])(void *) = {call_lengths, call_sizes, call_reset, call_code,  call_code,
-                                              call_code,    call_reset, call_read,  call_read, call_read,
-                                              call_nearest, call_fac_build, call_fac_read, call_grid_sizes,
-                                              call_grid_place, call_grid_take, call_decide, call_disperse,
-                                              call_reset_table, call_preview, call_mux_build, call_mux_read,
-                                              call_reset, call_read_on, call_read_on, call_read_on, call_how_long,
-                                              call_plan};
-    static const int kinds[] = {0,  1,  2,  3,  3,  3,  2,  4, 4,  4,  5,  6,  7,  8,
-                                9, 10, 11, 12, 13, 14, 15, 16, 2, 17, 17, 17, 18, 19};
     size_t empty = depth(nothing), k;
-    for (k = 0; k < sizeof kinds / sizeof kinds[0]; k++) {
-        size_t used = depth(bodies[k]) - empty;
+    for (k = 0; k < CALLS; k++) {
+        size_t used = depth(calls[k].body) - empty;
         must(answer == 0, "a good call is refused");
-        if (used > deepest[kinds[k]])
-            deepest[kinds[k]] = used;
+        if (used > deepest[first(k)])
+            deepest[first(k)] = used;
     }
 }
 
@@ -254,14 +286,15 @@ static void measure_all(size_t deepest[CALLS]) {
 }
 
 int main(void) {
-    size_t deepest[CALLS] = {0};
+    size_t deepest[CALLS] = {0}, k;
     void *place;
-    int k;
     must(posix_memalign(&place, 4096, STACK) == 0, "no memory for a stack");
     stack = place;
     measure_all(deepest);
     for (k = 0; k < CALLS; k++) {
-        printf("%s: %lu bytes of stack\n", names[k], (unsigned long)deepest[k]);
+        if (first(k) != k)
+            continue;
+        printf("%s: %lu bytes of stack\n", calls[k].name, (unsigned long)deepest[k]);
         must(deepest[k] <= DRM_STACK_BYTES, "more than DRM_STACK_BYTES");
     }
     return 0;
