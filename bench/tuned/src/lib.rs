@@ -1,4 +1,5 @@
-//! Code and Read written for speed, to measure the library against; from the papers, not from the second program.
+//! Code and Read written for speed, to measure the library against. The standard's tables are read as in the second
+//! program; no stage is its.
 //!
 //! Bits between two stages stand one a byte, and a byte may carry that bit of several blocks at once (its lanes), so
 //! that one pass, and one look at each place of an interleaver, serves them all. Parities are sums of shifted copies of
