@@ -70,7 +70,7 @@ remainder p x a c e = rw e (mul-add-mod-self-left p a c)
 Reached : ℕ → ℕ → ℕ → ℕ → Type 0
 Reached t q k r = (j : ℕ) × (j < 2 ^ k) × Same (2 ^ k) (orbit t q j) r
 
-spread : (t q s d r x : ℕ) → s * d + r ≡ x → s * (t * d) + (t * r + q) ≡ t * x + q
+pub spread : (t q s d r x : ℕ) → s * d + r ≡ x → s * (t * d) + (t * r + q) ≡ t * x + q
 spread t q s d r x e = rw (← e) (omega arith)
 
 module _ (t q : ℕ) where

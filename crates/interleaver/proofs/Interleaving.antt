@@ -127,6 +127,12 @@ module _ {A : Type 0} (z : A) (t : ℕ) (v : List A) where
         let e : i ≡ length v = le-antisymm l h in
         returned-one z t (length v) c v out (deinterleaved z t v) (rw e at w) returned
 
+    -- Put back over anything, the inputs are the deinterleaved list.
+    pub put-back-any : (out : List A) → length out ≡ length v → putBack t (length v) 0 v out ≡ deinterleaved z t v
+    put-back-any out e =
+        deinterleaved-end (putBack t (length v) 0 v out) (length v) (omega arith) (omega arith)
+        (returned-rest z t (length v) c v v out 0 (λ k. rw zero-add) (zero-add (length v)) (returned-start z t (length v) c v out e))
+
 module _ {A : Type 0} (z : A) (t : ℕ) (v : List A) (c : Cycles t (length v)) where
   -- Deinterleaving gives an interleaved list back.
   pub deinterleaved-interleaved : deinterleaved z t (interleaved z t v) ≡ v

@@ -16,14 +16,14 @@ use Rattle.interleaver.proofs.Cycle.{cycle, cycle-closed}
 use Rattle.interleaver.proofs.Size.{Sized, size-sized}
 
 -- The walk of the steps from 0.
-visit : ℕ → ℕ → ℕ → ℕ
+pub visit : ℕ → ℕ → ℕ → ℕ
 visit t n j = walk t (offset n) (size n) j
 
-visit-suc : (t n j : ℕ) → visit t n (suc j) ≡ step t n (visit t n j)
+pub visit-suc : (t n j : ℕ) → visit t n (suc j) ≡ step t n (visit t n j)
 unfolding visit walk step
 visit-suc t n j = refl
 
-visit-zero : (t n : ℕ) → visit t n 0 ≡ 0
+pub visit-zero : (t n : ℕ) → visit t n 0 ≡ 0
 unfolding visit walk
 visit-zero t n = refl
 
@@ -96,14 +96,14 @@ module _ (t n : ℕ) where
 
 module _ (t n : ℕ) (c : Cycles t n) where
   -- s is 2^k, 8 or more, and not below n.
-  sized : Sized n (size n)
+  pub sized : Sized n (size n)
   sized = size-sized n (omega arith)
 
   -- So q is not below 0.
   pub size-four : 4 ≤ size n
   size-four = omega (arith, sized .enough)
 
-  large : 3 ≤ sized .digits
+  pub large : 3 ≤ sized .digits
   large = go (sized .digits) (sized .power)
     where
       go : (k : ℕ) → size n ≡ 2 ^ k → 3 ≤ k
@@ -117,17 +117,17 @@ module _ (t n : ℕ) (c : Cycles t n) where
   unfolding step
   step-low x = mod-lt _ (omega (arith, sized .enough))
 
-  visit-low : (j : ℕ) → visit t n j < size n
+  pub visit-low : (j : ℕ) → visit t n j < size n
   visit-low zero = rw (visit-zero t n) (omega (arith, sized .enough))
   visit-low (suc j) = rw (visit-suc t n j) (step-low (visit t n j))
 
-  visited : (r : ℕ) → r < size n → Among (visit t n) (size n) r
+  pub visited : (r : ℕ) → r < size n → Among (visit t n) (size n) r
   unfolding visit offset
   visited r h =
       let w = cycle t (sized .digits) (size n) (c .factor) large (sized .power) r h in
       record { index = w .0; low = w .1; value = w .2 }
 
-  visit-end : visit t n (size n) ≡ 0
+  pub visit-end : visit t n (size n) ≡ 0
   unfolding visit offset
   visit-end = cycle-closed t (sized .digits) (size n) (c .factor) large (sized .power)
 
@@ -146,7 +146,7 @@ module _ (t n : ℕ) (c : Cycles t n) where
   place-low (suc i) = again-low _ (step-low _)
 
   -- The first number below n that the walk comes to from its step j on is the place with as many before it.
-  place-walk : (j : ℕ) → again t n (size n) (visit t n j) ≡ place t n (count (visit t n) n j)
+  pub place-walk : (j : ℕ) → again t n (size n) (visit t n j) ≡ place t n (count (visit t n) n j)
   unfolding place nextPlace count
   place-walk zero = rw (visit-zero t n) (again-here t n (size n) 0 (omega arith))
   place-walk (suc j) = go (below-or (visit t n j) n) (place-walk j)

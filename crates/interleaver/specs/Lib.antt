@@ -1,3 +1,4 @@
 pub mod Interleaving
 pub mod Deinterleaving
 pub mod Cycle
+pub mod Tables

@@ -9,26 +9,15 @@ use lib.ListN.{length, getD, take, drop, length-take, length-drop, List·getD-ap
 use lib.Seq.{getD-take, getD-drop, getD-append-add, length-take-le, take-at, drop-at}
 use lib.Pow.{pow-add, pow-pos}
 use Rattle.lists.specs.Lists.{table}
-use Rattle.interleaver.specs.Interleaving.{interleaved}
-use Rattle.interleaver.specs.Deinterleaving.{Cycles, deinterleaved}
-use Rattle.labels.specs.Contracts.{added, Weight, Adds}
+use Rattle.interleaver.specs.Deinterleaving.{deinterleaved}
+use Rattle.labels.specs.Contracts.{added, Weight}
 use Rattle.block.specs.Reading.{taken}
 use Rattle.lists.proofs.Tables.{Filled, filled-end, length-table, getD-table, table-at, table-is, table-ext, table-add, table-from}
-use Rattle.interleaver.proofs.Interleaving.{Along, interleaved-at, Returned, deinterleaved-end, deinterleaved-none}
+use Rattle.interleaver.proofs.Interleaving.{deinterleaved-none}
 
 -- A weight times a bit is at most the weight.
 pub weighed-le : (w b : ℕ) → b < 2 → w * b ≤ w
 weighed-le w b h = omega (arith, mul-le-mul-left {m = b} {n = 1} w (omega arith))
-
--- The next sum stays below 256.
-pub added-fits : (t w : ℕ) (bits d : List ℕ) (f : ℕ → ℕ) (out : List ℕ) (i p : ℕ) → Adds t w bits d → Filled 0 f d out i → getD out i 0 + w * getD bits p 0 < 256
-added-fits t w bits d f out i p h g =
-    omega (arith, weighed-le w (getD bits p 0) (h .bit p), h .room i, g .rest i (omega arith))
-
--- The next sum is the number with its bit added.
-pub added-next : (t w s q p i : ℕ) (bits d : List ℕ) (f : ℕ → ℕ) (out : List ℕ) → i < length bits → Along t (length bits) s q p i → Filled 0 f d out i
-    → getD out i 0 + w * getD bits p 0 ≡ getD d i 0 + w * getD (interleaved 0 t bits) i 0
-added-next t w s q p i bits d f out l a g = rw (g .rest i (omega arith), interleaved-at 0 t bits i l, a .place-is)
 
 -- What is filled with sums up to the end is the list with the bits added.
 pub added-end : (w i : ℕ) (bits labels out : List ℕ) → i ≡ length labels
@@ -45,14 +34,6 @@ taken-length w labels = length-table _ 0 (length labels)
 pub taken-at : (w : ℕ) (labels : List ℕ) (i : ℕ) → i < length labels → getD (taken w labels) i 0 ≡ getD labels i 0 / w % 2
 unfolding taken
 taken-at w labels i h = getD-table 0 _ (length labels) i h
-
--- With all bits taken back to their places the list is the deinterleaved one.
-pub taken-end : (t w i : ℕ) (labels out : List ℕ) → Cycles t (length labels) → i ≡ length labels
-    → Returned 0 t (length labels) (taken w labels) out i → out ≡ deinterleaved 0 t (taken w labels)
-taken-end t w i labels out c e h =
-    let l = taken-length w labels in
-    let n = length (taken w labels) in
-    deinterleaved-end 0 t (taken w labels) (rw l c) out n (omega arith) (omega arith) (rw (e, ← l) at h)
 
 -- A mask with a weight gives the weight times the bit.
 weighed : (w x : ℕ) (h : Weight w) → bitAnd x w ≡ x / w % 2 * w

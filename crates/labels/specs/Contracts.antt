@@ -1,8 +1,8 @@
 -- What adding bits to labels and taking them out requires and promises: nothing of 01 is stated here.
 use Prim.Native.Nat.{ℕ, _+_, _*_, _≤_, _<_, _^_}
 use mathlib.Core.Path.{_≡_}
-use mathlib.Core.List.{List}
-use lib.ListN.{length, getD}
+use mathlib.Core.List.{List, [], _∷_}
+use lib.ListN.{length, getD, set}
 use Rattle.component.specs.Bits.{Bits}
 use Rattle.block.specs.Fits.{Mixes}
 use Rattle.interleaver.specs.Deinterleaving.{Lends}
@@ -12,10 +12,39 @@ use Rattle.lists.specs.Lists.{table}
 unfoldable pub added : ℕ → List ℕ → List ℕ → List ℕ
 added weight bits labels = table (λ i. getD labels i 0 + weight * getD bits i 0) 0 (length labels)
 
+-- The values at these places, in their order.
+unfoldable pub gathered : List ℕ → List ℕ → List ℕ
+gathered places values = table (λ i. getD values (getD places i 0) 0) 0 (length places)
+
+-- The values stored at these places, one after the other.
+unfoldable pub scattered : List ℕ → List ℕ → List ℕ → List ℕ
+scattered [] values out = out
+scattered (p ∷ places) [] out = out
+scattered (p ∷ places) (a ∷ values) out = scattered places values (set out p a)
+
 -- A weight is a power of two.
 pub record Weight (weight : ℕ) : Type 0 where
   pub digit : ℕ
   pub power : weight ≡ 2 ^ digit
+
+-- Places of a list's elements, one for each.
+pub record Within (places l : List ℕ) : Type 0 where
+  pub long : length places ≡ length l
+  pub low : (i : ℕ) → i < length places → getD places i 0 < length l
+  pub high : length l ≤ 16384
+
+-- What adding bits by a table of their places requires: bits, and labels that stay below 256.
+pub record Gathers (weight : ℕ) (places bits labels : List ℕ) : Type 0 where
+  pub within : Within places bits
+  pub same : length labels ≡ length bits
+  pub bit : (k : ℕ) → getD bits k 0 < 2
+  pub room : (k : ℕ) → getD labels k 0 + weight < 256
+
+-- What taking bits out by a table of their places requires.
+pub record Scatters (weight : ℕ) (places labels out : List ℕ) : Type 0 where
+  pub within : Within places labels
+  pub same : length out ≡ length labels
+  pub weighs : Weight weight
 
 -- What adding interleaved bits requires: bits, and labels that stay below 256.
 pub record Adds (t weight : ℕ) (bits labels : List ℕ) : Type 0 where

@@ -1,14 +1,13 @@
 // Level bits with their weights: interleaved and added to labels, taken out again and put back. 01 "Bit interleaving" and "Mapping".
-use interleaver::order::next_place;
-use interleaver::order::offset_of;
-use interleaver::order::size_of;
+use interleaver::table::make_places;
 ghost use mathlib.Core.Path.{_≡_};
 ghost use Prim.Native.Nat.{_/_, _%_};
 ghost use Rattle.interleaver.specs.Interleaving.{interleaved};
 ghost use Rattle.interleaver.specs.Deinterleaving.{deinterleaved};
 ghost use Rattle.block.specs.Levels.{mixed};
 ghost use Rattle.block.specs.Reading.{taken, unmixed};
-ghost use Rattle.labels.specs.Contracts.{added, Weight, Adds, Takes, AddsPart, TakesPart};
+ghost use Rattle.lists.specs.Buffers.{Long};
+ghost use Rattle.labels.specs.Contracts.{added, gathered, scattered, Weight, Adds, Takes, AddsPart, TakesPart, Gathers, Scatters};
 
 // Bits as they are, times their weight, added to the labels.
 fn add_plain(weight: u8, bits: &[u8], labels: &mut [u8])
@@ -22,21 +21,35 @@ fn add_plain(weight: u8, bits: &[u8], labels: &mut [u8])
     }
 }
 
-// Number i becomes itself + weight × bit P(i): a level's bits are interleaved and added in one pass.
+// Room for the places of the most bits and one number more, from a function of its own: proofs then take its length and do not write it out.
+fn place_buffer() -> [u16; 16385]
+    ensures { λ r. ⌜ Long 16385 r ⌝ }
+{
+    [0u16; 16385]
+}
+
+// Label i becomes itself + weight × bit places[i].
+fn gather(weight: u8, places: &[u16], bits: &[u8], labels: &mut [u8])
+    requires { ⌜ Gathers weight (now places) (now bits) (now labels) ⌝ }
+    ensures { λ r. ⌜ now (labels .exit) ≡ added weight (gathered (now (places .entry)) (now (bits .entry))) (now (labels .entry)) ⌝ }
+{
+    let mut i = 0;
+    while i < labels.len() {
+        let p = places[i] as usize;
+        labels[i] = labels[i] + weight * bits[p];
+        i += 1;
+    }
+}
+
+// Label i becomes itself + weight × bit P(i): a level's bits are interleaved and added in one pass.
 fn add_interleaved(t: usize, weight: u8, bits: &[u8], labels: &mut [u8])
     requires { ⌜ Adds t weight (now bits) (now labels) ⌝ }
     ensures { λ r. ⌜ now (labels .exit) ≡ added weight (interleaved 0 t (now (bits .entry))) (now (labels .entry)) ⌝ }
 {
+    let mut places = place_buffer();
     let n = bits.len();
-    let s = size_of(n);
-    let q = offset_of(s);
-    let mut place = 0;
-    let mut i = 0;
-    while i < n {
-        labels[i] = labels[i] + weight * bits[place];
-        place = next_place(t, n, s, q, place);
-        i += 1;
-    }
+    make_places(t, n, &mut places[0..n + 1]);
+    gather(weight, &places[0..n], bits, labels);
 }
 
 // A part's bits, interleaved or as they are, times their weight, added to the labels.
@@ -74,21 +87,28 @@ fn take_plain(weight: u8, labels: &[u8], out: &mut [u8])
     }
 }
 
-// Output P(i) is the bit with that weight in number i: the inverse of add_interleaved.
+// Output places[i] becomes the bit with that weight in label i.
+fn scatter(weight: u8, places: &[u16], labels: &[u8], out: &mut [u8])
+    requires { ⌜ Scatters weight (now places) (now labels) (now out) ⌝ }
+    ensures { λ r. ⌜ now (out .exit) ≡ scattered (now (places .entry)) (taken weight (now (labels .entry))) (now (out .entry)) ⌝ }
+{
+    let mut i = 0;
+    while i < labels.len() {
+        let p = places[i] as usize;
+        out[p] = weighed_bit(labels[i], weight);
+        i += 1;
+    }
+}
+
+// Output P(i) is the bit with that weight in label i: the inverse of add_interleaved.
 fn take_interleaved(t: usize, weight: u8, labels: &[u8], out: &mut [u8])
     requires { ⌜ Takes t weight (now labels) (now out) ⌝ }
     ensures { λ r. ⌜ now (out .exit) ≡ deinterleaved 0 t (taken weight (now (labels .entry))) ⌝ }
 {
+    let mut places = place_buffer();
     let n = labels.len();
-    let s = size_of(n);
-    let q = offset_of(s);
-    let mut place = 0;
-    let mut i = 0;
-    while i < n {
-        out[place] = weighed_bit(labels[i], weight);
-        place = next_place(t, n, s, q, place);
-        i += 1;
-    }
+    make_places(t, n, &mut places[0..n + 1]);
+    scatter(weight, &places[0..n], labels, out);
 }
 
 // The bits with that weight in the labels, put back to their places or as they are.

@@ -1,0 +1,138 @@
+-- Bits gathered and scattered by the table of their places: interleaved, and put back. Assumes nothing.
+use Prim.Native.Nat.{ℕ, zero, suc, _+_, _*_, _-_, _≤_, _<_}
+use mathlib.Core.Path.{_≡_, refl, sym, ap, _∙_}
+use mathlib.Core.List.{List, [], _∷_, _++_, append-assoc}
+use native.Mathlib.Nat.{suc-add}
+use native.Mathlib.Omega.{arith}
+use lib.ListN.{length, getD, set, take, drop, length-set, length-append}
+use lib.Seq.{take-at}
+use Rattle.lists.specs.Lists.{table}
+use Rattle.lists.proofs.Tables.{length-table, getD-table, table-ext, Filled}
+use Rattle.lists.proofs.Parts.{from-start}
+use Rattle.interleaver.specs.Interleaving.{place, interleaved}
+use Rattle.interleaver.specs.Deinterleaving.{Cycles, Interleaves, putBack, deinterleaved}
+use Rattle.interleaver.specs.Tables.{places}
+use Rattle.interleaver.proofs.Places.{place-low}
+use Rattle.interleaver.proofs.Interleaving.{put-back-any}
+use Rattle.block.specs.Reading.{taken}
+use Rattle.labels.specs.Contracts.{added, gathered, scattered, Within, Gathers, Scatters, Adds, Takes}
+use Rattle.labels.proofs.Weights.{weighed-le, taken-length}
+
+-- the places of a part's bits
+pub places-length : (t n : ℕ) → length (places t n) ≡ n
+unfolding places
+places-length t n = length-table (place t n) 0 n
+
+pub places-within : {t n : ℕ} → Interleaves t n → (l : List ℕ) → length l ≡ n → Within (places t n) l
+unfolding places
+places-within {t} {n} c l e =
+    record {
+      long = places-length t n ∙ sym e;
+      low = λ i h. rw (getD-table 0 (place t n) n i (omega (arith, places-length t n, h)), e) (place-low t n (c .cycles) i);
+      high = omega (arith, e, c .high);
+    }
+
+-- the front of a buffer into which they were made
+pub places-made : (t n : ℕ) (part rest : List ℕ) → part ≡ places t n ++ (0 ∷ []) → take (n - 0) (part ++ rest) ≡ places t n
+places-made t n part rest e =
+    rw (e, from-start n, append-assoc (places t n) (0 ∷ []) rest) (take-at (places t n) ((0 ∷ []) ++ rest) n (places-length t n))
+
+pub places-room : (t n : ℕ) (part rest : List ℕ) → part ≡ places t n ++ (0 ∷ []) → n ≤ length (part ++ rest)
+places-room t n part rest e = rw (e, length-append, length-append) (omega (arith, places-length t n))
+
+-- the place of an element
+pub within-low : {ps l : List ℕ} → Within ps l → (i : ℕ) → i < length l → getD ps i 0 < length l
+within-low W i h = W .low i (omega (arith, W .long))
+
+-- gathered by them, bits are interleaved
+pub gathered-places : (t : ℕ) (v : List ℕ) → gathered (places t (length v)) v ≡ interleaved 0 t v
+unfolding gathered interleaved places
+gathered-places t v =
+    rw (length-table (place t (length v)) 0 (length v))
+    (table-ext _ _ 0 (length v) (λ i a b. ap (λ (p : ℕ). getD v p 0) (getD-table 0 (place t (length v)) (length v) i (omega arith))))
+
+-- scattered by them, they are put back
+scattered-back : (t n i : ℕ) (v out : List ℕ) → scattered (table (place t n) i (length v)) v out ≡ putBack t n i v out
+unfolding scattered putBack table
+scattered-back t n i [] out = refl
+scattered-back t n i (a ∷ v) out = scattered-back t n (suc i) v (set out (place t n i) a)
+
+pub scattered-places : (t : ℕ) (v out : List ℕ) → Cycles t (length v) → length out ≡ length v → scattered (places t (length v)) v out ≡ deinterleaved 0 t v
+unfolding places
+scattered-places t v out c e = scattered-back t (length v) 0 v out ∙ put-back-any 0 t v c out e
+
+-- The next sum stays below 256.
+pub gather-fits : {w : ℕ} {ps bits d : List ℕ} {f : ℕ → ℕ} {out : List ℕ} {i : ℕ} (p : ℕ) → Gathers w ps bits d → Filled 0 f d out i → getD out i 0 + w * getD bits p 0 < 256
+gather-fits {w} {ps} {bits} {d} {f} {out} {i} p R F = omega (arith, weighed-le w (getD bits p 0) (R .bit p), R .room i, F .rest i (omega arith))
+
+-- It is the label with its bit added.
+pub gather-next : {w : ℕ} {ps bits d : List ℕ} {f : ℕ → ℕ} {out : List ℕ} {i : ℕ} → Gathers w ps bits d → i < length ps → Filled 0 f d out i
+    → getD out i 0 + w * getD bits (getD ps i 0) 0 ≡ getD d i 0 + w * getD (gathered ps bits) i 0
+unfolding gathered
+gather-next {w} {ps} {bits} {d} {f} {out} {i} R h F =
+    rw (F .rest i (omega arith), getD-table 0 (λ (j : ℕ). getD bits (getD ps j 0) 0) (length ps) i h)
+
+-- The values from place i on are left to scatter.
+pub record Scattering (ps values d out : List ℕ) (i : ℕ) : Type 0 where
+  pub long : length out ≡ length d
+  pub left : scattered (drop i ps) (drop i values) out ≡ scattered ps values d
+
+pub scattering-start : (ps values d : List ℕ) → Scattering ps values d d 0
+scattering-start ps values d = record { long = refl; left = refl }
+
+drop-next : (l : List ℕ) (i : ℕ) → i < length l → drop i l ≡ getD l i 0 ∷ drop (i + 1) l
+drop-next [] i h = absurd (omega arith)
+drop-next (a ∷ l) zero h = refl
+drop-next (a ∷ l) (suc i) h = rw suc-add (drop-next l i (omega arith))
+
+pub scattering-turn : {ps values d out : List ℕ} {i : ℕ} (a : ℕ) → i < length ps → i < length values → a ≡ getD values i 0 → Scattering ps values d out i
+    → Scattering ps values d (set out (getD ps i 0) a) (i + 1)
+unfolding scattered
+scattering-turn {ps} {values} {d} {out} {i} a h k e w =
+    record {
+      long = length-set out (getD ps i 0) a ∙ w .long;
+      left = rw e (rw (drop-next ps i h, drop-next values i k) at (w .left));
+    }
+
+drop-all : (l : List ℕ) (i : ℕ) → length l ≤ i → drop i l ≡ []
+drop-all [] zero h = refl
+drop-all [] (suc i) h = refl
+drop-all (a ∷ l) zero h = absurd (omega arith)
+drop-all (a ∷ l) (suc i) h = drop-all l i (omega arith)
+
+pub scattering-end : {ps values d out : List ℕ} {i : ℕ} → length ps ≤ i → Scattering ps values d out i → out ≡ scattered ps values d
+unfolding scattered
+scattering-end {ps} {values} {d} {out} {i} h w = rw (drop-all ps i h) at (w .left)
+
+-- what gathering and scattering by these places require
+pub adds-gathers : {t w : ℕ} {bits d : List ℕ} → Adds t w bits d → Gathers w (places t (length bits)) bits d
+adds-gathers {t} {w} {bits} {d} R =
+    record { within = places-within (R .lends .fits) bits refl; same = R .lends .same; bit = R .bit; room = R .room }
+
+pub takes-scatters : {t w : ℕ} {labels out : List ℕ} → Takes t w labels out → Scatters w (places t (length labels)) labels out
+takes-scatters {t} {w} {labels} {out} R =
+    record { within = places-within (R .lends .fits) labels refl; same = R .lends .same; weighs = R .weighs }
+
+-- and what is scattered then is what goes back
+pub taken-scattered : {t w : ℕ} {labels out : List ℕ} → Takes t w labels out → scattered (places t (length labels)) (taken w labels) out ≡ deinterleaved 0 t (taken w labels)
+taken-scattered {t} {w} {labels} {out} R =
+    let e = taken-length w labels in
+    rw e at (scattered-places t (taken w labels) out (rw e (R .lends .fits .cycles)) (R .lends .same ∙ sym e))
+
+-- gathered and scattered by places that stand at the front of a buffer
+module _ (part buffer : List ℕ) where
+  module _ {t w : ℕ} {bits d : List ℕ} (R : Adds t w bits d) (e : part ≡ places t (length bits) ++ (0 ∷ [])) where
+    pub gathers-made : Gathers w (take (length bits - 0) (part ++ drop (length bits + 1 - 0) buffer)) bits d
+    gathers-made = rw (places-made t (length bits) part (drop (length bits + 1 - 0) buffer) e) (adds-gathers R)
+
+    pub added-made : {out : List ℕ} → out ≡ added w (gathered (take (length bits - 0) (part ++ drop (length bits + 1 - 0) buffer)) bits) d
+        → out ≡ added w (interleaved 0 t bits) d
+    added-made f = rw (places-made t (length bits) part (drop (length bits + 1 - 0) buffer) e, gathered-places t bits) at f
+
+  module _ {t w : ℕ} {labels out : List ℕ} (R : Takes t w labels out) (e : part ≡ places t (length labels) ++ (0 ∷ [])) where
+    pub scatters-made : Scatters w (take (length labels - 0) (part ++ drop (length labels + 1 - 0) buffer)) labels out
+    scatters-made = rw (places-made t (length labels) part (drop (length labels + 1 - 0) buffer) e) (takes-scatters R)
+
+    pub taken-made : {out′ : List ℕ} → out′ ≡ scattered (take (length labels - 0) (part ++ drop (length labels + 1 - 0) buffer)) (taken w labels) out
+        → out′ ≡ deinterleaved 0 t (taken w labels)
+    taken-made f = (rw (places-made t (length labels) part (drop (length labels + 1 - 0) buffer) e) at f) ∙ taken-scattered R
