@@ -15,7 +15,7 @@ use Rattle.component.proofs.Decoding.{length-decode}
 use Rattle.block.specs.declared.Level.{Level}
 use Rattle.block.specs.declared.Block.{Block}
 use Rattle.block.specs.Block.{levelsOf, oneAxis}
-use Rattle.multilevel.specs.Contracts.{levelAt, bitsIn, bitsBefore, ReadsLevel, LevelRead, ReadsAt, ReadAt, digitAt, axisLabels, ReadsLevels, ReadsStream}
+use Rattle.multilevel.specs.Contracts.{levelAt, bitsIn, bitsBefore, ReadsLevel, LevelRead, ReadsAt, ReadAt, digitAt, axisLabels, ReadsLevels, ReadsStream, takenOver}
 use Rattle.multilevel.proofs.Totals.{levels-table}
 use Rattle.multilevel.proofs.Partition.{before-mono, part-long, ends-a, ends-b}
 
@@ -208,3 +208,14 @@ module _ {ls : List Level} {a b a′ b′ : List ℕ} {l w : ℕ} (one : Bool) (
       → ReadAt ls l (taken w own) a b a′ b′ → ReadAt ls l (streamIn one labels l) a b a′ b′
   unfolding streamIn axisLabels
   read-axis o e own f R = rw (o, ← e, ← f) R
+
+-- and the working buffer has its coded bits
+module _ (lv : Level) (l w : ℕ) (coded : List ℕ) (one : Bool) (labels : List ℕ) {coded′ : List ℕ} where
+  pub over-both : one ≡ false → w ≡ 2 ^ l → coded′ ≡ takenOver lv (taken w labels) coded → coded′ ≡ takenOver lv (streamIn one labels l) coded
+  unfolding streamIn
+  over-both o e f = rw (o, ← e) f
+
+  pub over-axis : one ≡ true → w ≡ 2 ^ (l / 2) → (own : List ℕ) → own ≡ axisLabels (l % 2) labels
+      → coded′ ≡ takenOver lv (taken w own) coded → coded′ ≡ takenOver lv (streamIn one labels l) coded
+  unfolding streamIn axisLabels
+  over-axis o e own f g = rw (o, ← e, ← f) g

@@ -12,7 +12,7 @@ use Rattle.component.specs.Codeword.{encode, tailBits}
 use Rattle.component.specs.Decoding.{codedLength, segment}
 use Rattle.patterns.specs.Contracts.{patternOf, Held}
 use Rattle.component.specs.Coding.{Encodes, Encoded}
-use Rattle.multilevel.specs.Contracts.{codedWithTail, CodesA, CodedA, CodesB, CodesLevel}
+use Rattle.multilevel.specs.Contracts.{codedWithTail, codedOver, CodesA, CodedA, CodesB, CodesLevel}
 use Rattle.labels.specs.Contracts.{added, Room, AddsPart}
 use Rattle.component.proofs.Register.{after-low}
 use Rattle.component.proofs.Codeword.{encode-bits, codeword-bits, codeword-one, codeword-two, length-tail}
@@ -162,6 +162,12 @@ module _ {l : Level} {w : ℕ} {a b coded labels : List ℕ} (R : CodesLevel l w
           size = rw (rest-is, rest-length);
           room = rw (rest-is, rest-kept) (room-drop n room-all);
         }
+
+    -- the working buffer has both parts' coded bits
+    pub over-level : {coded′ coded″ : List ℕ} → coded′ ≡ sets coded 0 (encode (patternOf (l .patterna)) 0 0 a) → coded″ ≡ sets coded′ 0 (codedWithTail l r b)
+        → coded″ ≡ codedOver l a b coded
+    unfolding codedOver
+    over-level {coded′} {coded″} e f = f ∙ rw (e, C .state)
 
     none-left : drop (length labels′ - n) (drop n labels′) ≡ []
     none-left = rw (← length-drop n labels′) (drop-length (drop n labels′))

@@ -5,18 +5,25 @@ use mathlib.Core.List.{List, _++_}
 use native.Mathlib.Omega.{arith}
 use lib.Dec.{lit<}
 use lib.ListN.{length, take, drop, length-append, length-drop}
-use lib.Seq.{length-take-le, take-all}
-use Rattle.lists.proofs.Parts.{from-start}
+use native.Mathlib.Nat.{zero-add}
+use lib.Seq.{sets, sets-eq, length-sets, length-take-le, take-all}
+use Rattle.lists.proofs.Parts.{from-start, length-start}
 use Rattle.patterns.specs.declared.Pattern.{Pattern}
 use Rattle.component.specs.Decoding.{codedLength, decode}
 use Rattle.patterns.specs.Contracts.{patternOf, Held}
 use Rattle.component.specs.Coding.{Decodes, Decoded}
-use Rattle.multilevel.specs.Contracts.{ReadsPart, PartRead, ReadsLevel, LevelRead}
+use Rattle.multilevel.specs.Contracts.{takenOver, ReadsPart, PartRead, ReadsLevel, LevelRead}
 use Rattle.block.specs.Reading.{taken, unmixed, sizeA, sizeB, inputA, inputB}
 use Rattle.component.proofs.Register.{after-low}
 use Rattle.component.proofs.Decoding.{decode-bits}
 use Rattle.labels.proofs.Weights.{take-taken, drop-taken}
 use Rattle.block.specs.declared.Level.{Level}
+
+-- a part written at the front of a buffer is stored there
+stored-front : (x d : List ℕ) (n : ℕ) → length x ≡ length (take (n - 0) d) → n ≤ length d → x ++ drop (n - 0) d ≡ sets d 0 x
+stored-front x d n k h =
+    let e : length x ≡ n = k ∙ length-start n d h in
+    rw (from-start n, sets-eq x d 0 (omega (arith, e, h)), zero-add (length x), e)
 
 -- a part can be decoded from the bits that were taken out
 pub decodes : {p : Pattern} {r t w : ℕ} {labels coded out coded′ : List ℕ} → ReadsPart p r t w labels coded out → length coded′ ≡ length coded
@@ -95,6 +102,22 @@ module _ {l : Level} {w : ℕ} {labels coded a b : List ℕ} (R : ReadsLevel l w
             };
             there = rw (rest-all, e) (omega arith);
           }
+
+      -- the working buffer has both parts' coded bits
+      pub over-parts : (part₁ part₂ : List ℕ) → part₁ ≡ unmixed (l .t) (taken w (take (first - 0) labels))
+          → part₂ ≡ unmixed (l .t) (taken w (take (length labels - first) (drop first labels)))
+          → length part₁ ≡ length (take (first - 0) coded) → length part₂ ≡ length (take (length labels - first - 0) (part₁ ++ drop (first - 0) coded))
+          → part₂ ++ drop (length labels - first - 0) (part₁ ++ drop (first - 0) coded) ≡ takenOver l (taken w labels) coded
+      unfolding takenOver sizeA
+      over-parts part₁ part₂ p q h k =
+          let one : part₁ ++ drop (first - 0) coded ≡ sets coded 0 part₁ = stored-front part₁ coded first h first-coded in
+          let there : length labels - first ≤ length (sets coded 0 part₁) = rw (length-sets coded 0 part₁) (omega (arith, R .buffer)) in
+          let two = stored-front part₂ (sets coded 0 part₁) (length labels - first) (rw one at k) there in
+          let p′ : part₁ ≡ unmixed (l .t) (take (codedLength (patternOf (l .patterna)) 0 (l .bitsa)) (taken w labels)) =
+          rw (from-start first, ← take-taken w first labels, first-is) at p in
+          let q′ : part₂ ≡ unmixed (l .t) (drop (codedLength (patternOf (l .patterna)) 0 (l .bitsa)) (taken w labels)) =
+          rw (rest-all, ← drop-taken w first labels, first-is) at q in
+          rw one (two ∙ rw (p′, q′))
 
       part-a : a′ ≡ decode (patternOf (l .patterna)) 0 0 (length a) (unmixed (l .t) (take (codedLength (patternOf (l .patterna)) 0 (length a)) (taken w labels)))
       part-a = rw (from-start first, ← take-taken w first labels, front-is) at (P .written)

@@ -10,7 +10,7 @@ use native.Mathlib.Omega.{arith}
 use lib.ListN.{length, take, drop, length-take, length-drop}
 use Rattle.component.specs.Bits.{Bits}
 use Rattle.component.proofs.Bits.{bits-drop}
-use Rattle.multilevel.specs.Contracts.{CodesLevel, levelAt, bitsIn, bitsBefore, streamAt, Sums, LevelThere, CodesAt}
+use Rattle.multilevel.specs.Contracts.{codedOver, codedOverAt, CodesLevel, levelAt, bitsIn, bitsBefore, streamAt, Sums, LevelThere, CodesAt}
 use Rattle.labels.specs.Contracts.{added}
 use Rattle.block.specs.declared.Level.{Level}
 use Rattle.block.specs.Levels.{stream}
@@ -85,4 +85,12 @@ module _ {ls : List Level} {l w : ℕ} {a b coded labels : List ℕ} (C : CodesA
       → after ≡ added w (streamAt ls a b l) labels
   unfolding streamAt
   coded-is e =
+      rw (part-is a s (levelAt ls l .bitsa) (bitsBefore ls false l) es, part-is b r (levelAt ls l .bitsb) (bitsBefore ls true l) er) at e
+
+  -- and the working buffer its coded bits
+  pub over-at : {after : List ℕ}
+      → after ≡ codedOver (levelAt ls l) (take (s + levelAt ls l .bitsa - s) (drop s a)) (take (r + levelAt ls l .bitsb - r) (drop r b)) coded
+      → after ≡ codedOverAt ls a b l coded
+  unfolding codedOverAt
+  over-at e =
       rw (part-is a s (levelAt ls l .bitsa) (bitsBefore ls false l) es, part-is b r (levelAt ls l .bitsb) (bitsBefore ls true l) er) at e

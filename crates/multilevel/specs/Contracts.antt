@@ -17,7 +17,7 @@ use Rattle.patterns.specs.Contracts.{patternOf, Held}
 use Rattle.lists.specs.Lists.{table}
 use lib.Seq.{sets}
 use Rattle.block.specs.Block.{oneAxis}
-use Rattle.block.specs.Reading.{taken, unmixed, inputA, inputB}
+use Rattle.block.specs.Reading.{taken, unmixed, sizeA, inputA, inputB}
 use Rattle.labels.specs.Contracts.{Room, TakesPart, Weight, added}
 
 -- What the code would find past the last of a block's places.
@@ -97,6 +97,23 @@ pub record PartsOf (k : Block) (a b : List ℕ) : Type 0 where
 -- The coded bits of part B and of its tail's six zero bits, from a register on.
 abbrev pub codedWithTail : Level → ℕ → List ℕ → List ℕ
 codedWithTail l register bits = codeword register (segment (patternOf (l .patternb)) bits ∷ segment (patternOf (l .tail)) tailBits ∷ [])
+
+-- What coding a level leaves in its working buffer: part A's coded bits stored at the front, and then part B's.
+unfoldable pub codedOver : Level → List ℕ → List ℕ → List ℕ → List ℕ
+codedOver l a b coded = sets (sets coded 0 (encode (patternOf (l .patterna)) 0 0 a)) 0 (codedWithTail l (after 0 a) b)
+
+-- The same of level l of a block, by its bits in parts A and B.
+unfoldable pub codedOverAt : List Level → List ℕ → List ℕ → ℕ → List ℕ → List ℕ
+codedOverAt ls a b l coded =
+    codedOver
+    (levelAt ls l)
+    (take (levelAt ls l .bitsa) (drop (bitsBefore ls false l) a))
+    (take (levelAt ls l .bitsb) (drop (bitsBefore ls true l) b))
+    coded
+
+-- What reading a level from its stream y leaves there: part A's coded bits in their order stored at the front, and then part B's.
+unfoldable pub takenOver : Level → List ℕ → List ℕ → List ℕ
+takenOver l y coded = sets (sets coded 0 (unmixed (l .t) (take (sizeA l) y))) 0 (unmixed (l .t) (drop (sizeA l) y))
 
 -- How many they are for n input bits.
 abbrev pub sizeWithTail : Level → ℕ → ℕ

@@ -9,8 +9,10 @@ use labels::bits::add_part;
 ghost use mathlib.Core.Path.{_≡_};
 ghost use lib.ListN.{length};
 ghost use lib.Seq.{sets};
+ghost use Rattle.component.specs.Codeword.{encode};
+ghost use Rattle.patterns.specs.Contracts.{patternOf};
 ghost use Rattle.lists.specs.Lists.{table};
-ghost use Rattle.multilevel.specs.Contracts.{streamAt, stepped, CodesAt, CodesLevels, codedWithTail, CodesA, CodedA, EncodesB, CodesB, CodesLevel};
+ghost use Rattle.multilevel.specs.Contracts.{streamAt, codedOver, codedOverAt, stepped, CodesAt, CodesLevels, codedWithTail, CodesA, CodedA, EncodesB, CodesB, CodesLevel};
 ghost use Rattle.labels.specs.Contracts.{added};
 ghost use Rattle.block.specs.Levels.{mixed, stream};
 ghost use Rattle.block.specs.Mapping.{labelAt};
@@ -19,6 +21,7 @@ ghost use Rattle.block.specs.Mapping.{labelAt};
 fn code_a(l: Level, weight: u8, a: &[u8], coded: &mut [u8], labels: &mut [u8]) -> Coder
     requires { ⌜ CodesA l weight (now a) (now coded) (now labels) ⌝ }
     ensures { λ r. ⌜ CodedA l weight (now (a .entry)) (now (labels .entry)) (r .register) (r .at) (now (labels .exit)) ⌝ }
+    ensures { λ r. ⌜ now (coded .exit) ≡ sets (now (coded .entry)) 0 (encode (patternOf (l .patterna)) 0 0 (now (a .entry))) ⌝ }
 {
     let pattern = l.patterna;
     let coder = encode(pattern, 0, a, coded, 0);
@@ -43,6 +46,7 @@ fn encode_b(l: Level, register: u32, b: &[u8], out: &mut [u8])
 fn code_b(l: Level, register: u32, weight: u8, b: &[u8], coded: &mut [u8], labels: &mut [u8])
     requires { ⌜ CodesB l register weight (now b) (now coded) (now labels) ⌝ }
     ensures { λ r. ⌜ now (labels .exit) ≡ added weight (mixed (l .t) (codedWithTail l register (now (b .entry)))) (now (labels .entry)) ⌝ }
+    ensures { λ r. ⌜ now (coded .exit) ≡ sets (now (coded .entry)) 0 (codedWithTail l register (now (b .entry))) ⌝ }
 {
     encode_b(l, register, b, coded);
     let n = labels.len();
@@ -53,6 +57,7 @@ fn code_b(l: Level, register: u32, weight: u8, b: &[u8], coded: &mut [u8], label
 fn code_level(l: Level, weight: u8, a: &[u8], b: &[u8], coded: &mut [u8], labels: &mut [u8])
     requires { ⌜ CodesLevel l weight (now a) (now b) (now coded) (now labels) ⌝ }
     ensures { λ r. ⌜ now (labels .exit) ≡ added weight (stream l (now (a .entry)) (now (b .entry))) (now (labels .entry)) ⌝ }
+    ensures { λ r. ⌜ now (coded .exit) ≡ codedOver l (now (a .entry)) (now (b .entry)) (now (coded .entry)) ⌝ }
 {
     let coder = code_a(l, weight, a, coded, labels);
     let n = coder.at;
@@ -63,6 +68,7 @@ fn code_level(l: Level, weight: u8, a: &[u8], b: &[u8], coded: &mut [u8], labels
 fn code_at(k: Block, l: usize, weight: u8, a: &[u8], b: &[u8], coded: &mut [u8], labels: &mut [u8])
     requires { ⌜ CodesAt (k .levels) l weight (now a) (now b) (now coded) (now labels) ⌝ }
     ensures { λ r. ⌜ now (labels .exit) ≡ added weight (streamAt (k .levels) (now (a .entry)) (now (b .entry)) l) (now (labels .entry)) ⌝ }
+    ensures { λ r. ⌜ now (coded .exit) ≡ codedOverAt (k .levels) (now (a .entry)) (now (b .entry)) l (now (coded .entry)) ⌝ }
 {
     let levels = k.levels;
     let level = levels[l];

@@ -13,9 +13,9 @@ ghost use mathlib.Core.Path.{_≡_};
 ghost use Prim.Native.Nat.{_^_, _<_};
 ghost use lib.ListN.{length};
 ghost use Rattle.lists.specs.Lists.{table};
-ghost use Rattle.block.specs.Reading.{taken, streamIn, inputsA, inputsB};
+ghost use Rattle.block.specs.Reading.{taken, unmixed, streamIn, inputsA, inputsB};
 ghost use Rattle.block.specs.Block.{levelsOf, oneAxis};
-ghost use Rattle.multilevel.specs.Contracts.{ReadsPart, PartRead, ReadsLevel, LevelRead, ReadsAt, ReadAt, axisLabels, TakesAxis, ReadsStream, ReadsLevels};
+ghost use Rattle.multilevel.specs.Contracts.{levelAt, takenOver, ReadsPart, PartRead, ReadsLevel, LevelRead, ReadsAt, ReadAt, axisLabels, TakesAxis, ReadsStream, ReadsLevels};
 
 // The input bits of a part, as many as out is long, from the labels; the register behind them.
 fn read_part(
@@ -29,6 +29,7 @@ fn read_part(
 ) -> u32
     requires { ⌜ ReadsPart pattern register t weight (now labels) (now coded) (now out) ⌝ }
     ensures { λ r. ⌜ PartRead pattern register t weight (now (labels .entry)) (length (now (out .entry))) r (now (out .exit)) ⌝ }
+    ensures { λ r. ⌜ now (coded .exit) ≡ unmixed t (taken weight (now (labels .entry))) ⌝ }
 {
     take_part(t, weight, labels, coded);
     let coder = decode(pattern, register, coded, 0, out);
@@ -39,6 +40,7 @@ fn read_part(
 fn read_level(l: Level, weight: u8, labels: &[u8], coded: &mut [u8], a: &mut [u8], b: &mut [u8])
     requires { ⌜ ReadsLevel l weight (now labels) (now coded) (now a) (now b) ⌝ }
     ensures { λ r. ⌜ LevelRead l (taken weight (now (labels .entry))) (now (a .exit)) (now (b .exit)) ⌝ }
+    ensures { λ r. ⌜ now (coded .exit) ≡ takenOver l (taken weight (now (labels .entry))) (now (coded .entry)) ⌝ }
 {
     let patterna = l.patterna;
     let patternb = l.patternb;
@@ -76,6 +78,7 @@ fn read_at(
 )
     requires { ⌜ ReadsAt (k .levels) l weight (now labels) (now coded) (now a) (now b) ⌝ }
     ensures { λ r. ⌜ ReadAt (k .levels) l (taken weight (now (labels .entry))) (now (a .entry)) (now (b .entry)) (now (a .exit)) (now (b .exit)) ⌝ }
+    ensures { λ r. ⌜ now (coded .exit) ≡ takenOver (levelAt (k .levels) l) (taken weight (now (labels .entry))) (now (coded .entry)) ⌝ }
 {
     let levels = k.levels;
     let level = levels[l];
@@ -121,6 +124,7 @@ fn take_axis(a: usize, labels: &[u8], out: &mut [u8])
 fn read_stream(k: Block, l: usize, labels: &[u8], coded: &mut [u8], a: &mut [u8], b: &mut [u8])
     requires { ⌜ ReadsStream k l (now labels) (now coded) (now a) (now b) ⌝ }
     ensures { λ r. ⌜ ReadAt (k .levels) l (streamIn (oneAxis k) (now (labels .entry)) l) (now (a .entry)) (now (b .entry)) (now (a .exit)) (now (b .exit)) ⌝ }
+    ensures { λ r. ⌜ now (coded .exit) ≡ takenOver (levelAt (k .levels) l) (streamIn (oneAxis k) (now (labels .entry)) l) (now (coded .entry)) ⌝ }
 {
     if k.constellation == HMMIX {
         let mut axis = axis_buffer();

@@ -14,7 +14,7 @@ add-part-requires : tie.Need-add-part-requires
 add-part-requires c κs = adds-a (c .before .before .before .before .before .before .before .before .before .before .before .pre) (c .before .before .before .before .before .encode .ensures)
 
 returns : tie.Need-returns
-returns c = coded-a (c .before .before .before .before .before .before .before .before .before .before .before .before .before .before .pre) (c .before .before .before .before .before .before .before .before .encode .ensures) (c .before .before .add-part .ensures)
+returns c = (coded-a (c .before .before .before .before .before .before .before .before .before .before .before .before .before .before .pre) (c .before .before .before .before .before .before .before .before .encode .ensures) (c .before .before .add-part .ensures), c .before .before .before .before .before .before .before .before .encode .ensures .written)
 
 pub code-a-spec : {M : Type 1} → statement M
 code-a-spec =

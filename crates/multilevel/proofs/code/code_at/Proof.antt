@@ -2,7 +2,7 @@
 use native.Mathlib.Omega.{arith}
 use borrow.Author.Needs.{needs}
 use Rattle.multilevel.specs.Contracts.{levelAt}
-use Rattle.multilevel.proofs.Partition.{sums-a, sums-b, ends-a, ends-b, codes-level, coded-is}
+use Rattle.multilevel.proofs.Partition.{sums-a, sums-b, ends-a, ends-b, codes-level, coded-is, over-at}
 use Rattle.multilevel.proofs.code.code_at.Statement.{statement}
 use Rattle.multilevel.proofs.code.code_at.Tie as tie
 
@@ -28,7 +28,7 @@ code-level-requires c κs = codes-level (c .before .before .before .before .befo
 
 returns : tie.Need-returns
 unfolding levelAt
-returns c = coded-is (c .before .before .before .before .before .before .before .before .before .before .before .before .before .before .before .before .before .before .before .pre) (c .before .before .before .before .before .before .before .before .before .before .before .before .bits-before .ensures) (c .before .before .before .before .before .before .before .before .before .before .bits-before2 .ensures) (c .before .before .before .before .code-level .ensures)
+returns c = (coded-is (c .before .before .before .before .before .before .before .before .before .before .before .before .before .before .before .before .before .before .before .pre) (c .before .before .before .before .before .before .before .before .before .before .before .before .bits-before .ensures) (c .before .before .before .before .before .before .before .before .before .before .bits-before2 .ensures) (c .before .before .before .before .code-level .ensures .0), over-at (c .before .before .before .before .before .before .before .before .before .before .before .before .before .before .before .before .before .before .before .pre) (c .before .before .before .before .before .before .before .before .before .before .before .before .bits-before .ensures) (c .before .before .before .before .before .before .before .before .before .before .bits-before2 .ensures) (c .before .before .before .before .code-level .ensures .1))
 
 pub code-at-spec : {M : Type 1} → statement M
 code-at-spec =

@@ -12,7 +12,7 @@ add-part-requires c κs =
 returns : tie.Need-returns
 returns c =
     let first = c .before .before .before .before .before .before .before .before in
-    coded-b (first .before .before .before .before .before .pre) (first .encode-b .ensures) (c .before .before .add-part .ensures)
+    (coded-b (first .before .before .before .before .before .pre) (first .encode-b .ensures) (c .before .before .add-part .ensures), first .encode-b .ensures)
 
 pub code-b-spec : {M : Type 1} → statement M
 code-b-spec =

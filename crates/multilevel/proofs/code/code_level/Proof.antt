@@ -1,21 +1,21 @@
 -- `code::code_level` meets its contract: part A is added to the first labels, part B to those behind them. Assumes nothing.
 use native.Mathlib.Omega.{arith}
 use borrow.Author.Needs.{needs}
-use Rattle.multilevel.proofs.OneLevel.{codes-a, behind-a, codes-b, coded-level}
+use Rattle.multilevel.proofs.OneLevel.{codes-a, behind-a, codes-b, coded-level, over-level}
 use Rattle.multilevel.proofs.code.code_level.Statement.{statement}
 use Rattle.multilevel.proofs.code.code_level.Tie as tie
 
 sub-code-b : tie.Need-sub-code-b
-sub-code-b c = omega (arith, behind-a (c .before .before .before .before .before .before .before .before .before .before .before .before .pre) (c .before .before .before .before .before .code-a .ensures))
+sub-code-b c = omega (arith, behind-a (c .before .before .before .before .before .before .before .before .before .before .before .before .pre) (c .before .before .before .before .before .code-a .ensures .0))
 
 part-code-b-start : tie.Need-part-code-b-start
-part-code-b-start c = omega (arith, behind-a (c .before .before .before .before .before .before .before .before .before .before .before .before .pre) (c .before .before .before .before .before .code-a .ensures))
+part-code-b-start c = omega (arith, behind-a (c .before .before .before .before .before .before .before .before .before .before .before .before .pre) (c .before .before .before .before .before .code-a .ensures .0))
 
 code-b-requires : tie.Need-code-b-requires
-code-b-requires c κs = codes-b (c .before .before .before .before .before .before .before .before .before .before .before .before .before .pre) (c .before .before .before .before .before .before .code-a .ensures) (c .before .before .before .before .before .before .code-a .kept .1 .1 .1 .0)
+code-b-requires c κs = codes-b (c .before .before .before .before .before .before .before .before .before .before .before .before .before .pre) (c .before .before .before .before .before .before .code-a .ensures .0) (c .before .before .before .before .before .before .code-a .kept .1 .1 .1 .0)
 
 returns : tie.Need-returns
-returns c = coded-level (c .before .before .before .before .before .before .before .before .before .before .before .before .before .before .before .before .before .before .pre) (c .before .before .before .before .before .before .before .before .before .before .before .code-a .ensures) (c .before .before .before .before .code-b .ensures)
+returns c = (coded-level (c .before .before .before .before .before .before .before .before .before .before .before .before .before .before .before .before .before .before .pre) (c .before .before .before .before .before .before .before .before .before .before .before .code-a .ensures .0) (c .before .before .before .before .code-b .ensures .0), over-level (c .before .before .before .before .before .before .before .before .before .before .before .before .before .before .before .before .before .before .pre) (c .before .before .before .before .before .before .before .before .before .before .before .code-a .ensures .0) (c .before .before .before .before .before .before .before .before .before .before .before .code-a .ensures .1) (c .before .before .before .before .code-b .ensures .1))
 
 pub code-level-spec : {M : Type 1} → statement M
 code-level-spec =

@@ -21,7 +21,7 @@ code-at-requires : tie.Need-code-at-requires Inv-loop μ-loop
 code-at-requires c κs = codes-at (c .before .before .before .loop .inv .0) (search needs) (c .before .before .before .before .before .before .before .before .before .before .before .before .pre) (sym (c .before .before .before .before .before .before .before .clear .kept .0)) (c .before .before .before .loop .inv .1)
 
 loop-again : tie.Need-loop-again Inv-loop μ-loop
-loop-again c = (turn (c .before .before .before .before .before .before .before .loop .inv .0) (c .before .before .before .before .before .before .loop-test .taken) (c .before .before .before .code-at .ensures), c .before .before .before .code-at .kept .1 .1 .1 .1 .1 .0 ∙ c .before .before .before .before .before .before .before .loop .inv .1)
+loop-again c = (turn (c .before .before .before .before .before .before .before .loop .inv .0) (c .before .before .before .before .before .before .loop-test .taken) (c .before .before .before .code-at .ensures .0), c .before .before .before .code-at .kept .1 .1 .1 .1 .1 .0 ∙ c .before .before .before .before .before .before .before .loop .inv .1)
 
 pub code-levels-spec : {M : Type 1} → statement M
 code-levels-spec =

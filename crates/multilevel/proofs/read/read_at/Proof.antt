@@ -29,7 +29,7 @@ read-level-requires c κs = reads-level (c .before .before .before .before .befo
 
 returns : tie.Need-returns
 unfolding levelAt
-returns c = read-at (c .before .before .before .before .before .before .before .before .before .before .before .before .before .before .before .before .before .before .before .before .pre) (c .before .before .before .before .before .before .before .before .before .before .before .before .before .bits-before .ensures) (c .before .before .before .before .before .before .before .before .before .before .before .bits-before2 .ensures) (c .before .before .before .before .before .before .read-level .ensures)
+returns c = (read-at (c .before .before .before .before .before .before .before .before .before .before .before .before .before .before .before .before .before .before .before .before .pre) (c .before .before .before .before .before .before .before .before .before .before .before .before .before .bits-before .ensures) (c .before .before .before .before .before .before .before .before .before .before .before .bits-before2 .ensures) (c .before .before .before .before .before .before .read-level .ensures .0), c .before .before .before .before .before .before .read-level .ensures .1)
 
 pub read-at-spec : {M : Type 1} → statement M
 read-at-spec =

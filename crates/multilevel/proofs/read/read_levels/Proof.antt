@@ -22,7 +22,7 @@ read-stream-requires c κs = reads-stream (c .before .before .before .before .be
 loop-again : tie.Need-loop-again Inv-loop μ-loop
 loop-again c =
     let l = c .before .before .before .before .before .before .before .before .before .before in (
-      turn (c .before .before .before .before .before .before .before .before .before .before .before .before .before .before .before .pre) (l .loop .inv .0) (c .before .before .before .before .before .before .before .before .before .loop-test .taken) (c .before .before .before .before .before .read-stream .ensures),
+      turn (c .before .before .before .before .before .before .before .before .before .before .before .before .before .before .before .pre) (l .loop .inv .0) (c .before .before .before .before .before .before .before .before .before .loop-test .taken) (c .before .before .before .before .before .read-stream .ensures .0),
       c .before .before .before .before .before .read-stream .kept .1 .1 .1 .0 ∙ l .loop .inv .1,
     )
 

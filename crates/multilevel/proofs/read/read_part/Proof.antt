@@ -9,4 +9,4 @@ read-part-spec =
     tie.close (tie.spec (λ c κs. search needs)
     (λ c κs. decodes (c .before .before .before .before .before .before .before .before .before .pre) (c .before .before .before .before .take-part .kept .1 .1 .1 .0))
     (λ c. search needs) (λ c. search needs)
-    (λ c. part-read (c .before .before .before .before .before .before .before .take-part .ensures) (c .before .before .decode .ensures)))
+    (λ c. (part-read (c .before .before .before .before .before .before .before .take-part .ensures) (c .before .before .decode .ensures), c .before .before .before .before .before .before .before .take-part .ensures)))

@@ -7,7 +7,7 @@ use borrow.Author.Tests.{eq-eqb, ne-eqb}
 use lib.ListN.{length}
 use Rattle.block.specs.Block.{oneAxis}
 use Rattle.lists.proofs.Parts.{length-start, part-room, part-again}
-use Rattle.multilevel.proofs.LevelsRead.{reads-both, reads-axis, read-both, read-axis, digit-both, digit-axis}
+use Rattle.multilevel.proofs.LevelsRead.{reads-both, reads-axis, read-both, read-axis, over-both, over-axis, digit-both, digit-axis}
 use Rattle.multilevel.proofs.read.read_stream.Statement.{statement}
 use Rattle.multilevel.proofs.read.read_stream.Tie as tie
 
@@ -27,8 +27,10 @@ read-at-requires c κs =
 returns : tie.Need-returns
 unfolding oneAxis
 returns c =
-    read-axis _ _ (eq-eqb _ _ (c .before .before .before .before .before .before .before .before .before .before .before .before .before .before .before .before .before .if1 .taken)) (c .before .before .before .before .before .before .before .before .before .before .before .before .power .ensures) _
-    (part-again (c .before .before .before .before .before .before .before .before .before .before .before .before .before .before .before .before .axis-buffer .result) (c .before .before .before .before .before .before .before .before .before .before .before .before .before .before .take-axis .last .1 .1 .0) (length (c .before .before .before .before .before .before .before .before .before .before .before .before .before .before .before .before .before .before .before .before .before .before .before .args .labels .now) / 2) (omega (arith, c .before .before .before .before .before .before .before .before .before .before .before .before .before .before .before .before .before .before .before .before .before .before .before .pre .all .high, c .before .before .before .before .before .before .before .before .before .before .before .before .before .before .before .before .axis-buffer .ensures .long)) (c .before .before .before .before .before .before .before .before .before .before .before .before .before .before .take-axis .kept .1 .1 .0) ∙ c .before .before .before .before .before .before .before .before .before .before .before .before .before .before .take-axis .ensures) (c .before .before .before .before .before .before .read-at .ensures)
+    let own = (part-again (c .before .before .before .before .before .before .before .before .before .before .before .before .before .before .before .before .axis-buffer .result) (c .before .before .before .before .before .before .before .before .before .before .before .before .before .before .take-axis .last .1 .1 .0) (length (c .before .before .before .before .before .before .before .before .before .before .before .before .before .before .before .before .before .before .before .before .before .before .before .args .labels .now) / 2) (omega (arith, c .before .before .before .before .before .before .before .before .before .before .before .before .before .before .before .before .before .before .before .before .before .before .before .pre .all .high, c .before .before .before .before .before .before .before .before .before .before .before .before .before .before .before .before .axis-buffer .ensures .long)) (c .before .before .before .before .before .before .before .before .before .before .before .before .before .before .take-axis .kept .1 .1 .0) ∙ c .before .before .before .before .before .before .before .before .before .before .before .before .before .before .take-axis .ensures) in (
+      read-axis _ _ (eq-eqb _ _ (c .before .before .before .before .before .before .before .before .before .before .before .before .before .before .before .before .before .if1 .taken)) (c .before .before .before .before .before .before .before .before .before .before .before .before .power .ensures) _ own (c .before .before .before .before .before .before .read-at .ensures .0),
+      over-axis _ _ _ _ _ _ (eq-eqb _ _ (c .before .before .before .before .before .before .before .before .before .before .before .before .before .before .before .before .before .if1 .taken)) (c .before .before .before .before .before .before .before .before .before .before .before .before .power .ensures) _ own (c .before .before .before .before .before .before .read-at .ensures .1),
+    )
 
 power-requires-2 : tie.Need-power-requires-2
 unfolding oneAxis
@@ -40,7 +42,7 @@ read-at-requires-2 c κs = reads-both (c .before .before .before .before .before
 
 returns-2 : tie.Need-returns-2
 unfolding oneAxis
-returns-2 c = read-both _ _ (ne-eqb _ _ (c .before .before .before .before .before .before .before .before .before .before .before .if1 .left)) (c .before .before .before .before .before .before .before .before .before .before .power2 .ensures) (c .before .before .before .before .before .before .read-at2 .ensures)
+returns-2 c = (read-both _ _ (ne-eqb _ _ (c .before .before .before .before .before .before .before .before .before .before .before .if1 .left)) (c .before .before .before .before .before .before .before .before .before .before .power2 .ensures) (c .before .before .before .before .before .before .read-at2 .ensures .0), over-both _ _ _ _ _ _ (ne-eqb _ _ (c .before .before .before .before .before .before .before .before .before .before .before .if1 .left)) (c .before .before .before .before .before .before .before .before .before .before .power2 .ensures) (c .before .before .before .before .before .before .read-at2 .ensures .1))
 
 pub read-stream-spec : {M : Type 1} → statement M
 read-stream-spec =
