@@ -37,6 +37,7 @@ adds R p q =
         };
         same = sym (R .same);
       };
+      few = omega (arith, R .room .high, R .same);
       bit = R .input .bit;
       room = R .room .sums;
     }
@@ -55,7 +56,8 @@ module _ (t : ℕ) (v : List ℕ) where
 pub takes : {t w : ℕ} {labels out : List ℕ} → TakesPart t w labels out → (t ≡ 0 → ⊥) → (length labels ≡ 0 → ⊥) → Takes t w labels out
 takes R p q =
     record {
-      lends = record { fits = record { cycles = cycles (R .mixes) p q; high = R .high; small = R .small }; same = R .same };
+      lends = record { fits = record { cycles = cycles (R .mixes) p q; high = omega (arith, R .high); small = R .small }; same = R .same };
+      few = R .high;
       weighs = R .weighs;
     }
 

@@ -49,18 +49,20 @@ pub record Scatters (weight : ℕ) (places labels out : List ℕ) : Type 0 where
 -- What adding interleaved bits requires: bits, and labels that stay below 256.
 pub record Adds (t weight : ℕ) (bits labels : List ℕ) : Type 0 where
   pub lends : Lends t bits labels
+  pub few : length bits ≤ 12236
   pub bit : (k : ℕ) → getD bits k 0 < 2
   pub room : (k : ℕ) → getD labels k 0 + weight < 256
 
 -- What taking interleaved bits out of labels requires.
 pub record Takes (t weight : ℕ) (labels out : List ℕ) : Type 0 where
   pub lends : Lends t labels out
+  pub few : length labels ≤ 12236
   pub weighs : Weight weight
 
 -- ThreeBits that a level's bits can be added to: few enough for the interleaver, and below 256 with the weight.
 pub record Room (t weight : ℕ) (labels : List ℕ) : Type 0 where
   pub small : t < 64
-  pub high : length labels ≤ 16384
+  pub high : length labels ≤ 12236
   pub sums : (k : ℕ) → getD labels k 0 + weight < 256
 
 -- What adding a part's bits to as many labels requires.
@@ -74,6 +76,6 @@ pub record AddsPart (t weight : ℕ) (bits labels : List ℕ) : Type 0 where
 pub record TakesPart (t weight : ℕ) (labels out : List ℕ) : Type 0 where
   pub mixes : Mixes t (length labels)
   pub small : t < 64
-  pub high : length labels ≤ 16384
+  pub high : length labels ≤ 12236
   pub same : length out ≡ length labels
   pub weighs : Weight weight

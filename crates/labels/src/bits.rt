@@ -1,4 +1,5 @@
 // Level bits with their weights: interleaved and added to labels, taken out again and put back. 01 "Bit interleaving" and "Mapping".
+use block::buffers::MOST_NUMBERS;
 use interleaver::table::make_places;
 ghost use mathlib.Core.Path.{_≡_};
 ghost use Prim.Native.Nat.{_/_, _%_};
@@ -21,11 +22,14 @@ fn add_plain(weight: u8, bits: &[u8], labels: &mut [u8])
     }
 }
 
-// Room for the places of the most bits and one number more, from a function of its own: proofs then take its length and do not write it out.
-fn place_buffer() -> [u16; 16385]
-    ensures { λ r. ⌜ Long 16385 r ⌝ }
+// A place for each of a level's coded bits, and one number more.
+const MOST_PLACES: usize = MOST_NUMBERS + 1;
+
+// Room for the places, from a function of its own: proofs then take its length and do not write it out.
+fn place_buffer() -> [u16; MOST_PLACES]
+    ensures { λ r. ⌜ Long 12237 r ⌝ }
 {
-    [0u16; 16385]
+    [0u16; MOST_PLACES]
 }
 
 // Label i becomes itself + weight × bit places[i].

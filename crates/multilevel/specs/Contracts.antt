@@ -157,7 +157,7 @@ pub record CodesLevel (l : Level) (weight : ℕ) (a b coded labels : List ℕ) :
   pub inputA : Bits a
   pub inputB : Bits b
   pub buffer : length labels ≤ length coded
-  pub high : length labels ≤ 16384
+  pub high : length labels ≤ 12236
   pub sums : (k : ℕ) → getD labels k 0 + weight < 256
 
 -- What reading a part requires: all coded bits of the input bits wanted are there.
