@@ -7,10 +7,9 @@ use native.Mathlib.Omega.{arith}
 use borrow.Author.Tests.{eq-eqb, ne-eqb, eqb-true}
 use lib.ListN.{length, take, drop}
 use lib.Dec.{eqb}
-use Rattle.lists.specs.Lists.{table}
 use Rattle.lists.specs.Bytes.{bytesFor}
 use Rattle.lists.proofs.Parts.{length-start, length-written, written-front}
-use Rattle.block.specs.Packing.{bitAt, unpacked, packed, spareZero}
+use Rattle.block.specs.Packing.{unpacked, packed, spareZero}
 use Rattle.block.specs.Dispersal.{dispersed}
 use Rattle.block.proofs.Packing.{length-unpacked}
 use Rattle.block.proofs.Dispersal.{length-dispersed, bits-dispersed}
@@ -30,37 +29,50 @@ module _ {n : ℕ} {bytes out : List ℕ} (D : Disperses 36708 n bytes out) (buf
         there = rw (length-start n buffer room) (omega (arith, D .long));
       }
 
-  module _ (t : ℕ) {part : List ℕ} (e : part ≡ dispersed t (table (bitAt bytes) 0 (length (take (n - 0) buffer)))) where
-    treated : part ≡ dispersed t (unpacked n bytes)
-    unfolding unpacked
-    treated = e ∙ ap (λ m. dispersed t (table (bitAt bytes) 0 m)) (length-start n buffer room)
+  module _ {part : List ℕ} (e : part ≡ unpacked (length (take (n - 0) buffer)) bytes) where
+    bits-are : part ≡ unpacked n bytes
+    bits-are = e ∙ ap (λ m. unpacked m bytes) (length-start n buffer room)
 
     long : length part ≡ n
-    long = rw treated (length-dispersed t (unpacked n bytes) ∙ length-unpacked n bytes)
+    long = rw bits-are (length-unpacked n bytes)
 
     pub part-room : n ≤ length (part ++ drop (n - 0) buffer)
     part-room = rw (length-written buffer part n room long) room
 
-    front : take (n - 0) (part ++ drop (n - 0) buffer) ≡ dispersed t (unpacked n bytes)
-    front = written-front part buffer n long ∙ treated
+    front : take (n - 0) (part ++ drop (n - 0) buffer) ≡ unpacked n bytes
+    front = written-front part buffer n long ∙ bits-are
 
-    front-long : length (dispersed t (unpacked n bytes)) ≡ n
-    front-long = length-dispersed t (unpacked n bytes) ∙ length-unpacked n bytes
+    -- they are dispersed in their place
+    module _ (t : ℕ) {again : List ℕ} (f : again ≡ dispersed t (take (n - 0) (part ++ drop (n - 0) buffer))) where
+      treated : again ≡ dispersed t (unpacked n bytes)
+      treated = f ∙ ap (dispersed t) front
 
-    -- they can be packed
-    pub packs : Packs (take (n - 0) (part ++ drop (n - 0) buffer)) out
-    packs =
-        rw front
-        (record {
-          input = bits-dispersed t (unpacked n bytes);
-          few = omega (arith, front-long, D .small);
-          same = rw front-long (D .same);
-        })
+      again-long : length again ≡ n
+      again-long = rw treated (length-dispersed t (unpacked n bytes) ∙ length-unpacked n bytes)
 
-    -- to what the definition says
-    pub packed-front : {out′ : List ℕ} → out′ ≡ packed (take (n - 0) (part ++ drop (n - 0) buffer)) → out′ ≡ dispersedBytes t n bytes
-    unfolding dispersedBytes
-    packed-front f = f ∙ ap packed front
+      pub again-room : n ≤ length (again ++ drop (n - 0) (part ++ drop (n - 0) buffer))
+      again-room = rw (length-written (part ++ drop (n - 0) buffer) again n part-room again-long) part-room
+
+      again-front : take (n - 0) (again ++ drop (n - 0) (part ++ drop (n - 0) buffer)) ≡ dispersed t (unpacked n bytes)
+      again-front = written-front again (part ++ drop (n - 0) buffer) n again-long ∙ treated
+
+      front-long : length (dispersed t (unpacked n bytes)) ≡ n
+      front-long = length-dispersed t (unpacked n bytes) ∙ length-unpacked n bytes
+
+      -- they can be packed
+      pub packs : Packs (take (n - 0) (again ++ drop (n - 0) (part ++ drop (n - 0) buffer))) out
+      packs =
+          rw again-front
+          (record {
+            input = bits-dispersed t (unpacked n bytes);
+            few = omega (arith, front-long, D .small);
+            same = rw front-long (D .same);
+          })
+
+      -- to what the definition says
+      pub packed-front : {out′ : List ℕ} → out′ ≡ packed (take (n - 0) (again ++ drop (n - 0) (part ++ drop (n - 0) buffer))) → out′ ≡ dispersedBytes t n bytes
+      unfolding dispersedBytes
+      packed-front g = g ∙ ap packed again-front
 
 -- an accepted call has the lengths that it wants
 accepted-lengths : (n : ℕ) (bytes : List ℕ) (m : ℕ) → disperseRefusal n bytes m ≡ 0 → (length bytes ≡ bytesFor n) × (m ≡ bytesFor n)

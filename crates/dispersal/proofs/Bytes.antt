@@ -2,6 +2,7 @@
 use Prim.Native.Nat.{ℕ, zero, suc, _+_, _*_, _^_, _≤_, _<_}
 use mathlib.Core.Path.{_≡_, refl}
 use mathlib.Core.List.{List}
+use native.Mathlib.Nat.{add-zero, zero-add}
 use native.Mathlib.Numerals.{add-one}
 use native.Mathlib.Omega.{arith}
 use lib.ListN.{getD}
@@ -35,3 +36,11 @@ byte-turn {bits} {at} {byte} {j} {b} B I h e =
 
 pub byte-done : {bits : List ℕ} {at byte j : ℕ} → Byte bits at byte j → 8 ≤ j → byte ≡ digits bits at 8
 byte-done {bits} {at} {byte} {j} I h = let e : j ≡ 8 = omega (arith, I .turns) in rw e at (I .known)
+
+-- eight digits written out
+pub eight-digits : (bits : List ℕ) (i r : ℕ)
+    → r ≡ ((((((getD bits i 0 * 2 + getD bits (i + 1) 0) * 2 + getD bits (i + 2) 0) * 2 + getD bits (i + 3) 0) * 2 + getD bits (i + 4) 0) * 2
+    + getD bits (i + 5) 0) * 2 + getD bits (i + 6) 0) * 2 + getD bits (i + 7) 0
+    → r ≡ digits bits i 8
+unfolding digits
+eight-digits bits i r e = rw (add-zero, zero-add) e

@@ -1,6 +1,7 @@
 pub mod Register
-pub mod Sequence
+pub mod Periods
 pub mod Unpacked
+pub mod Unpacking
 pub mod Answers
 pub mod Pieces
 pub mod Bytes

@@ -1,7 +1,7 @@
 -- Packed bits in two pieces, the first of whole bytes. Assumes nothing.
 use Prim.Native.Nat.{ℕ, zero, suc, _+_, _-_, _*_, _/_, _%_, _≤_, _<_}
 use mathlib.Core.Path.{_≡_, refl, sym, ap, ap₂, _∙_}
-use mathlib.Core.List.{List, [], _∷_, _++_}
+use mathlib.Core.List.{List, _++_}
 use native.Mathlib.Nat.{zero-add}
 use native.Mathlib.Omega.{arith}
 use lib.ListN.{length, getD, take, drop, length-append, List·getD-append}
@@ -15,18 +15,8 @@ use Rattle.block.specs.Dispersal.{dispersed}
 use Rattle.block.proofs.Packing.{length-packed, length-unpacked}
 use Rattle.block.proofs.Dispersal.{length-dispersed, bits-dispersed, dispersed-append}
 use Rattle.dispersal.specs.Calls.{dispersedBytes}
-use Rattle.dispersal.specs.Contracts.{bitOf, shifted, registerAt, Disperses}
-use Rattle.dispersal.proofs.Register.{register-bit, register-period}
-
--- where the registers are the same, so is all that follows
-same-from : (a b : ℕ) (xs : List ℕ) → registerAt a ≡ registerAt b → dispersed a xs ≡ dispersed b xs
-unfolding dispersed registerAt
-same-from a b [] e = refl
-same-from a b (x ∷ xs) e =
-    ap₂ _∷_ (ap (λ q. (x + q) % 2) (sym (register-bit a) ∙ ap bitOf e ∙ register-bit b)) (same-from (suc a) (suc b) xs (ap shifted e))
-
-period : (t : ℕ) (xs : List ℕ) → dispersed (t % 511) xs ≡ dispersed t xs
-period t xs = same-from (t % 511) t xs (register-period t)
+use Rattle.dispersal.specs.Contracts.{Disperses}
+use Rattle.dispersal.proofs.Register.{period}
 
 -- the bits of the first bytes, and those of the others
 front-bit : (k : ℕ) (bytes : List ℕ) (i : ℕ) → i < 8 * k → bitAt bytes i ≡ bitAt (take k bytes) i

@@ -1,16 +1,16 @@
 -- The dispersal sequence from a register of nine bits, and its period. Assumes nothing.
 use Prim.Native.Nat.{ℕ, zero, suc, _+_, _*_, _/_, _%_, _^_, _≤_, _<_}
-use mathlib.Core.Path.{_≡_, refl, sym, ap, _∙_}
+use mathlib.Core.Path.{_≡_, refl, sym, ap, ap₂, _∙_}
 use mathlib.Core.List.{List, [], _∷_}
 use mathlib.Core.Logic.{_⊎_, inl, inr}
 use native.Mathlib.Nat.{suc-add, zero-div}
-use native.Mathlib.Numerals.{add-one}
 use native.Mathlib.Omega.{arith}
 use lib.ListN.{getD, replicate, getD-replicate, List·getD-eq-default}
+use Rattle.lists.specs.Lists.{table}
 use Rattle.lists.proofs.Counting.{below-or}
 use Rattle.component.specs.Bits.{Bits}
 use Rattle.component.proofs.Bits.{bits-cons, bits-head, bits-rest}
-use Rattle.block.specs.Dispersal.{sequence, p}
+use Rattle.block.specs.Dispersal.{sequence, p, dispersed}
 use Rattle.block.proofs.Packing.{shr-suc}
 use Rattle.dispersal.specs.Contracts.{bitOf, shifted, registerAt}
 
@@ -87,19 +87,24 @@ periods n (suc k) = let e : n + 511 * suc k ≡ n + 511 * k + 511 = omega arith 
 pub register-period : (n : ℕ) → registerAt (n % 511) ≡ registerAt n
 register-period n = let e : n ≡ n % 511 + 511 * (n / 511) = omega arith in sym (ap registerAt e ∙ periods (n % 511) (n / 511))
 
--- before the turn at step i of n
-pub record Stepping (n state i : ℕ) : Type 0 where
-  pub turns : i ≤ n
-  pub known : state ≡ registerAt i
-  pub low : state < 512
+-- the bits that a register gives, one after another
+unfoldable pub bitsFrom : ℕ → ℕ → List ℕ
+bitsFrom r zero = []
+bitsFrom r (suc n) = bitOf r ∷ bitsFrom (shifted r) n
 
-pub step-start : (n : ℕ) → Stepping n 511 0
-unfolding registerAt
-step-start n = record { turns = omega arith; known = refl; low = omega arith }
+-- are the sequence from there on
+pub bits-from : (k n : ℕ) → bitsFrom (registerAt k) n ≡ table p k n
+unfolding bitsFrom registerAt table
+bits-from k zero = refl
+bits-from k (suc n) = ap₂ _∷_ (register-bit k) (bits-from (suc k) n)
 
-pub step-turn : {n state i : ℕ} → Stepping n state i → i < n → (next : ℕ) → next ≡ (state / 256 + state / 16) % 2 → Stepping n ((2 * state + next) % 512) (i + 1)
-unfolding registerAt shifted bitOf
-step-turn S h next e = record { turns = omega arith; known = rw (add-one, e, S .known); low = omega arith }
+-- where the registers are the same, so is all that follows
+same-from : (a b : ℕ) (xs : List ℕ) → registerAt a ≡ registerAt b → dispersed a xs ≡ dispersed b xs
+unfolding dispersed registerAt
+same-from a b [] e = refl
+same-from a b (x ∷ xs) e =
+    ap₂ _∷_ (ap (λ q. (x + q) % 2) (sym (register-bit a) ∙ ap bitOf e ∙ register-bit b)) (same-from (suc a) (suc b) xs (ap shifted e))
 
-pub step-done : (t : ℕ) {state i : ℕ} → Stepping (t % 511) state i → t % 511 ≤ i → state ≡ registerAt t
-step-done t {state} {i} S h = let e : i ≡ t % 511 = omega (arith, S .turns) in S .known ∙ ap registerAt e ∙ register-period t
+-- so whole periods can be left out
+pub period : (t : ℕ) (xs : List ℕ) → dispersed (t % 511) xs ≡ dispersed t xs
+period t xs = same-from (t % 511) t xs (register-period t)

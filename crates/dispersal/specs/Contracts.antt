@@ -5,6 +5,8 @@ use mathlib.Core.List.{List}
 use lib.ListN.{length}
 use Rattle.component.specs.Bits.{Bits}
 use Rattle.lists.specs.Bytes.{bytesFor}
+use Rattle.lists.specs.Lists.{table}
+use Rattle.block.specs.Dispersal.{p}
 
 -- The register of nine bits: nine ones, then the newest bit comes in lowest and the oldest goes out.
 unfoldable pub bitOf : ℕ → ℕ
@@ -21,6 +23,17 @@ registerAt (suc n) = shifted (registerAt n)
 pub record Unpacks (bytes : List ℕ) (from : ℕ) (out : List ℕ) : Type 0 where
   pub few : length bytes ≤ 65536
   pub there : from + length out ≤ 8 * length bytes
+
+-- As many bytes' bits as out is long, and no others.
+pub record UnpacksWhole (bytes out : List ℕ) : Type 0 where
+  pub whole : length out ≡ length out / 8 * 8
+  pub few : length bytes ≤ 65536
+  pub there : length out ≤ 8 * length bytes
+
+-- One period of the sequence, and bits that stand within it from place `at` on.
+pub record Adds (sequence : List ℕ) (at : ℕ) (bits : List ℕ) : Type 0 where
+  pub known : sequence ≡ table p 0 511
+  pub there : at + length bits ≤ 511
 
 -- Bits, and as many bytes as they take.
 pub record Packs (bits out : List ℕ) : Type 0 where

@@ -1,59 +1,95 @@
-// Packed bytes to dispersed bits, one bit a byte, and back. 01 "Dispersal" and "Buffers and state".
+// Packed bytes to bits, one bit a byte, and back, and bits dispersed. 01 "Dispersal" and "Buffers and state".
+use crate::sequence::PERIOD;
+use crate::sequence::place_in_period;
+use crate::sequence::whole_period;
 ghost use mathlib.Core.Path.{_≡_};
-ghost use Prim.Native.Nat.{_^_, _≤_, _<_};
+ghost use Prim.Native.Nat.{_+_, _*_, _^_, _≤_, _<_, min};
 ghost use lib.ListN.{length, getD};
 ghost use Rattle.component.specs.Bits.{Bits};
 ghost use Rattle.lists.specs.Lists.{table};
-ghost use Rattle.block.specs.Packing.{bitAt, digits, packed, spareZero};
+ghost use Rattle.block.specs.Packing.{bitAt, unpacked, digits, packed, spareZero};
 ghost use Rattle.block.specs.Dispersal.{dispersed};
-ghost use Rattle.dispersal.specs.Contracts.{registerAt, Unpacks, Packs};
+ghost use Rattle.dispersal.specs.Contracts.{Adds, UnpacksWhole, Unpacks, Packs};
 
-// The sequence repeats after so many bits.
-pub const PERIOD: usize = 511;
-
-// The sequence's last nine bits, the newest lowest, where `treated` bits have been treated since the nine ones.
-fn register(treated: u16) -> u32
-    ensures { λ r. ⌜ r ≡ registerAt treated ⌝ }
+// The less of two numbers.
+fn smaller(a: usize, b: usize) -> usize
+    ensures { λ r. ⌜ r ≡ min a b ⌝ }
 {
-    let steps = treated as usize % PERIOD;
-    let mut state: u32 = 511;
-    let mut i = 0;
-    while i < steps {
-        let next = (state / 256 + state / 16) % 2;
-        state = (2 * state + next) % 512;
-        i += 1;
+    if a < b {
+        return a;
     }
-    state
+    b
 }
 
-// The bits from place `from` on, added modulo 2 to the sequence: bit i of them to p(treated + i).
-pub fn unpack_dispersed(bytes: &[u8], from: usize, treated: u16, out: &mut [u8])
-    requires { ⌜ Unpacks (now bytes) from (now out) ⌝ }
-    ensures { λ r. ⌜ now (out .exit) ≡ dispersed treated (table (bitAt (now (bytes .entry))) from (length (now (out .entry)))) ⌝ }
+// Bits added modulo 2 in place to those of one period from place `at` on.
+fn add_sequence(sequence: &[u8], at: usize, bits: &mut [u8])
+    requires { ⌜ Adds (now sequence) at (now bits) ⌝ }
+    ensures { λ r. ⌜ now (bits .exit) ≡ dispersed at (now (bits .entry)) ⌝ }
 {
-    let mut state = register(treated);
     let mut i = 0;
-    while i < out.len() {
-        let at = from + i;
-        let next = (state / 256 + state / 16) % 2;
-        out[i] = ((bytes[at / 8] >> (7 - at % 8)) % 2 + next as u8) % 2;
-        state = (2 * state + next) % 512;
+    while i < bits.len() {
+        bits[i] = (bits[i] % 2 + sequence[at + i]) % 2;
         i += 1;
     }
 }
 
-// Bits added modulo 2 to the sequence in place: bit i to p(treated + i).
+// Bits added modulo 2 to the sequence in place: bit i to p(treated + i). One period after another, so that no bit waits for the one before it.
 pub fn disperse(treated: u16, bits: &mut [u8])
     ensures { λ r. ⌜ now (bits .exit) ≡ dispersed treated (now (bits .entry)) ⌝ }
 {
-    let mut state = register(treated);
+    let sequence = whole_period();
+    let mut at = place_in_period(treated);
     let mut i = 0;
     while i < bits.len() {
-        let next = (state / 256 + state / 16) % 2;
-        bits[i] = (bits[i] % 2 + next as u8) % 2;
-        state = (2 * state + next) % 512;
+        let n = smaller(PERIOD - at, bits.len() - i);
+        add_sequence(&sequence, at, &mut bits[i..i + n]);
+        at = (at + n) % PERIOD;
+        i += n;
+    }
+}
+
+// The bits of whole bytes, eight a turn.
+fn unpack_whole(bytes: &[u8], out: &mut [u8])
+    requires { ⌜ UnpacksWhole (now bytes) (now out) ⌝ }
+    ensures { λ r. ⌜ now (out .exit) ≡ unpacked (length (now (out .entry))) (now (bytes .entry)) ⌝ }
+{
+    let n = out.len() / 8;
+    let mut k = 0;
+    while k < n {
+        let byte = bytes[k];
+        out[8 * k] = byte / 128 % 2;
+        out[8 * k + 1] = byte / 64 % 2;
+        out[8 * k + 2] = byte / 32 % 2;
+        out[8 * k + 3] = byte / 16 % 2;
+        out[8 * k + 4] = byte / 8 % 2;
+        out[8 * k + 5] = byte / 4 % 2;
+        out[8 * k + 6] = byte / 2 % 2;
+        out[8 * k + 7] = byte % 2;
+        k += 1;
+    }
+}
+
+// The bits from place `from` on, one a turn.
+fn unpack_rest(bytes: &[u8], from: usize, out: &mut [u8])
+    requires { ⌜ Unpacks (now bytes) from (now out) ⌝ }
+    ensures { λ r. ⌜ now (out .exit) ≡ table (bitAt (now (bytes .entry))) from (length (now (out .entry))) ⌝ }
+{
+    let mut i = 0;
+    while i < out.len() {
+        let at = from + i;
+        out[i] = (bytes[at / 8] >> (7 - at % 8)) % 2;
         i += 1;
     }
+}
+
+// The first bits of packed bytes, as many as out is long.
+pub fn unpack(bytes: &[u8], out: &mut [u8])
+    requires { ⌜ Unpacks (now bytes) 0 (now out) ⌝ }
+    ensures { λ r. ⌜ now (out .exit) ≡ unpacked (length (now (out .entry))) (now (bytes .entry)) ⌝ }
+{
+    let whole = out.len() / 8 * 8;
+    unpack_whole(bytes, &mut out[0..whole]);
+    unpack_rest(bytes, whole, &mut out[whole..]);
 }
 
 // Whether no bit after the first n is set.
@@ -81,8 +117,8 @@ fn bit_or_zero(bits: &[u8], i: usize) -> u8
     0
 }
 
-// The byte whose bits, highest first, are those from place `at` on.
-fn byte_from(bits: &[u8], at: usize) -> u8
+// The byte whose bits, highest first, are those from place `at` on; past the end they are zero.
+fn last_byte(bits: &[u8], at: usize) -> u8
     requires { ⌜ Bits (now bits) × (at < 2 ^ 32) ⌝ }
     ensures { λ r. ⌜ r ≡ digits (now (bits .entry)) at 8 ⌝ }
 {
@@ -93,6 +129,42 @@ fn byte_from(bits: &[u8], at: usize) -> u8
         j += 1;
     }
     byte as u8
+}
+
+// The byte of eight bits, highest first.
+fn byte_of(a: u8, b: u8, c: u8, d: u8, e: u8, f: u8, g: u8, h: u8) -> u8
+    requires { ⌜ (a < 2) × (b < 2) × (c < 2) × (d < 2) × (e < 2) × (f < 2) × (g < 2) × (h < 2) ⌝ }
+    ensures { λ r. ⌜ r ≡ ((((((a * 2 + b) * 2 + c) * 2 + d) * 2 + e) * 2 + f) * 2 + g) * 2 + h ⌝ }
+{
+    ((((((a * 2 + b) * 2 + c) * 2 + d) * 2 + e) * 2 + f) * 2 + g) * 2 + h
+}
+
+// The same of the bits from place `at` on, which are all there.
+fn whole_byte(bits: &[u8], at: usize) -> u8
+    requires { ⌜ Bits (now bits) × (at + 8 ≤ length (now bits)) ⌝ }
+    ensures { λ r. ⌜ r ≡ digits (now (bits .entry)) at 8 ⌝ }
+{
+    byte_of(
+        bits[at],
+        bits[at + 1],
+        bits[at + 2],
+        bits[at + 3],
+        bits[at + 4],
+        bits[at + 5],
+        bits[at + 6],
+        bits[at + 7],
+    )
+}
+
+// The byte whose bits are those from place `at` on.
+fn byte_from(bits: &[u8], at: usize) -> u8
+    requires { ⌜ Bits (now bits) × (at < 2 ^ 32) ⌝ }
+    ensures { λ r. ⌜ r ≡ digits (now (bits .entry)) at 8 ⌝ }
+{
+    if at + 8 <= bits.len() {
+        return whole_byte(bits, at);
+    }
+    last_byte(bits, at)
 }
 
 // Bits packed into bytes; spare bits of the last byte are zero.

@@ -1,8 +1,9 @@
 // The dispersal step on packed bits as a call. 02, S-6.
-use crate::bits::PERIOD;
+use crate::bits::disperse;
 use crate::bits::pack;
 use crate::bits::spare_zero;
-use crate::bits::unpack_dispersed;
+use crate::bits::unpack;
+use crate::sequence::PERIOD;
 use block::buffers::bit_buffer;
 ghost use mathlib.Core.Path.{_≡_};
 ghost use Rattle.dispersal.specs.Calls.{dispersedBytes, disperseRefusal, disperseYield, disperseOf};
@@ -37,7 +38,8 @@ fn disperse_piece(treated: u16, n: usize, bytes: &[u8], out: &mut [u8])
     ensures { λ r. ⌜ now (out .exit) ≡ dispersedBytes treated n (now (bytes .entry)) ⌝ }
 {
     let mut bits = bit_buffer();
-    unpack_dispersed(bytes, 0, treated, &mut bits[0..n]);
+    unpack(bytes, &mut bits[0..n]);
+    disperse(treated, &mut bits[0..n]);
     pack(&bits[0..n], out);
 }
 

@@ -2,3 +2,4 @@
 pub mod bits;
 pub mod calls;
 pub mod parts;
+pub mod sequence;

@@ -1,5 +1,6 @@
 // The very strongly protected part of a frame and the remainder, each with a sequence of its own. 01 "Dispersal"; 02, S-6.
-use crate::bits::unpack_dispersed;
+use crate::bits::disperse;
+use crate::bits::unpack;
 ghost use mathlib.Core.Path.{_≡_};
 ghost use Prim.Native.Nat.{_-_};
 ghost use lib.ListN.{length};
@@ -22,12 +23,13 @@ pub fn unpack_parts(bytes: &[u8], vspp: usize, begins: u16, bits: &mut [u8])
     requires { ⌜ Unpacks (now bytes) 0 (now bits) ⌝ }
     ensures { λ r. ⌜ now (bits .exit) ≡ dispersedFrom vspp begins (unpacked (length (now (bits .entry))) (now (bytes .entry))) ⌝ }
 {
+    unpack(bytes, bits);
     let front = less(vspp, begins as usize);
     if bits.len() <= front {
-        unpack_dispersed(bytes, 0, begins, bits);
+        disperse(begins, bits);
         return;
     }
     let past = less(begins as usize, vspp);
-    unpack_dispersed(bytes, 0, begins, &mut bits[0..front]);
-    unpack_dispersed(bytes, front, past as u16, &mut bits[front..]);
+    disperse(begins, &mut bits[0..front]);
+    disperse(past as u16, &mut bits[front..]);
 }

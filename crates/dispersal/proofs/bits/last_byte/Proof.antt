@@ -1,10 +1,10 @@
--- `byte_from` meets its contract. Assumes nothing.
+-- `last_byte` meets its contract. Assumes nothing.
 use Prim.Native.Nat.{_+_, _-_, _<_}
 use native.Mathlib.Omega.{arith}
 use borrow.Author.Needs.{needs}
 use Rattle.dispersal.proofs.Bytes.{Byte, byte-start, byte-turn, byte-done}
-use Rattle.dispersal.proofs.bits.byte_from.Statement.{statement}
-use Rattle.dispersal.proofs.bits.byte_from.Tie as tie
+use Rattle.dispersal.proofs.bits.last_byte.Statement.{statement}
+use Rattle.dispersal.proofs.bits.last_byte.Tie as tie
 
 abbrev Inv-loop : tie.InvT-loop
 Inv-loop bits at byte₀ j₀ byte j = Byte bits at byte j
@@ -22,8 +22,8 @@ bit c =
     let s = c .before .before .before .before in
     rw (c .bit-or-zero .ensures) (s .pre .0 .bit (s .args .at + c .before .before .loop .j))
 
-pub byte-from-spec : {M : Type 1} → statement M
-byte-from-spec =
+pub last-byte-spec : {M : Type 1} → statement M
+last-byte-spec =
     tie.close (tie.spec Inv-loop μ-loop (λ c. byte-start _ _) (λ c. search needs) (λ c. search needs) (λ c κs. search needs)
     (λ c. omega (arith, bit c)) (λ c. omega (arith, bit c)) (λ c. search needs) (λ c. search needs) loop-again (λ c. search needs)
     (λ c. byte-done (c .before .loop .inv) (search needs)))
