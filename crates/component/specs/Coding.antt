@@ -2,7 +2,8 @@
 use Prim.Native.Nat.{ℕ, _+_, _≤_, _<_}
 use mathlib.Core.Path.{_≡_}
 use mathlib.Core.List.{List}
-use lib.ListN.{length, drop}
+use lib.ListN.{length, getD, drop}
+use lib.Count.{ones}
 use lib.Seq.{sets}
 use Rattle.component.specs.Bits.{Bits}
 use Rattle.component.specs.Register.{after}
@@ -22,6 +23,12 @@ pub record Encoded (pattern : List ℕ) (register : ℕ) (bits out : List ℕ) (
   pub state : register' ≡ after register bits
   pub place : at' ≡ at + length (encode pattern register 0 bits)
   pub written : out' ≡ sets out at (encode pattern register 0 bits)
+
+-- How many bits each column of a pattern keeps.
+pub record Widths (pattern widths : List ℕ) : Type 0 where
+  pub there : length pattern ≤ length widths
+  pub few : length pattern ≤ 8
+  pub known : (i : ℕ) → i < length pattern → getD widths i 0 ≡ ones (getD pattern i 0)
 
 -- decode requires a sound pattern, a register of seven bits, and all coded bits within the buffer. Those may be any bytes.
 pub record Decodes (pattern : List ℕ) (register : ℕ) (coded : List ℕ) (at : ℕ) (out : List ℕ) : Type 0 where

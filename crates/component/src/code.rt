@@ -3,8 +3,8 @@ use patterns::Pattern;
 ghost use mathlib.Core.Path.{_≡_};
 ghost use mathlib.Core.Bool.{cond};
 ghost use mathlib.Core.List.{[], _∷_};
-ghost use Prim.Native.Nat.{_+_, _≤_, _<_};
-ghost use lib.ListN.{length};
+ghost use Prim.Native.Nat.{_+_, _%_, _≤_, _<_};
+ghost use lib.ListN.{length, getD};
 ghost use lib.Seq.{sets};
 ghost use lib.Dec.{ltb};
 ghost use lib.Count.{ones};
@@ -12,8 +12,9 @@ ghost use Rattle.component.specs.Register.{next, parity, parities};
 ghost use Rattle.component.specs.Codeword.{kept};
 ghost use Rattle.patterns.specs.Patterns.{Sound};
 ghost use Rattle.patterns.specs.Contracts.{patternOf, Held};
-ghost use Rattle.component.specs.Decoding.{codedLength, newest};
-ghost use Rattle.component.specs.Coding.{Encodes, Encoded, Decodes, Decoded};
+ghost use Rattle.lists.specs.Lists.{table};
+ghost use Rattle.component.specs.Decoding.{codedLength};
+ghost use Rattle.component.specs.Coding.{Encodes, Encoded, Widths, Decodes, Decoded};
 
 // A coder's register, and the place of the next coded bit.
 pub struct Coder {
@@ -89,13 +90,11 @@ fn encode_columns(pattern: &[u8], register: u32, bits: &[u8], out: &mut [u8], at
     Coder { register, at }
 }
 
-// The input bit that gives b0 after the register.
-fn newest(register: u32, first: u8) -> u8
-    requires { ⌜ register < 128 ⌝ }
-    ensures { λ r. ⌜ r ≡ newest register first ⌝ }
+// The input bit that gives b0 and the older bits. The mask has no digit at the bit before the newest, so that the register may be one step older.
+fn newest(older: u32, first: u8) -> u8
+    ensures { λ r. ⌜ r ≡ (first + parity 0o133 older) % 2 ⌝ }
 {
-    let older = parity(next(register, 0), 0o133);
-    ((first as u32 + older as u32) % 2) as u8
+    ((first as u32 + parity(older, 0o133) as u32) % 2) as u8
 }
 
 // How many bits a column keeps.
@@ -105,20 +104,42 @@ fn ones(column: u8) -> usize
     u32::count_ones(column as u32) as usize
 }
 
-// The bits of a segment from the coded bits that stand from at on, by the columns of its pattern: as many as out is long.
-fn decode_columns(pattern: &[u8], register: u32, coded: &[u8], at: usize, out: &mut [u8]) -> Coder
-    requires { ⌜ Decodes (now pattern) register (now coded) at (now out) ⌝ }
+// How many bits each column keeps.
+fn widths_of(columns: [u8; 8]) -> [usize; 8]
+    ensures { λ r. ⌜ (r ≡ table (λ i. ones (getD columns i 0)) 0 8) × (length columns ≡ 8) ⌝ }
+{
+    let mut widths = [0usize; 8];
+    let mut i = 0;
+    while i < 8 {
+        widths[i] = ones(columns[i]);
+        i += 1;
+    }
+    widths
+}
+
+// The bits of a segment from the coded bits that stand from at on, by the columns of its pattern and their widths: as many as out is long.
+fn decode_columns(
+    pattern: &[u8],
+    widths: &[usize],
+    register: u32,
+    coded: &[u8],
+    at: usize,
+    out: &mut [u8],
+) -> Coder
+    requires { ⌜ Decodes (now pattern) register (now coded) at (now out) × Widths (now pattern) (now widths) ⌝ }
     ensures { λ r. ⌜ Decoded (now (pattern .entry)) register (now (coded .entry)) at (length (now (out .entry))) (r .register) (r .at) (now (out .exit)) ⌝ }
 {
+    let mut older = register / 2;
     let mut register = register;
     let mut at = at;
     let mut i = 0;
     let mut j = 0;
     while j < out.len() {
-        let bit = newest(register, coded[at]);
+        let bit = newest(older, coded[at]);
         out[j] = bit;
+        older = register / 4;
         register = next(register, bit);
-        at += ones(pattern[i]);
+        at += widths[i];
         i = following(pattern.len(), i);
         j += 1;
     }
@@ -142,7 +163,8 @@ pub fn decode(pattern: Pattern, register: u32, coded: &[u8], at: usize, out: &mu
 {
     let columns = pattern.columns;
     let width = pattern.width;
-    decode_columns(&columns[0..width], register, coded, at, out)
+    let widths = widths_of(columns);
+    decode_columns(&columns[0..width], &widths, register, coded, at, out)
 }
 
 // How many coded bits n input bits give by the columns of a pattern.

@@ -1,21 +1,27 @@
 -- `decode` meets its contract. Assumes nothing.
 use borrow.Author.Needs.{needs}
 use Rattle.patterns.proofs.Patterns.{lent}
+use Rattle.component.proofs.Reading.{widths-lent}
 use Rattle.component.proofs.code.decode.Statement.{statement}
 use Rattle.component.proofs.code.decode.Tie as tie
 
 decode-columns-requires : tie.Need-decode-columns-requires
-decode-columns-requires c κs = let s = c .before .before .before .before .before .before in rw (lent (s .args .pattern)) (s .pre .1)
+decode-columns-requires c κs =
+    let s = c .before .before .before .before .before .before .before .before in
+    let w = c .before .before .before .before .widths-of .ensures in
+    (rw (lent (s .args .pattern)) (s .pre .1), widths-lent (s .args .pattern) _ (s .pre .0) (w .0) (w .1))
 
 returns : tie.Need-returns
 returns c =
-    let s = c .before .before .before .before .before .before .before .before .before in
+    let s = c .before .before .before .before .before .before .before .before .before .before .before in
     rw (lent (s .args .pattern)) at (c .before .before .decode-columns .ensures)
 
 pub decode-spec : {M : Type 1} → statement M
 decode-spec =
     tie.close
     (tie.spec
+    (λ c κs. search needs)
+    (λ c. search needs)
     (λ c. search needs)
     (λ c. search needs)
     (λ c. search needs)
