@@ -24,9 +24,7 @@ use Rattle.lists.proofs.Same.{sameNumber-refl, sameNumber-true}
 use Rattle.block.specs.Mapping.{coordinate, qam4, qam16, standard64, symmetric64, constellation, axis}
 use Rattle.block.specs.Points.{onAxis, isPoint, arePoints}
 use Rattle.mapping.specs.declared.PointTest.{PointTest}
-use Rattle.cellbytes.specs.CellBytes.{realOf, imaginaryOf, numbers}
-use Rattle.cellbytes.proofs.CellBytes.{real-at, imaginary-at}
-use Rattle.mapping.specs.PointTests.{isBlank, cellPasses, pointsPass, allCells, pointsOnly}
+use Rattle.mapping.specs.PointTests.{isBlank, cellPasses, pointsPass, pointsOnly}
 use Rattle.mapping.specs.Contracts.{inTable, Holds}
 use Rattle.mapping.proofs.Coordinates.{fitting, fitting-at, axis-even, axis-odd}
 use Rattle.mapping.proofs.Labels.{None, coordinates-all}
@@ -144,15 +142,6 @@ cell-read test cells i delay known r H e f g p =
     let f = sfits-of {w = w16} {z = getD cells (2 * i) (pos 0)} f in
     let g = sfits-of {w = w16} {z = getD cells (2 * i + 1) (pos 0)} g in
     rw (p, e, toZ-ofZ {w = w16} f, toZ-ofZ {w = w16} g, H .real _ f, H .imaginary _ g)
-
--- and of cell i of cells that are bytes
-pub byte-read : (c : ℕ) (blank : Bool) (cells : List ℕ) (i : ℕ) (known : List ℤ) (re im : ℤ) (r : Bool) → Holds c known → i < length cells
-    → SFits w16 re → SFits w16 im → re ≡ realOf (getD cells i 0) → im ≡ imaginaryOf (getD cells i 0)
-    → r ≡ (blank && isBlank (toZ w16 (ofZ w16 re)) (toZ w16 (ofZ w16 im))) || (inTable known (toZ w16 (ofZ w16 re)) && inTable known (toZ w16 (ofZ w16 im)))
-    → r ≡ cellPasses (allCells c blank) (numbers cells) i
-unfolding cellPasses isPoint
-byte-read c blank cells i known re im r H h f g a b p =
-    rw (p, toZ-ofZ {w = w16} f, toZ-ofZ {w = w16} g, H .real re f, H .imaginary im g, a, b, real-at cells i, imaginary-at cells i, mod-one i)
 
 -- the delay of the next cell
 pub delay-next : (D i delay r : ℕ) → delay ≡ i % D → r ≡ (delay + 1) % D → r ≡ (i + 1) % D

@@ -2,32 +2,26 @@
 use Prim.Native.Nat.{_-_, _/_}
 use mathlib.Core.Path.{_≡_}
 use native.Mathlib.Omega.{arith}
-use borrow.Author.Needs.{needs, sfits-of}
+use borrow.Author.Needs.{needs}
 use lib.ListN.{length}
-use mir.Syntax.{w16}
 use Rattle.lists.proofs.Tests.{Passed, passed-start, passed-turn, passed-end}
 use Rattle.cellbytes.specs.CellBytes.{numbers}
 use Rattle.cellbytes.proofs.CellBytes.{length-numbers}
 use Rattle.mapping.specs.PointTests.{cellPasses, pointsPass, allCells}
-use Rattle.mapping.proofs.PointTests.{byte-read}
+use Rattle.mapping.proofs.ByteTests.{byte-read}
 use Rattle.mapping.proofs.tests.bytes_pass.Statement.{statement}
 use Rattle.mapping.proofs.tests.bytes_pass.Tie as tie
 
 abbrev Inv-loop : tie.InvT-loop
-Inv-loop c blank cells known passed₀ i₀ passed i = Passed (cellPasses (allCells c blank) (numbers cells)) (length cells) i passed
+Inv-loop c blank cells top passed₀ i₀ passed i = Passed (cellPasses (allCells c blank) (numbers cells)) (length cells) i passed
 
 abbrev μ-loop : tie.MeasureT-loop
-μ-loop c blank cells known passed₀ i₀ passed i = length cells - i
+μ-loop c blank cells top passed₀ i₀ passed i = length cells - i
 
 loop-again : tie.Need-loop-again Inv-loop μ-loop
 loop-again c =
-    let l = c .before .before .before .before .before .before .before in
-    let re = c .before .before .before in
-    let im = c .before in
-    passed-turn _ _ _ _ _ (search needs)
-    (byte-read _ _ _ _ _ _ _ _ (l .before .coordinates .ensures) (search needs) (sfits-of {w = w16} (re .real .ok)) (sfits-of {w = w16} (im .imaginary .ok)) (re .real .ensures) (im .imaginary .ensures)
-    (c .cell-passes .ensures))
-    (l .loop .inv)
+    let l = c .before .before .before in
+    passed-turn _ _ _ _ _ (search needs) (byte-read _ _ _ (l .loop .i) _ _ (l .before .largest .ensures) (omega (arith, c .before .shared-slice-known2 .given (l .loop .i))) (c .byte-passes .ensures)) (l .loop .inv)
 
 returns : tie.Need-returns Inv-loop μ-loop
 unfolding pointsPass
@@ -38,5 +32,5 @@ returns c =
 
 pub bytes-pass-spec : {M : Type 1} → statement M
 bytes-pass-spec =
-    tie.close (tie.spec Inv-loop μ-loop (λ c κs. search needs) (λ c. passed-start _ _) (λ c. search needs) (λ c κs. search needs)
-    (λ c. search needs) (λ c κs. search needs) (λ c κs. search needs) (λ c. search needs) (λ c. search needs) loop-again returns)
+    tie.close (tie.spec Inv-loop μ-loop (λ c κs. search needs) (λ c. passed-start _ _) (λ c. search needs)
+    (λ c κs. c .before .before .before .largest .ensures .low) (λ c. search needs) (λ c. search needs) loop-again returns)
