@@ -84,6 +84,23 @@ rounds S zero = simp mul-zero
 rounds {p} S (suc c) =
     simp mul-suc (rw (codedLength-add p 0 (length p * c) (length p), columnAfter-rounds S c, rounds S c))
 
+-- fewer input bits have no more coded ones
+pub coded-less : (p : List ℕ) (m n : ℕ) → m ≤ n → codedLength p 0 m ≤ codedLength p 0 n
+coded-less p m n h =
+    let e : m + (n - m) ≡ n = omega arith in
+    let a : codedLength p 0 n ≡ codedLength p 0 m + codedLength p (columnAfter p 0 m) (n - m) = rw e at (codedLength-add p 0 m (n - m)) in
+    omega arith
+
+-- whole rounds, and what is left of one
+pub by-rounds : {p : List ℕ} → Sound p → (n : ℕ) → codedLength p 0 n ≡ n / length p * codedLength p 0 (length p) + codedLength p 0 (n % length p)
+by-rounds {p} S n =
+    let q : ℕ = n / length p in
+    let r : ℕ = n % length p in
+    let e : n ≡ length p * q + r = sym (rw (mul-comm (length p) q) (div-add-mod' n (length p))) in
+    let a : codedLength p 0 (length p * q + r) ≡ codedLength p 0 (length p) * q + codedLength p 0 r =
+    rw (codedLength-add p 0 (length p * q) r, columnAfter-rounds S q, rounds S q) in
+    ap (codedLength p 0) e ∙ a ∙ ap (λ x. x + codedLength p 0 r) (mul-comm (codedLength p 0 (length p)) q)
+
 -- the coded bits of the columns from i on, within a round
 columns-length : (p : List ℕ) (i n : ℕ) → i + n ≤ length p → codedLength p i n ≡ total (table (λ k. ones (getD p k 0)) i n)
 unfolding codedLength following table total

@@ -167,8 +167,8 @@ pub fn decode(pattern: Pattern, register: u32, coded: &[u8], at: usize, out: &mu
     decode_columns(&columns[0..width], &widths, register, coded, at, out)
 }
 
-// How many coded bits n input bits give by the columns of a pattern.
-fn count_coded(pattern: &[u8], n: usize) -> usize
+// How many coded bits n input bits give by the columns of a pattern, counted one by one.
+fn count_columns(pattern: &[u8], n: usize) -> usize
     requires { ⌜ Sound (now pattern) × (codedLength (now pattern) 0 n ≤ 65536) ⌝ }
     ensures { λ r. ⌜ r ≡ codedLength (now (pattern .entry)) 0 n ⌝ }
 {
@@ -181,6 +181,20 @@ fn count_coded(pattern: &[u8], n: usize) -> usize
         left -= 1;
     }
     sum
+}
+
+// The same by whole rounds and what is left of one.
+fn count_coded(pattern: &[u8], n: usize) -> usize
+    requires { ⌜ Sound (now pattern) × (codedLength (now pattern) 0 n ≤ 65536) ⌝ }
+    ensures { λ r. ⌜ r ≡ codedLength (now (pattern .entry)) 0 n ⌝ }
+{
+    let width = pattern.len();
+    if n < width {
+        return count_columns(pattern, n);
+    }
+    let round = count_columns(pattern, width);
+    let rest = count_columns(pattern, n % width);
+    n / width * round + rest
 }
 
 // How many coded bits n input bits give with a pattern.

@@ -1,57 +1,53 @@
--- `count_coded` meets its contract. The loop's invariant: the sum and the coded bits of what is left are those of the whole. Assumes nothing.
-use Prim.Native.Nat.{_+_, _<_}
-use mathlib.Core.Path.{_≡_}
+-- `count_coded` meets its contract. Assumes nothing.
+use Prim.Native.Nat.{_%_, _≤_, _<_}
+use mathlib.Core.Path.{sym}
+use native.Mathlib.Nat.{mod-lt}
 use native.Mathlib.Omega.{arith}
 use borrow.Author.Needs.{needs}
 use lib.ListN.{length}
-use Rattle.component.specs.Codeword.{following}
-use Rattle.component.specs.Decoding.{codedLength}
-use Rattle.component.proofs.Codeword.{following-low}
-use Rattle.component.proofs.Lengths.{codedLength-more}
+use Rattle.component.proofs.Lengths.{coded-less, by-rounds}
 use Rattle.component.proofs.code.count_coded.Statement.{statement}
 use Rattle.component.proofs.code.count_coded.Tie as tie
 
-abbrev Inv-loop : tie.InvT-loop
-Inv-loop pattern n sum₀ i₀ left₀ sum i left = (i < length pattern) × (sum + codedLength pattern i left ≡ codedLength pattern 0 n)
+count-columns-requires-2 : tie.Need-count-columns-requires-2
+count-columns-requires-2 c κs =
+    let s = c .before .before in
+    (s .pre .0, omega (arith, coded-less (s .args .pattern .now) _ (s .args .n) (c .if1 .left), s .pre .1))
 
-abbrev μ-loop : tie.MeasureT-loop
-μ-loop pattern n sum₀ i₀ left₀ sum i left = left
+count-columns-requires-3 : tie.Need-count-columns-requires-3
+count-columns-requires-3 c κs =
+    let s = c .before .before .before in
+    let p = s .args .pattern .now in
+    let n = s .args .n in
+    let h : n % length p < length p = mod-lt n (s .pre .0 .some) in
+    let g : n % length p ≤ n = omega (arith, h, c .before .if1 .left) in
+    (s .pre .0, omega (arith, coded-less p (n % length p) n g, s .pre .1))
 
-add-sum : tie.Need-add-sum Inv-loop μ-loop
-add-sum c =
-    let l = c .before .before .before in
-    omega (arith, c .ones .ensures, codedLength-more (l .before .before .args .pattern .now) (l .loop .i) (l .loop .left) (search needs), l .loop .inv .1, l .before .before .pre .1)
+mul-result : tie.Need-mul-result
+mul-result c =
+    let s = c .before .before .before .before in
+    rw (c .before .count-columns2 .ensures) (omega (arith, by-rounds (s .pre .0) (s .args .n), s .pre .1))
 
-loop-again : tie.Need-loop-again Inv-loop μ-loop
-unfolding following
-loop-again c =
-    let l = c .before .before .before .before in
-    let p = l .before .before .args .pattern .now in
-    let f = c .following .ensures in (
-      rw f (following-low (l .before .before .pre .0) (l .loop .i)),
-      rw f (omega (arith, c .before .ones .ensures, codedLength-more p (l .loop .i) (l .loop .left) (search needs), l .loop .inv .1)),
-    )
+add-result : tie.Need-add-result
+add-result c =
+    let s = c .before .before .before .before in
+    rw (c .before .count-columns2 .ensures, c .count-columns3 .ensures) (omega (arith, by-rounds (s .pre .0) (s .args .n), s .pre .1))
 
-returns : tie.Need-returns Inv-loop μ-loop
-unfolding codedLength
-returns c =
-    let l = c .before .loop in
-    let e : l .left ≡ 0 = omega arith in
-    let q : l .sum + codedLength (c .before .before .before .args .pattern .now) (l .i) 0 ≡ codedLength (c .before .before .before .args .pattern .now) 0 (c .before .before .before .args .n) = rw e at (l .inv .1) in
-    omega arith
+returns-2 : tie.Need-returns-2
+returns-2 c =
+    let s = c .before .before .before .before in
+    rw (c .before .count-columns2 .ensures, c .count-columns3 .ensures) (sym (by-rounds (s .pre .0) (s .args .n)))
 
 pub count-coded-spec : {M : Type 1} → statement M
 count-coded-spec =
     tie.close
     (tie.spec
-    Inv-loop
-    μ-loop
-    (λ c. (c .before .pre .0 .some, omega arith))
-    (λ c. search needs)
-    (λ c κs. search needs)
-    add-sum
     (λ c κs. search needs)
     (λ c. search needs)
+    count-columns-requires-2
     (λ c. search needs)
-    loop-again
-    returns)
+    count-columns-requires-3
+    (λ c. search needs)
+    mul-result
+    add-result
+    returns-2)
