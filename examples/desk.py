@@ -342,11 +342,14 @@ def fac_fields(program):
         lines(program, ["fac-read", settings], blocks + spare.encode() + b"\n", good + line.encode() + b"\n", wrong)
 
 
+JOBS = ("code", "read", "read-on", "grid", "ungrid", "fac-build", "fac-read", "nearest", "mux", "demux", "to-new", "to-old", "preview", "plan", "fit")
+
+
 def arguments(program):
     settings = EXAMPLES[0][0]
     status, out, usage = run([program], b"")
-    must(status == 0 and out == b"" and usage.startswith("usage: desk JOB [SETTINGS]\n"), f"no argument: {usage!r}")
-    must(all(job in usage for job in ("code", "read", "grid", "ungrid", "fac-build", "fac-read", "nearest")), "the usage names the jobs")
+    must(status == 0 and out == b"" and usage.startswith("usage: desk JOB ARGUMENTS\n"), f"no argument: {usage!r}")
+    must(all(f"\n  {job} " in usage for job in JOBS), "the usage names the jobs")
     for what, words in [
         ("no argument", []),
         ("a job alone", ["code"]),

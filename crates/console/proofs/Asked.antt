@@ -19,7 +19,8 @@ use Rattle.console.specs.declared.SettingsJob.{SettingsJob}
 use Rattle.console.specs.declared.Named.{Named}
 use Rattle.console.specs.declared.Start.{Start}
 use Rattle.console.specs.declared.Start.the-variants.{Usage, Refused}
-use Rattle.console.specs.Arguments.{sameBytes, settingsWord, started, begunWith, begunBy, begun, named, startBy, startOf}
+use Rattle.console.specs.Names.{sameBytes, named}
+use Rattle.console.specs.Arguments.{settingsWord, started, begunWith, begunBy, fewestOf, mostOf, counted, begun, startBy, startOf}
 
 -- Words from a place on: equal there, unequal there, at the end.
 module _ (x y : List ℕ) (i : ℕ) (h : i < length x) (k : length x ≡ length y) where
@@ -71,18 +72,18 @@ pub with-begun : (job : SettingsJob) (s : Settings) (n : ℕ) → n ≡ refusal 
 unfolding begunWith
 with-begun job s n e h = rw (← e, eq-eqb n 0 h)
 
-pub begun-wrong : (job : SettingsJob) (count : ℕ) (digits : List ℕ) → (count ≡ 3 → ⊥) → Usage ≡ begun job count digits
-unfolding begun
-begun-wrong job count digits h = rw (ne-eqb count 3 h)
+module _ (job : SettingsJob) (count fewest most : ℕ) (digits : List ℕ) (fits : Bool) (f : fewest ≡ fewestOf job) (m : most ≡ mostOf job) (e : fits ≡ counted count fewest most) where
+  pub begun-wrong : fits ≡ false → Usage ≡ begun job count digits
+  unfolding begun
+  begun-wrong h = rw (← f, ← m, ← e, h)
 
-pub begun-line : (job : SettingsJob) (count : ℕ) (digits : List ℕ) (p : Parsed) (s : Settings) (r : Start) → count ≡ 3 → p ≡ settingsWord digits → p ≡ Line s → r ≡ begunWith job s
-    → r ≡ begun job count digits
-unfolding begun begunBy
-begun-line job count digits p s r h e g f = f ∙ rw (eq-eqb count 3 h, ← e, g)
+  pub begun-line : (p : Parsed) (s : Settings) (r : Start) → fits ≡ true → p ≡ settingsWord digits → p ≡ Line s → r ≡ begunWith job s → r ≡ begun job count digits
+  unfolding begun begunBy
+  begun-line p s r h g l b = b ∙ rw (← f, ← m, ← e, h, ← g, l)
 
-pub begun-bad : (job : SettingsJob) (count : ℕ) (digits : List ℕ) (p : Parsed) → count ≡ 3 → p ≡ settingsWord digits → p ≡ Bad → Usage ≡ begun job count digits
-unfolding begun begunBy
-begun-bad job count digits p h e g = rw (eq-eqb count 3 h, ← e, g)
+  pub begun-bad : (p : Parsed) → fits ≡ true → p ≡ settingsWord digits → p ≡ Bad → Usage ≡ begun job count digits
+  unfolding begun begunBy
+  begun-bad p h g l = rw (← f, ← m, ← e, h, ← g, l)
 
 -- The job by its name.
 pub start-by : (word digits : List ℕ) (count : ℕ) (job : Named) {was : Named} → was ≡ named word → was ≡ job → startBy job count digits ≡ startOf count word digits

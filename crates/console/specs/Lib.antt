@@ -1,2 +1,3 @@
-pub mod Arguments
 pub mod Text
+pub mod Names
+pub mod Arguments

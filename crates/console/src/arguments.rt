@@ -5,13 +5,12 @@ use crate::Named;
 use crate::SettingsJob;
 use crate::Start;
 use crate::bytes::put_bytes;
-use crate::bytes::same_bytes;
+use crate::names::named;
 use line::Parsed;
 use settings::Settings;
 use settings::refusals::refusal;
 ghost use mathlib.Core.Path.{_≡_};
-ghost use Rattle.console.specs.Arguments.{settingsWord, started, begunWith, begun, begunLines, named, startOf};
-ghost use mathlib.Core.Bool.{cond};
+ghost use Rattle.console.specs.Arguments.{settingsWord, started, begunWith, fewestOf, mostOfFrames, mostOf, counted, begun, begunPlain, startOf};
 
 // The settings of a word of twenty digits.
 fn settings_word(digits: &[u8]) -> Parsed
@@ -33,6 +32,10 @@ fn started(job: SettingsJob, s: Settings) -> Start
         SettingsJob::Frames(frames) => Start::Begin(frames, s),
         SettingsJob::FacBuild => Start::Lines(LineJob::FacBuild(s)),
         SettingsJob::FacRead => Start::Lines(LineJob::FacRead(s)),
+        SettingsJob::Multiplex(frames) => Start::Multiplex(frames, s),
+        SettingsJob::Turn(file) => Start::Turn(file, s),
+        SettingsJob::Preview => Start::Preview(s),
+        SettingsJob::Fit => Start::Fit(s),
     }
 }
 
@@ -47,11 +50,60 @@ fn begin_with(job: SettingsJob, s: Settings) -> Start
     started(job, s)
 }
 
+// The fewest arguments of a job, the program's name and the job's among them.
+fn fewest_of(job: SettingsJob) -> usize
+    ensures { λ r. ⌜ r ≡ fewestOf job ⌝ }
+{
+    match job {
+        SettingsJob::Frames(_) => 3,
+        SettingsJob::FacBuild => 3,
+        SettingsJob::FacRead => 3,
+        SettingsJob::Multiplex(_) => 4,
+        SettingsJob::Turn(_) => 3,
+        SettingsJob::Preview => 4,
+        SettingsJob::Fit => 4,
+    }
+}
+
+// The most arguments of a job on super frames.
+fn most_of_frames(job: Job) -> usize
+    ensures { λ r. ⌜ r ≡ mostOfFrames job ⌝ }
+{
+    match job {
+        Job::Code => 5,
+        Job::Read => 3,
+        Job::Grid => 3,
+        Job::Ungrid => 3,
+    }
+}
+
+// The most arguments of a job.
+fn most_of(job: SettingsJob) -> usize
+    ensures { λ r. ⌜ r ≡ mostOf job ⌝ }
+{
+    match job {
+        SettingsJob::Frames(frames) => most_of_frames(frames),
+        SettingsJob::FacBuild => 3,
+        SettingsJob::FacRead => 3,
+        SettingsJob::Multiplex(_) => 4,
+        SettingsJob::Turn(_) => 3,
+        SettingsJob::Preview => 4,
+        SettingsJob::Fit => 4,
+    }
+}
+
+// Whether there are no fewer arguments and no more.
+fn counted(count: usize, fewest: usize, most: usize) -> bool
+    ensures { λ r. ⌜ r ≡ counted count fewest most ⌝ }
+{
+    (fewest <= count) & (count <= most)
+}
+
 // A job with so many arguments, the program's name and the job's among them.
 fn begin(job: SettingsJob, count: usize, digits: &[u8]) -> Start
     ensures { λ r. ⌜ r ≡ begun job count (now (digits .entry)) ⌝ }
 {
-    if count != 3 {
+    if !counted(count, fewest_of(job), most_of(job)) {
         return Start::Usage;
     }
     let parsed = settings_word(digits);
@@ -61,61 +113,14 @@ fn begin(job: SettingsJob, count: usize, digits: &[u8]) -> Start
     }
 }
 
-// A job on lines that has no settings.
-fn begin_lines(job: LineJob, count: usize) -> Start
-    ensures { λ r. ⌜ r ≡ begunLines job count ⌝ }
+// A job that has no settings, with so many arguments.
+fn begin_plain(start: Start, count: usize, fewest: usize, most: usize) -> Start
+    ensures { λ r. ⌜ r ≡ begunPlain start count fewest most ⌝ }
 {
-    if count != 2 {
+    if !counted(count, fewest, most) {
         return Start::Usage;
     }
-    Start::Lines(job)
-}
-
-// What a word names, if it is the name, and otherwise what else it names.
-fn either(is: bool, one: Named, other: Named) -> Named
-    ensures { λ r. ⌜ r ≡ cond is one other ⌝ }
-{
-    if is {
-        return one;
-    }
-    other
-}
-
-// The job that a word names.
-fn named(word: &[u8]) -> Named
-    ensures { λ r. ⌜ r ≡ named (now (word .entry)) ⌝ }
-{
-    let nearest = either(same_bytes(word, b"nearest"), Named::Nearest, Named::Unknown);
-    let reading = either(
-        same_bytes(word, b"fac-read"),
-        Named::Has(SettingsJob::FacRead),
-        nearest,
-    );
-    let building = either(
-        same_bytes(word, b"fac-build"),
-        Named::Has(SettingsJob::FacBuild),
-        reading,
-    );
-    let ungrid = either(
-        same_bytes(word, b"ungrid"),
-        Named::Has(SettingsJob::Frames(Job::Ungrid)),
-        building,
-    );
-    let grid = either(
-        same_bytes(word, b"grid"),
-        Named::Has(SettingsJob::Frames(Job::Grid)),
-        ungrid,
-    );
-    let read = either(
-        same_bytes(word, b"read"),
-        Named::Has(SettingsJob::Frames(Job::Read)),
-        grid,
-    );
-    either(
-        same_bytes(word, b"code"),
-        Named::Has(SettingsJob::Frames(Job::Code)),
-        read,
-    )
+    start
 }
 
 // What so many arguments ask for, of which the first word is the job's and the second the settings'.
@@ -125,7 +130,8 @@ pub fn start(count: usize, word: &[u8], digits: &[u8]) -> Start
     let job = named(word);
     match job {
         Named::Has(with) => begin(with, count, digits),
-        Named::Nearest => begin_lines(LineJob::Nearest, count),
+        Named::Nearest => begin_plain(Start::Lines(LineJob::Nearest), count, 2, 2),
+        Named::Plan => begin_plain(Start::Plan, count, 3, 4),
         Named::Unknown => Start::Usage,
     }
 }

@@ -3,7 +3,7 @@ ghost use mathlib.Core.Path.{_≡_};
 ghost use Prim.Native.Nat.{_+_, _≤_};
 ghost use lib.ListN.{length};
 ghost use lib.Seq.{sets};
-ghost use Rattle.console.specs.Arguments.{sameBytes};
+ghost use Rattle.console.specs.Names.{sameBytes};
 
 // Bytes from a place on.
 pub fn put_bytes(bytes: &[u8], out: &mut [u8], at: usize)

@@ -13,7 +13,7 @@ use Rattle.console.specs.declared.LineJob.{LineJob}
 use Rattle.facfields.specs.Build.{buildYield, buildOf}
 use Rattle.facfields.specs.Read.{readYield, readOf}
 use Rattle.numerals.specs.declared.Scan.{Scan}
-use Rattle.linejobs.specs.Yield.{LineYield, lineYield, lineThrough, lineRefused, lineBad, bad, refused, answered}
+use Rattle.turns.specs.Yield.{MadeYield, madeYield, madeThrough, madeRefused, madeBad, bad, refused, answered}
 use Rattle.numerals.specs.Digits.{hexDigits, areHex, bytesIn}
 use Rattle.numerals.specs.Numbers.{goesOn, areNumbers, numbersIn, numbersLine}
 use Rattle.linejobs.specs.Lines.{lineOf}
@@ -24,12 +24,12 @@ use Rattle.linejobs.proofs.Held.{build-held}
 use Rattle.lists.proofs.Bools.{and-right}
 
 -- A text by the answer of a call.
-answered-refused : (answer : ℕ) (text out : List ℕ) → (answer ≡ 0 → ⊥) → lineYield (lineRefused answer) out ≡ answered answer text out
+answered-refused : (answer : ℕ) (text out : List ℕ) → (answer ≡ 0 → ⊥) → madeYield (madeRefused answer) out ≡ answered answer text out
 unfolding answered refused
 answered-refused answer text out h = rw (ne-eqb answer 0 h)
 
 answered-through : {n : ℕ} (answer : ℕ) (text out : List ℕ) → answer ≡ 0 → (r : ℕ) (out′ : List ℕ) → Put n text out 0 r out′
-    → lineYield (lineThrough r) out′ ≡ answered answer text out
+    → madeYield (madeThrough r) out′ ≡ answered answer text out
 unfolding answered
 answered-through answer text out e r out′ p = through-put text out r out′ p ∙ rw (eq-eqb answer 0 e)
 
@@ -38,7 +38,7 @@ pub numbers-test : (line : List ℕ) (c : Scan) → Scanned line c → (ltb (len
 unfolding areNumbers
 numbers-test line c S = ap (λ b. ltb (length line) 256 && b) (S .whole)
 
-pub build-bad : (s : Settings) (line out : List ℕ) → areNumbers line ≡ false → lineYield lineBad out ≡ buildLine s line out
+pub build-bad : (s : Settings) (line out : List ℕ) → areNumbers line ≡ false → madeYield madeBad out ≡ buildLine s line out
 unfolding buildLine bad
 build-bad s line out e = rw e
 
@@ -53,16 +53,16 @@ module _ (s : Settings) (line out block : List ℕ) (answer : ℕ) (c : Scan) (S
   said =
       ap (λ z. buildSaid z out) (y ∙ ap (λ v. buildOf s v (replicate 9 0)) values ∙ build-held s (numbersIn line) (replicate 9 0)) ∙ rw t
 
-  pub build-refused : (answer ≡ 0 → ⊥) → lineYield (lineRefused answer) out ≡ buildLine s line out
+  pub build-refused : (answer ≡ 0 → ⊥) → madeYield (madeRefused answer) out ≡ buildLine s line out
   unfolding buildSaid
   build-refused h = answered-refused answer (hexDigits block ++ lineEnd) out h ∙ said
 
-  pub build-through : answer ≡ 0 → (r : ℕ) (out′ : List ℕ) → Put 19 (hexDigits block ++ lineEnd) out 0 r out′ → lineYield (lineThrough r) out′ ≡ buildLine s line out
+  pub build-through : answer ≡ 0 → (r : ℕ) (out′ : List ℕ) → Put 19 (hexDigits block ++ lineEnd) out 0 r out′ → madeYield (madeThrough r) out′ ≡ buildLine s line out
   unfolding buildSaid
   build-through e r out′ p = answered-through answer (hexDigits block ++ lineEnd) out e r out′ p ∙ said
 
 -- `fac-read`.
-pub read-bad : (s : Settings) (line out : List ℕ) → areHex 9 line ≡ false → lineYield lineBad out ≡ readLine s line out
+pub read-bad : (s : Settings) (line out : List ℕ) → areHex 9 line ≡ false → madeYield madeBad out ≡ readLine s line out
 unfolding readLine bad
 read-bad s line out e = rw e
 
@@ -72,14 +72,14 @@ module _ (s : Settings) (line out block numbers : List ℕ) (answer : ℕ) (t : 
   unfolding readLine
   said-read = ap (λ z. readSaid z out) (y ∙ ap (λ v. readOf s v (replicate 14 0)) b) ∙ rw t
 
-  pub read-refused : (answer ≡ 0 → ⊥) → lineYield (lineRefused answer) out ≡ readLine s line out
+  pub read-refused : (answer ≡ 0 → ⊥) → madeYield (madeRefused answer) out ≡ readLine s line out
   unfolding readSaid
   read-refused h = answered-refused answer (numbersLine numbers) out h ∙ said-read
 
-  pub read-through : answer ≡ 0 → (r : ℕ) (out′ : List ℕ) → Put 400 (numbersLine numbers) out 0 r out′ → lineYield (lineThrough r) out′ ≡ readLine s line out
+  pub read-through : answer ≡ 0 → (r : ℕ) (out′ : List ℕ) → Put 400 (numbersLine numbers) out 0 r out′ → madeYield (madeThrough r) out′ ≡ readLine s line out
   unfolding readSaid
   read-through e r out′ p = answered-through answer (numbersLine numbers) out e r out′ p ∙ said-read
 
 -- The line of a job.
-pub line-as : {r : LineYield} (job was : LineJob) (line out : List ℕ) → was ≡ job → r ≡ lineOf job line out → r ≡ lineOf was line out
+pub line-as : {r : MadeYield} (job was : LineJob) (line out : List ℕ) → was ≡ job → r ≡ lineOf job line out → r ≡ lineOf was line out
 line-as job was line out e f = f ∙ ap (λ j. lineOf j line out) (sym e)

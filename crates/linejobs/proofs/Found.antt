@@ -11,10 +11,10 @@ use lib.Dec.{eqb}
 use borrow.Author.Tests.{eq-eqb, ne-eqb}
 use Rattle.words.specs.Contracts.{Put}
 use Rattle.nearest.specs.Fac.{nearestYield}
-use Rattle.linejobs.specs.declared.LineStep.{LineStep}
+use Rattle.turns.specs.declared.Made.{Made}
 use Rattle.numerals.specs.Digits.{hexDigits}
 use Rattle.numerals.proofs.Hex.{digits-long}
-use Rattle.linejobs.specs.Yield.{LineYield, lineYield, lineThrough, lineBad, through, bad}
+use Rattle.turns.specs.Yield.{MadeYield, madeYield, madeThrough, madeBad, through, bad}
 use Rattle.linejobs.specs.Nearest.{blockLine, nearestSaid, nearestLine}
 use Rattle.linejobs.specs.Contracts.{Found}
 
@@ -25,15 +25,15 @@ hex-put block out out′ h e =
     record { written = e; end = sym n ∙ sym (zero-add (length (hexDigits block))); within = omega arith }
 
 -- What a function that answers with a step promises.
-pub answers : {r t : LineStep} {out : List ℕ} {y : LineYield} → r ≡ t → t .length ≤ 1024 → lineYield t out ≡ y → (lineYield r out ≡ y) × (r .length ≤ 1024)
+pub answers : {r t : Made} {out : List ℕ} {y : MadeYield} → r ≡ t → t .length ≤ 1024 → madeYield t out ≡ y → (madeYield r out ≡ y) × (r .length ≤ 1024)
 answers e h f = rw e (f, h)
 
-pub line-short : (line out : List ℕ) → (length line ≡ 130 → ⊥) → lineYield lineBad out ≡ nearestLine line out
+pub line-short : (line out : List ℕ) → (length line ≡ 130 → ⊥) → madeYield madeBad out ≡ nearestLine line out
 unfolding nearestLine bad
 line-short line out h = rw (ne-eqb (length line) 130 h)
 
 said-bad : (answer : ℕ) (block count out : List ℕ) → eqb answer 0 ≡ false
-    → lineYield lineBad out ≡ nearestSaid (nearestYield answer block count) out
+    → madeYield madeBad out ≡ nearestSaid (nearestYield answer block count) out
 unfolding nearestSaid bad
 said-bad answer block count out h = rw h
 
@@ -42,7 +42,7 @@ said-found : (answer : ℕ) (block count out : List ℕ) → eqb answer 0 ≡ tr
 unfolding nearestSaid
 said-found answer block count out h = rw h
 
-pub through-put : {n : ℕ} (text out : List ℕ) (r : ℕ) (out′ : List ℕ) → Put n text out 0 r out′ → lineYield (lineThrough r) out′ ≡ through text out
+pub through-put : {n : ℕ} (text out : List ℕ) (r : ℕ) (out′ : List ℕ) → Put n text out 0 r out′ → madeYield (madeThrough r) out′ ≡ through text out
 unfolding through
 through-put text out r out′ p = rw (p .end, p .written, zero-add (length text))
 
@@ -51,9 +51,9 @@ module _ (line out block count : List ℕ) (found : Bool) (h : length line ≡ 1
   unfolding nearestLine
   whole = ap (λ y. nearestSaid y out) (f .yields) ∙ rw (eq-eqb (length line) 130 h)
 
-  pub line-bad : found ≡ false → lineYield lineBad out ≡ nearestLine line out
+  pub line-bad : found ≡ false → madeYield madeBad out ≡ nearestLine line out
   line-bad e = said-bad (f .answer) block count out (sym (f .accepted) ∙ e) ∙ whole
 
   pub line-found : found ≡ true → (r : ℕ) (out′ : List ℕ) → Put 40 (blockLine block (getD count 0 0)) out 0 r out′
-      → lineYield (lineThrough r) out′ ≡ nearestLine line out
+      → madeYield (madeThrough r) out′ ≡ nearestLine line out
   line-found e r out′ p = through-put _ out r out′ p ∙ said-found (f .answer) block count out (sym (f .accepted) ∙ e) ∙ whole

@@ -1,4 +1,3 @@
-pub mod Yield
 pub mod Nearest
 pub mod Fields
 pub mod Lines

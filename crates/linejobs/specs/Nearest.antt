@@ -7,7 +7,7 @@ use lib.Dec.{eqb}
 use Rattle.lists.specs.Lists.{table}
 use Rattle.line.specs.Written.{decimal, space, lineEnd}
 use Rattle.nearest.specs.Fac.{NearestYield, nearestOf}
-use Rattle.linejobs.specs.Yield.{LineYield, through, bad}
+use Rattle.turns.specs.Yield.{MadeYield, through, bad}
 use Rattle.numerals.specs.Digits.{hexDigits}
 
 -- 130 characters, 0, 1 or ? (bytes 48, 49, 63) for unknown. 02, S-9: each received value is 0, 1 or 2; any other character is 3, which the call refuses.
@@ -21,9 +21,9 @@ valuesIn line = table (λ i. valueOf (getD line i 0)) 0 (length line)
 unfoldable pub blockLine : List ℕ → ℕ → List ℕ
 blockLine block count = hexDigits block ++ space ++ decimal count ++ lineEnd
 
-unfoldable pub nearestSaid : NearestYield → List ℕ → LineYield
+unfoldable pub nearestSaid : NearestYield → List ℕ → MadeYield
 nearestSaid y out = cond (eqb (y .answer) 0) (through (blockLine (y .block) (getD (y .count) 0 0)) out) (bad out)
 
-unfoldable pub nearestLine : List ℕ → List ℕ → LineYield
+unfoldable pub nearestLine : List ℕ → List ℕ → MadeYield
 nearestLine line out =
     cond (eqb (length line) 130) (nearestSaid (nearestOf (valuesIn line) (replicate 9 0) (replicate 1 0)) out) (bad out)

@@ -1,8 +1,4 @@
 // Lines of FAC fields and of FAC blocks. 02, S-1: the desk types fields.
-use crate::LineStep;
-use crate::answers::bad;
-use crate::answers::refused;
-use crate::answers::through;
 use facfields::calls::build;
 use facfields::calls::read;
 use numerals::digits::are_hex;
@@ -11,6 +7,10 @@ use numerals::digits::read_hex;
 use numerals::numbers::numbers;
 use numerals::numbers::put_numbers;
 use settings::Settings;
+use turns::Made;
+use turns::answers::bad;
+use turns::answers::refused;
+use turns::answers::through;
 use words::report::put;
 ghost use mathlib.Core.Path.{_≡_};
 ghost use mathlib.Core.List.{_++_};
@@ -18,7 +18,7 @@ ghost use Prim.Native.Nat.{_≤_};
 ghost use lib.ListN.{length};
 ghost use Rattle.words.specs.Contracts.{Put};
 ghost use Rattle.line.specs.Written.{lineEnd};
-ghost use Rattle.linejobs.specs.Yield.{lineYield};
+ghost use Rattle.turns.specs.Yield.{madeYield};
 ghost use Rattle.numerals.specs.Digits.{hexDigits};
 ghost use Rattle.linejobs.specs.Fields.{buildLine, readLine};
 
@@ -32,8 +32,8 @@ fn put_block(block: &[u8], out: &mut [u8]) -> usize
 }
 
 // `fac-build`: fourteen numbers to the digits of a block.
-pub fn build_line(s: Settings, line: &[u8], out: &mut [u8; 1024]) -> LineStep
-    ensures { λ r. ⌜ lineYield r (now (out .exit)) ≡ buildLine s (now (line .entry)) (now (out .entry)) ⌝ }
+pub fn build_line(s: Settings, line: &[u8], out: &mut [u8; 1024]) -> Made
+    ensures { λ r. ⌜ madeYield r (now (out .exit)) ≡ buildLine s (now (line .entry)) (now (out .entry)) ⌝ }
     ensures { λ r. ⌜ r .length ≤ 1024 ⌝ }
 {
     let c = numbers(line);
@@ -51,8 +51,8 @@ pub fn build_line(s: Settings, line: &[u8], out: &mut [u8; 1024]) -> LineStep
 }
 
 // `fac-read`: the digits of a block to its fourteen numbers.
-pub fn read_line(s: Settings, line: &[u8], out: &mut [u8; 1024]) -> LineStep
-    ensures { λ r. ⌜ lineYield r (now (out .exit)) ≡ readLine s (now (line .entry)) (now (out .entry)) ⌝ }
+pub fn read_line(s: Settings, line: &[u8], out: &mut [u8; 1024]) -> Made
+    ensures { λ r. ⌜ madeYield r (now (out .exit)) ≡ readLine s (now (line .entry)) (now (out .entry)) ⌝ }
     ensures { λ r. ⌜ r .length ≤ 1024 ⌝ }
 {
     if !are_hex(line, 9) {

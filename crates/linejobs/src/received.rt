@@ -1,16 +1,16 @@
 // A line of received bits, and the line of the block nearest to them. 02, S-9.
-use crate::LineStep;
-use crate::answers::bad;
-use crate::answers::through;
 use nearest::fac::fac_nearest;
 use numerals::digits::put_hex;
+use turns::Made;
+use turns::answers::bad;
+use turns::answers::through;
 use words::report::put;
 use words::report::put_decimal;
 ghost use mathlib.Core.Path.{_≡_};
 ghost use Prim.Native.Nat.{_≤_};
 ghost use lib.ListN.{length};
 ghost use Rattle.words.specs.Contracts.{Put};
-ghost use Rattle.linejobs.specs.Yield.{lineYield};
+ghost use Rattle.turns.specs.Yield.{madeYield};
 ghost use Rattle.linejobs.specs.Nearest.{valueOf, valuesIn, blockLine, nearestLine};
 ghost use Rattle.linejobs.specs.Contracts.{Found};
 
@@ -64,8 +64,8 @@ fn find(line: &[u8], block: &mut [u8], count: &mut [u16]) -> bool
 }
 
 // What `desk nearest` makes of a line.
-pub fn nearest_line(line: &[u8], out: &mut [u8; 1024]) -> LineStep
-    ensures { λ r. ⌜ lineYield r (now (out .exit)) ≡ nearestLine (now (line .entry)) (now (out .entry)) ⌝ }
+pub fn nearest_line(line: &[u8], out: &mut [u8; 1024]) -> Made
+    ensures { λ r. ⌜ madeYield r (now (out .exit)) ≡ nearestLine (now (line .entry)) (now (out .entry)) ⌝ }
     ensures { λ r. ⌜ r .length ≤ 1024 ⌝ }
 {
     let mut block = [0u8; 9];

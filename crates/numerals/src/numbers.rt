@@ -12,7 +12,7 @@ ghost use Rattle.numerals.specs.Numbers.{isDigit, numbersRest, numbersLi
 ghost use Rattle.numerals.specs.Contracts.{held, stepped, Kept, Scanned};
 
 // Whether a byte is a decimal digit.
-fn is_digit(byte: u8) -> bool
+pub fn is_digit(byte: u8) -> bool
     ensures { λ r. ⌜ r ≡ isDigit byte ⌝ }
 {
     (b'0' <= byte) & (byte < b'0' + 10)

@@ -1,4 +1,5 @@
 // What follows from a read and a write of the desk's program.
+pub mod answers;
 pub mod input;
 pub mod turn;
 
@@ -7,6 +8,12 @@ pub enum Outcome {
     Through,
     Refused(u8, u8),
     Bad,
+}
+
+// What a job makes of a line or a multiplex frame: how it went, and how many bytes are to be written.
+pub struct Made {
+    pub outcome: Outcome,
+    pub length: usize,
 }
 
 // How a run of super frames or a line ends.

@@ -64,6 +64,6 @@ unfolding endLine
 whole-line unit end index e = rw e
 
 pub failed-line : (unit : Counted) (end : End) (index : ℕ) → failed end ≡ true
-    → unitWord unit ++ decimal index ++ bytesIn ": " ++ why end ++ bytesIn "\n" ≡ endLine unit end index
+    → unitWord unit ++ bytesIn " " ++ decimal index ++ bytesIn ": " ++ why end ++ bytesIn "\n" ≡ endLine unit end index
 unfolding endLine
 failed-line unit end index e = rw e

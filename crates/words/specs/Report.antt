@@ -7,7 +7,7 @@ use Rattle.line.specs.Written.{decimal}
 use Rattle.turns.specs.declared.End.{End}
 use Rattle.turns.specs.declared.End.the-variants.{Whole, Inside, Unread, Unwritten, Stopped, BadLine}
 use Rattle.words.specs.declared.Counted.{Counted}
-use Rattle.words.specs.declared.Counted.the-variants.{SuperFrame, Line}
+use Rattle.words.specs.declared.Counted.the-variants.{SuperFrame, MultiplexFrame, Line}
 use Rattle.words.specs.Words.{refusalWords, blockWords}
 use Rattle.console.specs.Text.{bytesIn}
 
@@ -41,31 +41,44 @@ failed BadLine = true
 
 -- What a run is counted by.
 unfoldable pub unitWord : Counted → List ℕ
-unitWord SuperFrame = bytesIn "super frame "
-unitWord Line = bytesIn "line "
+unitWord SuperFrame = bytesIn "super frame"
+unitWord MultiplexFrame = bytesIn "multiplex frame"
+unitWord Line = bytesIn "line"
 
--- What ended a run at a super frame, counted from 0, or what is wrong with a line, counted from 1; nothing where the input ended after a whole one.
+-- What ended a run at a super frame or a multiplex frame, counted from 0, or what is wrong with a line, counted from 1; nothing where the input ended after a whole one.
 unfoldable pub endLine : Counted → End → ℕ → List ℕ
 endLine unit end index =
-    cond (failed end) (unitWord unit ++ decimal index ++ bytesIn ": " ++ why end ++ bytesIn "\n") []
+    cond (failed end) (unitWord unit ++ bytesIn " " ++ decimal index ++ bytesIn ": " ++ why end ++ bytesIn "\n") []
 
--- A run: the line of what ended it, and the closing line with the super frames that went through.
-unfoldable pub reportOf : End → ℕ → List ℕ
-reportOf end count = endLine SuperFrame end count ++ bytesIn "super frames: " ++ decimal count ++ bytesIn "\n"
+-- A run: the line of what ended it, and the closing line with the frames that went through.
+unfoldable pub reportOf : Counted → End → ℕ → List ℕ
+reportOf unit end count = endLine unit end count ++ unitWord unit ++ bytesIn "s: " ++ decimal count ++ bytesIn "\n"
 
 -- Settings that are refused.
 unfoldable pub settingsLine : ℕ → List ℕ
 settingsLine number = bytesIn "settings: " ++ refusedPart number 0 ++ bytesIn "\n"
 
--- Anything else than a job and its settings.
+-- Anything else than a job and its arguments.
 unfoldable pub usage : List ℕ
 usage =
-    bytesIn "usage: desk JOB [SETTINGS]\n"
-    ++ bytesIn "  code SETTINGS       super frames of bytes to super frames of cells\n"
-    ++ bytesIn "  read SETTINGS       super frames of cells to super frames of bytes\n"
-    ++ bytesIn "  grid SETTINGS       super frames of cells to grids by symbol and carrier\n"
-    ++ bytesIn "  ungrid SETTINGS     grids to super frames of cells\n"
-    ++ bytesIn "  fac-build SETTINGS  lines of fourteen fields in decimal to FAC blocks\n"
-    ++ bytesIn "  fac-read SETTINGS   lines of FAC blocks to their fourteen fields\n"
-    ++ bytesIn "  nearest             lines of 130 received bits, 0, 1 or ?, to FAC blocks\n"
+    bytesIn "usage: desk JOB ARGUMENTS\n"
+    ++ bytesIn "  code SETTINGS [FROM [TO]]   super frames of bytes to super frames of cells\n"
+    ++ bytesIn "  read SETTINGS               super frames of cells to super frames of bytes\n"
+    ++ bytesIn "  read-on SETTINGS            the same past spoiled cells, with marks of what is lost\n"
+    ++ bytesIn "  grid SETTINGS               super frames of cells to grids by symbol and carrier\n"
+    ++ bytesIn "  ungrid SETTINGS             grids to super frames of cells\n"
+    ++ bytesIn "  fac-build SETTINGS          lines of fourteen fields in decimal to FAC blocks\n"
+    ++ bytesIn "  fac-read SETTINGS           lines of FAC blocks to their fourteen fields\n"
+    ++ bytesIn "  nearest                     lines of 130 received bits, 0, 1 or ?, to FAC blocks\n"
+    ++ bytesIn "  mux SETTINGS DESCRIPTION    logical frames of streams to multiplex frames\n"
+    ++ bytesIn "  demux SETTINGS DESCRIPTION  multiplex frames to logical frames of streams\n"
+    ++ bytesIn "  to-new SETTINGS             an old hold file to a new one\n"
+    ++ bytesIn "  to-old SETTINGS             a new hold file to an old one\n"
+    ++ bytesIn "  preview SETTINGS HOLDFILE   the next super frame's bytes to its cells\n"
+    ++ bytesIn "  plan FILE [SUPERFRAME]      a week's stretches, or a super frame's rule and mark\n"
+    ++ bytesIn "  fit SETTINGS BYTES          super frames, memory and zero bits for so many bytes\n"
     ++ bytesIn "SETTINGS: twenty hexadecimal digits, 0 to 9 and A to F\n"
+    ++ bytesIn "FROM, HOLDFILE: a new hold file to begin from, for FROM also - for a reset; TO: one to store at the end\n"
+    ++ bytesIn "DESCRIPTION: decimal numbers joined by commas, for each stream its bytes in part A and in part B\n"
+    ++ bytesIn "FILE: a plan, one rule a line: FIRST AFTER SETTINGS, in minutes of the week; SUPERFRAME: 0 to 503999\n"
+    ++ bytesIn "BYTES: a decimal number below 4294967296\n"

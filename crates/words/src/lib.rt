@@ -5,5 +5,6 @@ pub mod texts;
 // What a run is counted by.
 pub enum Counted {
     SuperFrame,
+    MultiplexFrame,
     Line,
 }

@@ -11,6 +11,9 @@ ghost use Rattle.line.specs.Written.{decimal};
 ghost use Rattle.words.specs.Contracts.{Put};
 ghost use Rattle.words.specs.Report.{blockPart, refusedPart, why, failed, unitWord, endLine, reportOf, settingsLine, usage};
 
+// Room for the usage.
+pub const USAGE_BYTES: usize = 2048;
+
 // A text from a place of a buffer on, and where it ends.
 pub fn put(text: &[u8], out: &mut [u8], at: usize) -> usize
     requires { ⌜ at + length (now text) ≤ length (now out) ⌝ }
@@ -86,13 +89,14 @@ fn failed(end: End) -> bool
 }
 
 // What a run is counted by.
-fn put_unit(unit: Counted, out: &mut [u8]) -> usize
-    requires { ⌜ 16 ≤ length (now out) ⌝ }
-    ensures { λ r. ⌜ Put 16 (unitWord unit) (now (out .entry)) 0 r (now (out .exit)) ⌝ }
+fn put_unit(unit: Counted, out: &mut [u8], at: usize) -> usize
+    requires { ⌜ at + 16 ≤ length (now out) ⌝ }
+    ensures { λ r. ⌜ Put 16 (unitWord unit) (now (out .entry)) at r (now (out .exit)) ⌝ }
 {
     match unit {
-        Counted::SuperFrame => put(b"super frame ", out, 0),
-        Counted::Line => put(b"line ", out, 0),
+        Counted::SuperFrame => put(b"super frame", out, at),
+        Counted::MultiplexFrame => put(b"multiplex frame", out, at),
+        Counted::Line => put(b"line", out, at),
     }
 }
 
@@ -104,21 +108,23 @@ fn put_end(unit: Counted, end: End, index: u64, out: &mut [u8]) -> usize
     if !failed(end) {
         return 0;
     }
-    let a = put_unit(unit, out);
-    let b = put_decimal(index, out, a);
-    let c = put(b": ", out, b);
-    let d = put_why(end, out, c);
-    put(b"\n", out, d)
+    let a = put_unit(unit, out, 0);
+    let b = put(b" ", out, a);
+    let c = put_decimal(index, out, b);
+    let d = put(b": ", out, c);
+    let e = put_why(end, out, d);
+    put(b"\n", out, e)
 }
 
 // What is said at the end of a run.
-pub fn report(end: End, count: u64, out: &mut [u8; 1024]) -> usize
-    ensures { λ r. ⌜ Put 1024 (reportOf end count) (now (out .entry)) 0 r (now (out .exit)) ⌝ }
+pub fn report(unit: Counted, end: End, count: u64, out: &mut [u8; 1024]) -> usize
+    ensures { λ r. ⌜ Put 1024 (reportOf unit end count) (now (out .entry)) 0 r (now (out .exit)) ⌝ }
 {
-    let a = put_end(Counted::SuperFrame, end, count, out);
-    let b = put(b"super frames: ", out, a);
-    let c = put_decimal(count, out, b);
-    put(b"\n", out, c)
+    let a = put_end(unit, end, count, out);
+    let b = put_unit(unit, out, a);
+    let c = put(b"s: ", out, b);
+    let d = put_decimal(count, out, c);
+    put(b"\n", out, d)
 }
 
 // What is said of a line.
@@ -137,20 +143,32 @@ pub fn settings_refused(number: u8, out: &mut [u8; 1024]) -> usize
     put(b"\n", out, b)
 }
 
-// What is said where the arguments are no job with settings.
-pub fn put_usage(out: &mut [u8; 1024]) -> usize
-    ensures { λ r. ⌜ Put 1024 usage (now (out .entry)) 0 r (now (out .exit)) ⌝ }
+// What is said where the arguments are no job.
+pub fn put_usage(out: &mut [u8; USAGE_BYTES]) -> usize
+    ensures { λ r. ⌜ Put 2048 usage (now (out .entry)) 0 r (now (out .exit)) ⌝ }
 {
     put(
-        b"usage: desk JOB [SETTINGS]\n\
-        \x20 code SETTINGS       super frames of bytes to super frames of cells\n\
-        \x20 read SETTINGS       super frames of cells to super frames of bytes\n\
-        \x20 grid SETTINGS       super frames of cells to grids by symbol and carrier\n\
-        \x20 ungrid SETTINGS     grids to super frames of cells\n\
-        \x20 fac-build SETTINGS  lines of fourteen fields in decimal to FAC blocks\n\
-        \x20 fac-read SETTINGS   lines of FAC blocks to their fourteen fields\n\
-        \x20 nearest             lines of 130 received bits, 0, 1 or ?, to FAC blocks\n\
-        SETTINGS: twenty hexadecimal digits, 0 to 9 and A to F\n",
+        b"usage: desk JOB ARGUMENTS\n\
+        \x20 code SETTINGS [FROM [TO]]   super frames of bytes to super frames of cells\n\
+        \x20 read SETTINGS               super frames of cells to super frames of bytes\n\
+        \x20 read-on SETTINGS            the same past spoiled cells, with marks of what is lost\n\
+        \x20 grid SETTINGS               super frames of cells to grids by symbol and carrier\n\
+        \x20 ungrid SETTINGS             grids to super frames of cells\n\
+        \x20 fac-build SETTINGS          lines of fourteen fields in decimal to FAC blocks\n\
+        \x20 fac-read SETTINGS           lines of FAC blocks to their fourteen fields\n\
+        \x20 nearest                     lines of 130 received bits, 0, 1 or ?, to FAC blocks\n\
+        \x20 mux SETTINGS DESCRIPTION    logical frames of streams to multiplex frames\n\
+        \x20 demux SETTINGS DESCRIPTION  multiplex frames to logical frames of streams\n\
+        \x20 to-new SETTINGS             an old hold file to a new one\n\
+        \x20 to-old SETTINGS             a new hold file to an old one\n\
+        \x20 preview SETTINGS HOLDFILE   the next super frame's bytes to its cells\n\
+        \x20 plan FILE [SUPERFRAME]      a week's stretches, or a super frame's rule and mark\n\
+        \x20 fit SETTINGS BYTES          super frames, memory and zero bits for so many bytes\n\
+        SETTINGS: twenty hexadecimal digits, 0 to 9 and A to F\n\
+        FROM, HOLDFILE: a new hold file to begin from, for FROM also - for a reset; TO: one to store at the end\n\
+        DESCRIPTION: decimal numbers joined by commas, for each stream its bytes in part A and in part B\n\
+        FILE: a plan, one rule a line: FIRST AFTER SETTINGS, in minutes of the week; SUPERFRAME: 0 to 503999\n\
+        BYTES: a decimal number below 4294967296\n",
         out,
         0,
     )

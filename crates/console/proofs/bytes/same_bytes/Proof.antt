@@ -3,7 +3,7 @@ use Prim.Native.Nat.{_-_}
 use mathlib.Core.Path.{_≡_, refl, _∙_}
 use borrow.Author.Needs.{needs}
 use lib.ListN.{length, drop}
-use Rattle.console.specs.Arguments.{sameBytes}
+use Rattle.console.specs.Names.{sameBytes}
 use Rattle.console.proofs.Asked.{same-here, other-here, same-end, other-length}
 use Rattle.console.proofs.bytes.same_bytes.Statement.{statement}
 use Rattle.console.proofs.bytes.same_bytes.Tie as tie

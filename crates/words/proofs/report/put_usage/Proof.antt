@@ -9,7 +9,7 @@ use Rattle.words.proofs.report.put_usage.Tie as tie
 
 returns : tie.Need-returns
 unfolding usage bytesIn table
-returns c = put-room 1024 (omega arith) (c .put .ensures)
+returns c = put-room 2048 (omega arith) (c .put .ensures)
 
 pub put-usage-spec : {M : Type 1} → statement M
 put-usage-spec = tie.close (tie.spec (λ c. search needs) (λ c κs. search needs) returns)

@@ -10,8 +10,9 @@ use Rattle.words.proofs.report.report.Tie as tie
 returns : tie.Need-returns
 unfolding reportOf bytesIn table
 returns c =
-    let a = put-more (c .before .before .before .before .before .before .before .before .put-end .ensures) (c .before .before .before .before .before .put .ensures) in
-    put-room 1024 (omega arith) (put-more (put-more a (c .before .before .before .put-decimal .ensures)) (c .put2 .ensures))
+    let a = put-more (c .before .before .before .before .before .before .before .before .before .before .put-end .ensures) (c .before .before .before .before .before .before .before .before .put-unit .ensures) in
+    let d = put-more (put-more a (c .before .before .before .before .before .put .ensures)) (c .before .before .before .put-decimal .ensures) in
+    put-room 1024 (omega arith) (put-more d (c .put2 .ensures))
 
 pub report-spec : {M : Type 1} → statement M
-report-spec = tie.close (tie.spec (λ c κs. search needs) (λ c. search needs) (λ c κs. search needs) (λ c κs. search needs) (λ c. search needs) (λ c κs. search needs) returns)
+report-spec = tie.close (tie.spec (λ c κs. search needs) (λ c κs. search needs) (λ c. search needs) (λ c κs. search needs) (λ c κs. search needs) (λ c. search needs) (λ c κs. search needs) returns)

@@ -3,8 +3,8 @@ use Prim.Native.Nat.{_-_}
 use mathlib.Core.Path.{_≡_, refl}
 use native.Mathlib.Omega.{arith}
 use lib.ListN.{length}
-use Rattle.desk.proofs.run.Statement.{statement}
-use Rattle.desk.proofs.run.Tie as tie
+use Rattle.desk.proofs.super_frames.run.Statement.{statement}
+use Rattle.desk.proofs.super_frames.run.Tie as tie
 
 abbrev Inv-loop : tie.InvT-loop
 Inv-loop job bytes₀ memory₀ out₀ state₀ count₀ bytes memory out state count =

@@ -1,0 +1,118 @@
+// The jobs by their names, a group at a time.
+use crate::Job;
+use crate::MuxJob;
+use crate::Named;
+use crate::SettingsJob;
+use crate::TurnJob;
+use crate::bytes::same_bytes;
+ghost use mathlib.Core.Path.{_≡_};
+ghost use mathlib.Core.Bool.{cond};
+ghost use Rattle.console.specs.Names.{framesNamed, linesNamed, multiplexNamed, turnNamed, askedNamed, named};
+
+// What a word names, if it is the name, and otherwise what else it names.
+fn either(is: bool, one: Named, other: Named) -> Named
+    ensures { λ r. ⌜ r ≡ cond is one other ⌝ }
+{
+    if is {
+        return one;
+    }
+    other
+}
+
+// The same for a job that has settings.
+fn has(is: bool, job: SettingsJob, other: Named) -> Named
+    ensures { λ r. ⌜ r ≡ cond is (Named.Has job) other ⌝ }
+{
+    either(is, Named::Has(job), other)
+}
+
+// The jobs on super frames.
+fn frames_named(word: &[u8], other: Named) -> Named
+    ensures { λ r. ⌜ r ≡ framesNamed (now (word .entry)) other ⌝ }
+{
+    let ungrid = has(
+        same_bytes(word, b"ungrid"),
+        SettingsJob::Frames(Job::Ungrid),
+        other,
+    );
+    let grid = has(
+        same_bytes(word, b"grid"),
+        SettingsJob::Frames(Job::Grid),
+        ungrid,
+    );
+    let read = has(
+        same_bytes(word, b"read"),
+        SettingsJob::Frames(Job::Read),
+        grid,
+    );
+    has(
+        same_bytes(word, b"code"),
+        SettingsJob::Frames(Job::Code),
+        read,
+    )
+}
+
+// The jobs on lines.
+fn lines_named(word: &[u8], other: Named) -> Named
+    ensures { λ r. ⌜ r ≡ linesNamed (now (word .entry)) other ⌝ }
+{
+    let nearest = either(same_bytes(word, b"nearest"), Named::Nearest, other);
+    let reading = has(same_bytes(word, b"fac-read"), SettingsJob::FacRead, nearest);
+    has(
+        same_bytes(word, b"fac-build"),
+        SettingsJob::FacBuild,
+        reading,
+    )
+}
+
+// The jobs on multiplex frames.
+fn multiplex_named(word: &[u8], other: Named) -> Named
+    ensures { λ r. ⌜ r ≡ multiplexNamed (now (word .entry)) other ⌝ }
+{
+    let demux = has(
+        same_bytes(word, b"demux"),
+        SettingsJob::Multiplex(MuxJob::Demux),
+        other,
+    );
+    has(
+        same_bytes(word, b"mux"),
+        SettingsJob::Multiplex(MuxJob::Mux),
+        demux,
+    )
+}
+
+// The jobs on hold files.
+fn turn_named(word: &[u8], other: Named) -> Named
+    ensures { λ r. ⌜ r ≡ turnNamed (now (word .entry)) other ⌝ }
+{
+    let old = has(
+        same_bytes(word, b"to-old"),
+        SettingsJob::Turn(TurnJob::ToOld),
+        other,
+    );
+    has(
+        same_bytes(word, b"to-new"),
+        SettingsJob::Turn(TurnJob::ToNew),
+        old,
+    )
+}
+
+// The jobs that ask one question.
+fn asked_named(word: &[u8], other: Named) -> Named
+    ensures { λ r. ⌜ r ≡ askedNamed (now (word .entry)) other ⌝ }
+{
+    let fit = has(same_bytes(word, b"fit"), SettingsJob::Fit, other);
+    let plan = either(same_bytes(word, b"plan"), Named::Plan, fit);
+    has(same_bytes(word, b"preview"), SettingsJob::Preview, plan)
+}
+
+// The job that a word names.
+pub fn named(word: &[u8]) -> Named
+    ensures { λ r. ⌜ r ≡ named (now (word .entry)) ⌝ }
+{
+    let asked = asked_named(word, Named::Unknown);
+    let turn = turn_named(word, asked);
+    let multiplex = multiplex_named(word, turn);
+    let lines = lines_named(word, multiplex);
+    frames_named(word, lines)
+}
