@@ -342,6 +342,97 @@ def fac_fields(program):
         lines(program, ["fac-read", settings], blocks + spare.encode() + b"\n", good + line.encode() + b"\n", wrong)
 
 
+# words that are no description: two numbers for each of one to four streams, each below 65,536
+NO_DESCRIPTIONS = ["", "285", "285,0,0", ",".join(["0"] * 10), "285,", ",285", "285,,0", "285 0", "285,+0", "285,-0", "285,0x0", "285,0\n", "285,65536",
+                   "285,4294967296", "285,18446744073709551616", "285;0", "285,0" + " ", "285," + "0" * 60, "285," + "0" * 4096]
+
+
+# settings of each MSC mode, bits of the VSPP and of what comes after it, descriptions that fit
+MULTIPLEX = [
+    ("000300000100011D0000", 0, 10174, [[285, 0], [285, 986], [100, 3, 185, 500], [0, 1, 5, 0, 280, 9, 0, 0]]),
+    ("00030100010100640000", 1684, 8351, [[0, 210, 100, 943], [65535, 0, 100, 0], [0, 7, 60, 1, 40, 2], [1, 100, 0, 9, 99, 0, 1, 30]]),
+    ("00030200010100640000", 3372, 6270, [[0, 421, 100, 683], [0, 1, 50, 50, 50, 50]]),
+    ("00030301010000C80101", 0, 7381, [[200, 722], [0, 0, 200, 1], [50, 1, 50, 2, 50, 3, 50, 4]]),
+]
+
+
+class Multiplex:
+    """Settings with a description, and the bytes and bits of a frame. 02, S-8: H, then A0 A1 .. B0 B1 .. at bit L_VSPP."""
+
+    def __init__(self, settings, vspp, rest, numbers):
+        self.settings, self.vspp, self.rest = settings, vspp, rest
+        streams = [numbers[k:k + 2] for k in range(0, len(numbers), 2)]
+        self.head = streams.pop(0)[1] if int(settings[4:6], 16) in (1, 2) else 0
+        self.streams = streams
+        self.size = self.head + sum(map(sum, streams))
+        self.frame = (vspp + rest + 7) // 8
+        self.word = ",".join(map(str, numbers))
+
+    def bits(self, data):
+        return "".join(f"{byte:08b}" for byte in data)
+
+    def build(self, data):
+        """A frame from the bytes of the logical frames."""
+        at, first, second = self.head, "", ""
+        for a, b in self.streams:
+            first += self.bits(data[at:at + a])
+            second += self.bits(data[at + a:at + a + b])
+            at += a + b
+        all_bits = self.bits(data[:self.head]).ljust(self.vspp, "0") + (first + second).ljust(self.rest, "0")
+        return self.packed(all_bits)
+
+    def packed(self, all_bits):
+        return int(all_bits.ljust(8 * self.frame, "0"), 2).to_bytes(self.frame, "big")
+
+    def flipped(self, frame, bit):
+        out = bytearray(frame)
+        out[bit // 8] ^= 128 >> bit % 8
+        return bytes(out)
+
+
+def multiplex(program):
+    """Logical frames to multiplex frames and back in each MSC mode; descriptions and frames that are refused."""
+    unfit = "refused: 19, parts of streams that do not fit the multiplex frame"
+    for settings, vspp, rest, descriptions in MULTIPLEX:
+        x = int(settings[12:16], 16)
+        for numbers in descriptions:
+            m = Multiplex(settings, vspp, rest, numbers)
+            data = [Draw(k + 1).block(8 * m.size) for k in range(4)]
+            frames = [m.build(one) for one in data]
+            words = [settings, m.word]
+            for chunk in (1009, 7):
+                what = f"{settings} {m.word}, {chunk} bytes at a time"
+                both(program, ["mux"] + words, b"".join(data), "mux " + what, b"".join(frames), "multiplex frames: 4\n", True, chunk=chunk)
+                both(program, ["demux"] + words, b"".join(frames), "demux " + what, b"".join(data), "multiplex frames: 4\n", True, chunk=chunk)
+            inside = "multiplex frame 2: the input ends inside it\nmultiplex frames: 2\n"
+            both(program, ["mux"] + words, b"".join(data)[:3 * m.size - 1], "logical frames that end inside", b"".join(frames[:2]), inside, False)
+            both(program, ["demux"] + words, b"".join(frames)[:2 * m.frame + 1], "a multiplex frame that ends inside", b"".join(data[:2]), inside, False)
+            for job in ("mux", "demux"):
+                both(program, [job] + words, b"", job + ": no input", b"", "multiplex frames: 0\n", True)
+            used = 8 * (m.size - m.head)
+            wrong = [(bit, "refused: 20, filling that is not zero") for bit in {8 * m.head, vspp - 1} if 8 * m.head <= bit < vspp]
+            wrong += [(bit, "refused: 20, filling that is not zero") for bit in {vspp + used, vspp + rest - 1} if vspp + used <= bit < vspp + rest]
+            wrong += [(bit, "refused: 11, a spare bit set") for bit in range(vspp + rest, 8 * m.frame)]
+            for bit, said in wrong:
+                both(program, ["demux"] + words, frames[0] + m.flipped(frames[1], bit) + frames[2], f"demux, bit {bit} set", data[0],
+                     f"multiplex frame 1: {said}\nmultiplex frames: 1\n", False)
+            with open("/dev/full", "wb") as full:
+                both(program, ["mux"] + words, b"".join(data), "mux: output to a full device", b"",
+                     "multiplex frame 0: not written: the output failed\nmultiplex frames: 0\n", False, stdout=full)
+            folder = os.open("/", os.O_RDONLY)
+            both(program, ["demux"] + words, b"", "demux: input from a directory", b"",
+                 "multiplex frame 0: not read: the input failed\nmultiplex frames: 0\n", False, stdin=folder)
+            os.close(folder)
+        first = [0, vspp // 8] if vspp else []
+        beyond = [first + [x + 1, 0], first + [x, rest // 8 - x + 1], first + [65535, 0, x + 1, 0]]
+        beyond += [[0, vspp // 8 + 1, x, 0]] if vspp else []
+        beyond += [first + [x - 1, 0]] if x else []
+        for numbers in beyond:
+            word = ",".join(map(str, numbers))
+            for job in ("mux", "demux"):
+                both(program, [job, settings, word], b"", f"{job} {word}", b"", f"settings: {unfit}\n", False)
+
+
 JOBS = ("code", "read", "read-on", "grid", "ungrid", "fac-build", "fac-read", "nearest", "mux", "demux", "to-new", "to-old", "preview", "plan", "fit")
 
 
@@ -376,6 +467,13 @@ def arguments(program):
         ("a grid without settings", ["grid"]),
         ("a grid with an argument too many", ["ungrid", settings, settings]),
         ("a part of its name", ["un", settings]),
+        ("multiplex frames without settings", ["mux"]),
+        ("multiplex frames without a description", ["mux", settings]),
+        ("the other", ["demux", settings]),
+        ("multiplex frames with an argument too many", ["mux", settings, "285,0", "285,0"]),
+        ("a description for a job that has none", ["read", settings, "285,0"]),
+        ("streams without a byte, which would never end", ["mux", "00030000010000000000", "0,0"]),
+        *[(f"the description {text[:20]!r}", [job, settings, text]) for job in ("mux", "demux") for text in NO_DESCRIPTIONS],
     ]:
         both(program, words, b"", what, b"", usage, False)
     for number, words, bad in [
@@ -387,8 +485,9 @@ def arguments(program):
         (6, "SDC mode or interleaving not 0 or 1", "00030000010000000200"),
         (7, "too many bytes in part A", "000300000100FFFF0000"),
     ]:
-        for job in ("code", "read", "grid", "ungrid", "fac-build", "fac-read"):
-            both(program, [job, bad], b"", "settings refused", b"", f"settings: refused: {number}, {words}\n", False)
+        for job in ("code", "read", "grid", "ungrid", "fac-build", "fac-read", "mux", "demux"):
+            description = ["285,0"] if "mux" in job else []
+            both(program, [job, bad] + description, b"", "settings refused", b"", f"settings: refused: {number}, {words}\n", False)
 
 
 def main():
@@ -399,6 +498,7 @@ def main():
     grids(program)
     nearest(program)
     fac_fields(program)
+    multiplex(program)
     arguments(program)
     print("all as it must be")
 

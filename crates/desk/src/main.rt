@@ -1,5 +1,6 @@
 // The desk's program: it reads, calls the jobs and writes. What is decided and what is said stands in `turns`, `console`, `words` and the crates of the jobs.
 mod lines;
+mod multiplex_frames;
 mod output;
 mod reading;
 mod super_frames;
@@ -31,7 +32,7 @@ fn main() {
         Start::Refused(number) => say_settings(number),
         Start::Begin(job, s) => begin(job, s),
         Start::Lines(job) => lines::run_lines(job),
-        Start::Multiplex(_, _) => say_usage(),
+        Start::Multiplex(job, s) => multiplex_frames::begin(job, s),
         Start::Turn(_, _) => say_usage(),
         Start::Preview(_) => say_usage(),
         Start::Fit(_) => say_usage(),

@@ -22,7 +22,7 @@ pub fn is_digit(byte: u8) -> bool
 const GREATEST: u32 = 4294967295;
 
 // A number with a digit more.
-fn grown(value: u32, digit: u8) -> u32
+pub fn grown(value: u32, digit: u8) -> u32
     requires { ⌜ digit < 10 ⌝ }
     ensures { λ r. ⌜ r ≡ held (10 * value + digit) ⌝ }
 {

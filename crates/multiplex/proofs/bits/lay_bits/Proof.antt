@@ -10,16 +10,4 @@ returns c =
     laid _ _ _ _ (omega (arith, c .before .before .before .before .before .before .before .before .before .before .before .pre .room)) (c .before .before .before .before .before .before .unpack .ensures) (c .before .before .unpack2 .ensures)
 
 pub lay-bits-spec : {M : Type 1} → statement M
-lay-bits-spec =
-    tie.close
-    (tie.spec
-    (λ c. search needs)
-    (λ c. search needs)
-    (λ c. search needs)
-    (λ c κs. search needs)
-    (λ c. search needs)
-    (λ c. search needs)
-    (λ c. search needs)
-    (λ c κs. search needs)
-    (λ c. search needs)
-    returns)
+lay-bits-spec = tie.close (tie.spec (λ c. search needs) (λ c. search needs) (λ c. search needs) (λ c κs. search needs) (λ c. search needs) (λ c. search needs) (λ c. search needs) (λ c κs. search needs) (λ c. search needs) returns)

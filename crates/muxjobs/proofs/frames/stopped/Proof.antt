@@ -1,0 +1,14 @@
+use borrow.Author.Needs.{needs}
+use mathlib.Core.Path.{sym, ap, _∙_}
+use native.Mathlib.Omega.{arith}
+use Rattle.muxjobs.specs.Frames.{stopped}
+use mathlib.Core.Path.{refl}
+use Rattle.muxjobs.proofs.frames.stopped.Statement.{statement}
+use Rattle.muxjobs.proofs.frames.stopped.Tie as tie
+
+returns : tie.Need-returns
+unfolding stopped
+returns c = refl
+
+pub stopped-spec : {M : Type 1} → statement M
+stopped-spec = tie.close (tie.spec returns)
