@@ -433,6 +433,52 @@ def multiplex(program):
                 both(program, [job, settings, word], b"", f"{job} {word}", b"", f"settings: {unfit}\n", False)
 
 
+def plans(program):
+    """A plan's week and one of its super frames; plans that are refused, a line that is no rule, and a file that is none."""
+    one, two = EXAMPLES[0][0], EXAMPLES[1][0]
+    good = f"0 600 {one}\n600 10080 {two}\n"
+    week = b"0 0 29998\n30000 1 503998\n"
+    with tempfile.TemporaryDirectory() as place:
+        name = os.path.join(place, "plan")
+        missing = os.path.join(place, "none")
+        for what, text, words, out, said in [
+            ("a week", good, [], week, ""),
+            ("one rule", f"0 10080 {one}\n", [], b"0 0 -\n", ""),
+            ("a first super frame", good, ["0"], b"0 2\n", ""),
+            ("a super frame", good, ["29997"], b"0 0\n", ""),
+            ("a closing", good, ["29998"], b"0 1\n", ""),
+            ("after a reset", good, ["30000"], b"1 2\n", ""),
+            ("the week's last", good, ["503999"], b"1 1\n", ""),
+            ("out of range", good, ["504000"], b"", "plan: refused: 24, a plan or a super frame out of range\n"),
+            ("above 32 bits", good, ["4294967296"], b"", "plan: refused: 24, a plan or a super frame out of range\n"),
+            ("a minute above two bytes", f"0 65636 {one}\n", [], b"", "plan: refused: 24, a plan or a super frame out of range\n"),
+            ("65 rules", f"0 10080 {one}\n" * 65, [], b"", "plan: refused: 24, a plan or a super frame out of range\n"),
+            ("a gap", f"0 600 {one}\n601 10080 {two}\n", [], b"", "plan: refused: 25, a minute without a rule\n"),
+            ("no rules", "", ["0"], b"", "plan: refused: 25, a minute without a rule\n"),
+            ("an overlap", f"0 601 {one}\n600 10080 {two}\n", ["0"], b"", "plan: refused: 26, a minute with two rules\n"),
+            ("a bad line", f"0 600 {one}\n600  10080 {two}\n", [], b"", "line 2: bad line\n"),
+            ("a long line", "0" * 300 + good, [], b"", "line 1: bad line\n"),
+            ("super frame with leading zeros", good, ["0" * 20 + "29998"], b"0 1\n", ""),
+            ("rules in another order", f"600 10080 {two}\n0 600 {one}\n", [], b"0 1 29998\n30000 0 503998\n", ""),
+            ("neighbours with equal settings", f"0 600 {one}\n600 10080 {one}\n", [], b"0 0 -\n30000 1 -\n", ""),
+            ("settings that are refused, after others", f"0 600 {one}\n600 10080 {'04' + two[2:]}\n", ["0"], b"", "plan: refused: 1, robustness mode not 0 to 3\n"),
+            ("settings in lower case", f"0 600 {one}\n600 10080 {two[:12] + '00c8' + two[16:]}\n", [], b"", "line 2: bad line\n"),
+            ("no second minute", f"0  {one}\n", [], b"", "line 1: bad line\n"),
+            ("a space behind", f"0 10080 {one} \n", [], b"", "line 1: bad line\n"),
+            ("a line without its end", good[:-1], [], b"", "line 2: the input ends inside it\n"),
+        ]:
+            with open(name, "w") as file:
+                file.write(text)
+            both(program, ["plan", name] + words, b"", what, out, said, said == "")
+        with open(name, "w") as file:
+            file.write(good)
+        with open("/dev/full", "wb") as full:
+            for words in ([], ["0"]):
+                both(program, ["plan", name] + words, b"", "a plan to a full device", b"", "line 1: not written: the output failed\n", False, stdout=full)
+        both(program, ["plan", place], b"", "a directory", b"", "line 1: not read: the input failed\n", False)
+        both(program, ["plan", missing], b"", "no file", b"", f"{missing}: No such file or directory\n", False)
+
+
 JOBS = ("code", "read", "read-on", "grid", "ungrid", "fac-build", "fac-read", "nearest", "mux", "demux", "to-new", "to-old", "preview", "plan", "fit")
 
 
@@ -472,6 +518,11 @@ def arguments(program):
         ("the other", ["demux", settings]),
         ("multiplex frames with an argument too many", ["mux", settings, "285,0", "285,0"]),
         ("a description for a job that has none", ["read", settings, "285,0"]),
+        ("a plan without its file", ["plan"]),
+        ("a super frame that is no number", ["plan", "FILE", "1x"]),
+        ("an empty super frame", ["plan", "FILE", ""]),
+        ("a super frame of 32 digits, perhaps a part of more", ["plan", "FILE", "0" * 32]),
+        ("a plan and more", ["plan", "FILE", "1", "2"]),
         ("streams without a byte, which would never end", ["mux", "00030000010000000000", "0,0"]),
         *[(f"the description {text[:20]!r}", [job, settings, text]) for job in ("mux", "demux") for text in NO_DESCRIPTIONS],
     ]:
@@ -499,6 +550,7 @@ def main():
     nearest(program)
     fac_fields(program)
     multiplex(program)
+    plans(program)
     arguments(program)
     print("all as it must be")
 

@@ -2,6 +2,7 @@
 mod lines;
 mod multiplex_frames;
 mod output;
+mod plans;
 mod reading;
 mod super_frames;
 
@@ -36,6 +37,6 @@ fn main() {
         Start::Turn(_, _) => say_usage(),
         Start::Preview(_) => say_usage(),
         Start::Fit(_) => say_usage(),
-        Start::Plan => say_usage(),
+        Start::Plan => plans::begin(),
     }
 }

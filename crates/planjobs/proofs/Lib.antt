@@ -1,3 +1,4 @@
 pub mod Scanned
 pub mod Printing
 pub mod Stretches
+pub mod Words

@@ -6,6 +6,8 @@ use lib.ListN.{length, getD}
 use lib.Seq.{sets}
 use lib.Dec.{eqb}
 use Rattle.line.specs.Written.{decimal, space, lineEnd}
+use Rattle.console.specs.Text.{bytesIn}
+use Rattle.words.specs.Report.{refusedPart}
 use Rattle.plan.specs.declared.Rule.{Rule}
 use Rattle.plan.specs.declared.Answer.{Answer}
 use Rattle.plan.specs.Rules.{minuteFrames, noRule, markOf}
@@ -56,3 +58,7 @@ stretchPrinted plan minute out =
     cond (eqb (a .refusal) 0)
     (printing (r .after) (stretchText (minuteFrames * minute) (a .place) (closingFrame plan (r .after))) out)
     (printRefused (a .refusal) out)
+
+-- What is said of a plan that is refused.
+unfoldable pub refusedLine : ℕ → List ℕ
+refusedLine number = bytesIn "plan: " ++ refusedPart number 0 ++ bytesIn "\n"

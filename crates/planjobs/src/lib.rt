@@ -1,11 +1,19 @@
 // The desk's job on a week plan: lines of a plan's file, and what is printed. 02, S-12.
+pub mod arguments;
 pub mod lines;
 pub mod week;
 
-// A minute in decimal: its value, and the place after its digits.
-pub struct Minute {
-    pub value: u16,
+// A number in decimal: its value, and the place after its digits.
+pub struct Number {
+    pub value: u32,
     pub next: usize,
+}
+
+// What the arguments ask for: a plan's week, or a super frame of it.
+pub enum Asked {
+    Week,
+    SuperFrame(u32),
+    Bad,
 }
 
 // What is printed: the refusal, or 0 and the bytes of a line; and the minute with which the next line begins.

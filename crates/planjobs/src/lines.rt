@@ -1,35 +1,20 @@
 // Lines of a plan's file.
-use crate::Minute;
+use crate::Number;
 use line::read::are_digits;
 use line::read::byte_at;
+use numerals::numbers::grown;
+use numerals::numbers::is_digit;
 ghost use mathlib.Core.Path.{_≡_};
 ghost use mathlib.Core.Bool.{true, cond, _&&_};
-ghost use Prim.Native.Nat.{_+_, _*_, _≤_, _<_};
+ghost use Prim.Native.Nat.{_+_, _≤_, _<_};
 ghost use lib.ListN.{length, getD, drop};
 ghost use lib.Dec.{eqb};
 ghost use Rattle.lists.specs.Lists.{table};
 ghost use Rattle.line.specs.Read.{digits};
-ghost use Rattle.planjobs.specs.Lines.{isDigit, held, minuteIn, isRule, ruleByte, ruleIn};
+ghost use Rattle.planjobs.specs.Lines.{numberIn, minuteOf, isRule, ruleByte, ruleIn};
 
-const GREATEST: u32 = 65535;
-
-// Whether a byte is a decimal digit.
-fn is_digit(byte: u8) -> bool
-    ensures { λ r. ⌜ r ≡ isDigit byte ⌝ }
-{
-    (b'0' <= byte) & (byte < b'0' + 10)
-}
-
-// A value with a digit more.
-fn grown(value: u16, digit: u8) -> u16
-    ensures { λ r. ⌜ r ≡ held (10 * value + digit) ⌝ }
-{
-    let n = 10 * value as u32 + digit as u32;
-    if n < GREATEST {
-        return n as u16;
-    }
-    GREATEST as u16
-}
+// The greatest number of two bytes.
+const GREATEST_MINUTE: u32 = 65535;
 
 // Whether a space stands at a place.
 fn is_space(line: &[u8], at: usize) -> bool
@@ -42,8 +27,8 @@ fn is_space(line: &[u8], at: usize) -> bool
 }
 
 // The decimal number from a place on.
-fn minute(line: &[u8], from: usize) -> Minute
-    ensures { λ r. ⌜ r ≡ minuteIn (now (line .entry)) from ⌝ }
+pub fn number(line: &[u8], from: usize) -> Number
+    ensures { λ r. ⌜ r ≡ numberIn (now (line .entry)) from ⌝ }
     ensures { λ r. ⌜ r .next ≤ length (now (line .entry)) + from ⌝ }
 {
     let mut value = 0;
@@ -51,16 +36,26 @@ fn minute(line: &[u8], from: usize) -> Minute
     while next < line.len() {
         let byte = line[next];
         if !is_digit(byte) {
-            return Minute { value, next };
+            return Number { value, next };
         }
         value = grown(value, byte - b'0');
         next += 1;
     }
-    Minute { value, next }
+    Number { value, next }
+}
+
+// A minute that goes into two bytes.
+fn minute(n: u32) -> u16
+    ensures { λ r. ⌜ r ≡ minuteOf n ⌝ }
+{
+    if n < GREATEST_MINUTE {
+        return n as u16;
+    }
+    GREATEST_MINUTE as u16
 }
 
 // Byte k of a rule from its minutes and the digits of its settings.
-fn rule_byte(first: u16, after: u16, settings: &[u8], k: usize) -> u8
+fn rule_byte(first: u32, after: u32, settings: &[u8], k: usize) -> u8
     requires { ⌜ digits (now settings) 0 20 ≡ true ⌝ }
     requires { ⌜ 20 ≤ length (now settings) ⌝ }
     requires { ⌜ k < 14 ⌝ }
@@ -69,17 +64,19 @@ fn rule_byte(first: u16, after: u16, settings: &[u8], k: usize) -> u8
     if 4 <= k {
         return byte_at(settings, k - 4);
     }
+    let from = minute(first);
+    let to = minute(after);
     let minutes = [
-        (first / 256) as u8,
-        (first % 256) as u8,
-        (after / 256) as u8,
-        (after % 256) as u8,
+        (from / 256) as u8,
+        (from % 256) as u8,
+        (to / 256) as u8,
+        (to % 256) as u8,
     ];
     minutes[k]
 }
 
 // The fourteen bytes of a rule.
-fn put_rule(first: u16, after: u16, settings: &[u8], out: &mut [u8])
+fn put_rule(first: u32, after: u32, settings: &[u8], out: &mut [u8])
     requires { ⌜ digits (now settings) 0 20 ≡ true ⌝ }
     requires { ⌜ 20 ≤ length (now settings) ⌝ }
     requires { ⌜ length (now out) ≡ 14 ⌝ }
@@ -110,12 +107,13 @@ pub fn rule_line(line: &[u8], out: &mut [u8]) -> bool
     ensures { λ r. ⌜ r ≡ isRule (now (line .entry)) ⌝ }
     ensures { λ r. ⌜ now (out .exit) ≡ cond (isRule (now (line .entry))) (ruleIn (now (line .entry))) (now (out .entry)) ⌝ }
 {
-    let first = minute(line, 0);
+    let first = number(line, 0);
     let a = first.next;
-    let after = minute(line, a + 1);
+    let after = number(line, a + 1);
     let b = after.next;
     let ends = is_space(line, b) & ends_in_digits(line, b + 1);
-    let good = (0 < a) & (is_space(line, a) & ((a + 1 < b) & ends));
+    let minutes = (0 < a) & (is_space(line, a) & ((a + 1 < b) & ends));
+    let good = (line.len() < 256) & minutes;
     if !good {
         return false;
     }

@@ -7,13 +7,14 @@ use plan::marks::mark;
 use plan::rules::rule_at;
 use words::report::put;
 use words::report::put_decimal;
+use words::report::put_refused;
 ghost use mathlib.Core.Path.{_≡_};
 ghost use Prim.Native.Nat.{_+_, _≤_};
 ghost use lib.ListN.{length};
 ghost use Rattle.words.specs.Contracts.{Put};
 ghost use Rattle.plan.specs.Rules.{rulesOf};
 ghost use Rattle.plan.specs.Contracts.{Covered};
-ghost use Rattle.planjobs.specs.Week.{printYield, answerText, answerPrinted, closingFrame, closingText, stretchText, stretchPrinted};
+ghost use Rattle.planjobs.specs.Week.{printYield, answerText, answerPrinted, closingFrame, closingText, stretchText, stretchPrinted, refusedLine};
 
 // Nothing printed.
 fn refused(number: u8) -> Printed
@@ -110,4 +111,13 @@ pub fn stretch_line(rules: &[u8], minute: u16, out: &mut [u8; 1024]) -> Printed
         length: n,
         next: after,
     }
+}
+
+// What is said of a plan that is refused.
+pub fn refused_line(number: u8, out: &mut [u8; 1024]) -> usize
+    ensures { λ r. ⌜ Put 1024 (refusedLine number) (now (out .entry)) 0 r (now (out .exit)) ⌝ }
+{
+    let a = put(b"plan: ", out, 0);
+    let b = put_refused(number, 0, out, a);
+    put(b"\n", out, b)
 }

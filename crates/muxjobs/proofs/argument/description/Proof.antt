@@ -1,5 +1,4 @@
 use borrow.Author.Needs.{needs}
-use mathlib.Core.Path.{sym, ap, _∙_}
 use native.Mathlib.Omega.{arith}
 use Rattle.muxjobs.proofs.Told.{word-whole, word-none, word-test}
 use Rattle.muxjobs.proofs.argument.description.Statement.{statement}

@@ -1,5 +1,5 @@
 use borrow.Author.Needs.{needs}
-use mathlib.Core.Path.{sym, ap, _∙_}
+use mathlib.Core.Path.{sym, _∙_}
 use native.Mathlib.Omega.{arith}
 use Rattle.numerals.proofs.Scanning.{digit-range}
 use Rattle.muxjobs.specs.Argument.{withComma, spoilt}

@@ -1,6 +1,4 @@
 use borrow.Author.Needs.{needs}
-use mathlib.Core.Path.{sym, ap, _∙_}
-use native.Mathlib.Omega.{arith}
 use Rattle.muxjobs.specs.Argument.{placed, spoilt}
 use Rattle.muxjobs.proofs.Told.{digit-placed, digit-spoilt}
 use Rattle.muxjobs.proofs.argument.with_digit.Statement.{statement}

@@ -1,6 +1,4 @@
 use borrow.Author.Needs.{needs}
-use mathlib.Core.Path.{sym, ap, _∙_}
-use native.Mathlib.Omega.{arith}
 use Rattle.muxjobs.proofs.Told.{frame-mux, frame-demux}
 use Rattle.muxjobs.proofs.frames.frame.Statement.{statement}
 use Rattle.muxjobs.proofs.frames.frame.Tie as tie

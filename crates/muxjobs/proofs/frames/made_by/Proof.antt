@@ -1,5 +1,5 @@
 use borrow.Author.Needs.{needs}
-use mathlib.Core.Path.{sym, ap, _∙_}
+use mathlib.Core.Path.{_∙_}
 use native.Mathlib.Omega.{arith}
 use Rattle.muxjobs.proofs.Told.{made-refused, made-through}
 use Rattle.muxjobs.proofs.frames.made_by.Statement.{statement}

@@ -1,6 +1,3 @@
-use borrow.Author.Needs.{needs}
-use mathlib.Core.Path.{sym, ap, _∙_}
-use native.Mathlib.Omega.{arith}
 use Rattle.muxjobs.specs.Frames.{stopped}
 use mathlib.Core.Path.{refl}
 use Rattle.muxjobs.proofs.frames.stopped.Statement.{statement}

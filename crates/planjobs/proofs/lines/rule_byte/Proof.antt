@@ -1,9 +1,10 @@
 use Prim.Native.Nat.{_-_}
 use native.Mathlib.Omega.{arith}
 use borrow.Author.Needs.{needs}
-use borrow.Author.Tests.{lt-ltb, le-ltb}
+use borrow.Author.Tests.{le-ltb}
 use Rattle.line.proofs.Digits.{hex-byte}
 use Rattle.planjobs.specs.Lines.{ruleByte}
+use Rattle.planjobs.proofs.Scanned.{minutes-byte}
 use Rattle.planjobs.proofs.lines.rule_byte.Statement.{statement}
 use Rattle.planjobs.proofs.lines.rule_byte.Tie as tie
 
@@ -17,8 +18,9 @@ unfolding ruleByte
 returns c = rw (le-ltb (c .before .before .before .args .k) 4 (c .before .if1 .taken)) (c .byte-at .ensures)
 
 returns-2 : tie.Need-returns-2
-unfolding ruleByte
-returns-2 c = rw (lt-ltb (c .before .before .args .k) 4 (c .if1 .left))
+returns-2 c =
+    let a = c .before .before .before .before in
+    minutes-byte _ _ _ _ (a .args .k) _ (c .before .minute .ensures) (c .minute2 .ensures) (c .before .before .if1 .left)
 
 pub rule-byte-spec : {M : Type 1} → statement M
-rule-byte-spec = tie.close (tie.spec byte-at-requires returns (λ c. search needs) (λ c. search needs) (λ c. search needs) (λ c. search needs) (λ c. search needs) returns-2)
+rule-byte-spec = tie.close (tie.spec byte-at-requires returns (λ c κs. search needs) (λ c κs. search needs) (λ c. search needs) (λ c. search needs) (λ c. search needs) (λ c. search needs) (λ c. search needs) returns-2)
