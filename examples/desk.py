@@ -479,6 +479,33 @@ def plans(program):
         both(program, ["plan", missing], b"", "no file", b"", f"{missing}: No such file or directory\n", False)
 
 
+# words that are no number of bytes: a decimal number below 2^32
+NO_COUNTS = ["", "-1", "+1", "1.0", "1e3", "0x10", " 1", "1 ", "1,000", "A", "1\n", "4294967296", "42949672950", "18446744073709551617", "0" * 32, "1" * 4096]
+
+
+# settings without part A, bits of L2, bytes of memory
+FITS = [("00030000010000000000", 10628, 5 * 2959), ("00030301010000000101", 7381, 2959)]
+
+
+def fits(program):
+    """How long a number of bytes takes: each number computed anew, with the time on air; counts that are none, and settings that 27 refuses."""
+    for settings, bits, memory in FITS:
+        whole = bits // 8
+        for count in (0, 1, whole - 1, whole, whole + 1, 3 * whole, 3 * whole + 1, 1000000, 2 ** 32 - 1):
+            used = (count + whole - 1) // whole
+            frames = (used + 2) // 3 + 2
+            zeros = bits - 8 * (count - (used - 1) * whole) if count else 0
+            minutes, tenths = divmod(12 * frames, 600)
+            out = f"{frames} super frames with the closing\n{memory} bytes of memory\n{zeros} zero bits after the last byte\n"
+            out += f"{minutes // 60} hours {minutes % 60} minutes {tenths // 10}.{tenths % 10} seconds on air\n"
+            for word in (str(count), "0" * 8 + str(count)):
+                both(program, ["fit", settings, word], b"", f"fit {settings} {word}", out.encode(), "", True)
+        with open("/dev/full", "wb") as full:
+            both(program, ["fit", settings, "1"], b"", "fit: output to a full device", b"", "line 1: not written: the output failed\n", False, stdout=full)
+    for settings in (EXAMPLES[0][0], "00030100010100000000"):
+        both(program, ["fit", settings, "1"], b"", "fit with part A or VSPP", b"", "settings: refused: 27, part A or VSPP in use\n", False)
+
+
 JOBS = ("code", "read", "read-on", "grid", "ungrid", "fac-build", "fac-read", "nearest", "mux", "demux", "to-new", "to-old", "preview", "plan", "fit")
 
 
@@ -518,6 +545,9 @@ def arguments(program):
         ("the other", ["demux", settings]),
         ("multiplex frames with an argument too many", ["mux", settings, "285,0", "285,0"]),
         ("a description for a job that has none", ["read", settings, "285,0"]),
+        ("a fit without its bytes", ["fit", FITS[0][0]]),
+        ("a fit and more", ["fit", FITS[0][0], "1", "2"]),
+        *[(f"the number of bytes {text[:20]!r}", ["fit", FITS[0][0], text]) for text in NO_COUNTS],
         ("a plan without its file", ["plan"]),
         ("a super frame that is no number", ["plan", "FILE", "1x"]),
         ("an empty super frame", ["plan", "FILE", ""]),
@@ -536,8 +566,8 @@ def arguments(program):
         (6, "SDC mode or interleaving not 0 or 1", "00030000010000000200"),
         (7, "too many bytes in part A", "000300000100FFFF0000"),
     ]:
-        for job in ("code", "read", "grid", "ungrid", "fac-build", "fac-read", "mux", "demux"):
-            description = ["285,0"] if "mux" in job else []
+        for job in ("code", "read", "grid", "ungrid", "fac-build", "fac-read", "mux", "demux", "fit"):
+            description = ["285,0"] if "mux" in job else ["1"] if job == "fit" else []
             both(program, [job, bad] + description, b"", "settings refused", b"", f"settings: refused: {number}, {words}\n", False)
 
 
@@ -551,6 +581,7 @@ def main():
     fac_fields(program)
     multiplex(program)
     plans(program)
+    fits(program)
     arguments(program)
     print("all as it must be")
 

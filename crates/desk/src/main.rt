@@ -1,4 +1,5 @@
 // The desk's program: it reads, calls the jobs and writes. What is decided and what is said stands in `turns`, `console`, `words` and the crates of the jobs.
+mod fitting;
 mod lines;
 mod multiplex_frames;
 mod output;
@@ -36,7 +37,7 @@ fn main() {
         Start::Multiplex(job, s) => multiplex_frames::begin(job, s),
         Start::Turn(_, _) => say_usage(),
         Start::Preview(_) => say_usage(),
-        Start::Fit(_) => say_usage(),
+        Start::Fit(s) => fitting::begin(s),
         Start::Plan => plans::begin(),
     }
 }
