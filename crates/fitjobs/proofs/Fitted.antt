@@ -3,17 +3,16 @@ use Prim.Native.Nat.{ℕ, _+_, _-_, _*_, _≤_, _<_}
 use mathlib.Core.Path.{_≡_, refl, ap, _∙_}
 use mathlib.Core.Bool.{Bool, true, false, _&&_}
 use mathlib.Core.List.{List}
-use native.Mathlib.Nat.{zero-add}
 use native.Mathlib.Numerals.{add-one}
-use borrow.Author.Tests.{lt-ltb, le-ltb, eq-eqb, ne-eqb}
+use borrow.Author.Tests.{lt-ltb, le-ltb}
 use lib.ListN.{length, getD, drop, replicate, drop-of-length-le}
 use lib.Seq.{drop-cons}
 use lib.Dec.{ltb}
 use Rattle.settings.specs.declared.Settings.{Settings}
 use Rattle.numerals.specs.Numbers.{isDigit}
 use Rattle.words.specs.Contracts.{Put}
-use Rattle.turns.specs.declared.Made.{Made}
-use Rattle.turns.specs.Yield.{MadeYield, madeYield, madeThrough, madeRefused, madeBad, through, refused, bad, answered}
+use Rattle.words.proofs.Answers.{answered-refused, answered-through}
+use Rattle.turns.specs.Yield.{madeYield, madeThrough, madeRefused, madeBad, bad}
 use Rattle.howlong.specs.HowLong.{howLongYield, howLongOf}
 use Rattle.fitjobs.specs.declared.Count.{Count}
 use Rattle.fitjobs.specs.Argument.{withDigit, withByte, countFrom, countIn, isCount}
@@ -54,23 +53,9 @@ pub word-test : (word : List ℕ) (c : Count) (t : Bool) → c ≡ countIn word 
 unfolding isCount
 word-test word c t e f = rw e at f
 
--- What a function that answers so promises.
-pub answers : {r t : Made} {out : List ℕ} {y : MadeYield} → r ≡ t → t .length ≤ 1024 → madeYield t out ≡ y → (madeYield r out ≡ y) × (r .length ≤ 1024)
-answers e h f = rw e (f, h)
-
 pub fit-bad : (s : Settings) (word out : List ℕ) → isCount word ≡ false → madeYield madeBad out ≡ fitOf s word out
 unfolding fitOf bad
 fit-bad s word out e = rw e
-
--- By the answer of the call.
-said-refused : (answer : ℕ) (numbers out : List ℕ) → (answer ≡ 0 → ⊥) → madeYield (madeRefused answer) out ≡ fitSaid (howLongYield answer numbers) out
-unfolding fitSaid answered refused
-said-refused answer numbers out h = rw (ne-eqb answer 0 h)
-
-said-through : (answer : ℕ) (numbers out : List ℕ) → answer ≡ 0 → (r : ℕ) (out′ : List ℕ) → Put 400 (fitText numbers) out 0 r out′
-    → madeYield (madeThrough r) out′ ≡ fitSaid (howLongYield answer numbers) out
-unfolding fitSaid answered through
-said-through answer numbers out h r out′ p = rw (eq-eqb answer 0 h, p .end, p .written, zero-add (length (fitText numbers)))
 
 module _ (s : Settings) (word out numbers : List ℕ) (answer : ℕ) (c : Count) (t : isCount word ≡ true) (e : c ≡ countIn word)
     (y : howLongYield answer numbers ≡ howLongOf s (c .value) (replicate 3 0)) where
@@ -79,7 +64,9 @@ module _ (s : Settings) (word out numbers : List ℕ) (answer : ℕ) (c : Count)
   said = ap (λ z. fitSaid z out) (y ∙ ap (λ k. howLongOf s (k .value) (replicate 3 0)) e) ∙ rw t
 
   pub fit-refused : (answer ≡ 0 → ⊥) → madeYield (madeRefused answer) out ≡ fitOf s word out
-  fit-refused h = said-refused answer numbers out h ∙ said
+  unfolding fitSaid
+  fit-refused h = answered-refused answer (fitText numbers) out h ∙ said
 
   pub fit-through : answer ≡ 0 → (r : ℕ) (out′ : List ℕ) → Put 400 (fitText numbers) out 0 r out′ → madeYield (madeThrough r) out′ ≡ fitOf s word out
-  fit-through h r out′ p = said-through answer numbers out h r out′ p ∙ said
+  unfolding fitSaid
+  fit-through h r out′ p = answered-through answer (fitText numbers) out h r out′ p ∙ said

@@ -5,33 +5,22 @@ use mathlib.Core.Bool.{true, false, _&&_}
 use mathlib.Core.List.{List, _++_, map}
 use lib.ListN.{length, replicate}
 use lib.Dec.{ltb, eqb}
-use borrow.Author.Tests.{eq-eqb, ne-eqb}
 use Rattle.settings.specs.declared.Settings.{Settings}
 use Rattle.line.specs.Written.{lineEnd}
 use Rattle.words.specs.Contracts.{Put}
+use Rattle.words.proofs.Answers.{answered-refused, answered-through}
 use Rattle.console.specs.declared.LineJob.{LineJob}
 use Rattle.facfields.specs.Build.{buildYield, buildOf}
 use Rattle.facfields.specs.Read.{readYield, readOf}
 use Rattle.numerals.specs.declared.Scan.{Scan}
-use Rattle.turns.specs.Yield.{MadeYield, madeYield, madeThrough, madeRefused, madeBad, bad, refused, answered}
+use Rattle.turns.specs.Yield.{MadeYield, madeYield, madeThrough, madeRefused, madeBad, bad}
 use Rattle.numerals.specs.Digits.{hexDigits, areHex, bytesIn}
 use Rattle.numerals.specs.Numbers.{goesOn, areNumbers, numbersIn, numbersLine}
 use Rattle.linejobs.specs.Lines.{lineOf}
 use Rattle.linejobs.specs.Fields.{buildSaid, buildLine, readSaid, readLine}
 use Rattle.numerals.specs.Contracts.{held, Scanned}
-use Rattle.linejobs.proofs.Found.{through-put}
 use Rattle.linejobs.proofs.Held.{build-held}
 use Rattle.lists.proofs.Bools.{and-right}
-
--- A text by the answer of a call.
-answered-refused : (answer : ℕ) (text out : List ℕ) → (answer ≡ 0 → ⊥) → madeYield (madeRefused answer) out ≡ answered answer text out
-unfolding answered refused
-answered-refused answer text out h = rw (ne-eqb answer 0 h)
-
-answered-through : {n : ℕ} (answer : ℕ) (text out : List ℕ) → answer ≡ 0 → (r : ℕ) (out′ : List ℕ) → Put n text out 0 r out′
-    → madeYield (madeThrough r) out′ ≡ answered answer text out
-unfolding answered
-answered-through answer text out e r out′ p = through-put text out r out′ p ∙ rw (eq-eqb answer 0 e)
 
 -- `fac-build`.
 pub numbers-test : (line : List ℕ) (c : Scan) → Scanned line c → (ltb (length line) 256 && (c .good && (c .digit && eqb (c .at) 13))) ≡ areNumbers line

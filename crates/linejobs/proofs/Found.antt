@@ -1,5 +1,5 @@
 -- What `nearest` says of a line, from what the call yields.
-use Prim.Native.Nat.{ℕ, _≤_}
+use Prim.Native.Nat.{ℕ}
 use mathlib.Core.Path.{_≡_, sym, ap, _∙_}
 use mathlib.Core.Bool.{Bool, true, false}
 use mathlib.Core.List.{List}
@@ -10,11 +10,11 @@ use lib.Seq.{sets}
 use lib.Dec.{eqb}
 use borrow.Author.Tests.{eq-eqb, ne-eqb}
 use Rattle.words.specs.Contracts.{Put}
+use Rattle.words.proofs.Answers.{through-put}
 use Rattle.nearest.specs.Fac.{nearestYield}
-use Rattle.turns.specs.declared.Made.{Made}
 use Rattle.numerals.specs.Digits.{hexDigits}
 use Rattle.numerals.proofs.Hex.{digits-long}
-use Rattle.turns.specs.Yield.{MadeYield, madeYield, madeThrough, madeBad, through, bad}
+use Rattle.turns.specs.Yield.{madeYield, madeThrough, madeBad, through, bad}
 use Rattle.linejobs.specs.Nearest.{blockLine, nearestSaid, nearestLine}
 use Rattle.linejobs.specs.Contracts.{Found}
 
@@ -23,10 +23,6 @@ pub hex-put : (block out out′ : List ℕ) → length block ≡ 9 → out′ �
 hex-put block out out′ h e =
     let n : length (hexDigits block) ≡ 18 = omega (arith, digits-long block) in
     record { written = e; end = sym n ∙ sym (zero-add (length (hexDigits block))); within = omega arith }
-
--- What a function that answers with a step promises.
-pub answers : {r t : Made} {out : List ℕ} {y : MadeYield} → r ≡ t → t .length ≤ 1024 → madeYield t out ≡ y → (madeYield r out ≡ y) × (r .length ≤ 1024)
-answers e h f = rw e (f, h)
 
 pub line-short : (line out : List ℕ) → (length line ≡ 130 → ⊥) → madeYield madeBad out ≡ nearestLine line out
 unfolding nearestLine bad
@@ -41,10 +37,6 @@ said-found : (answer : ℕ) (block count out : List ℕ) → eqb answer 0 ≡ tr
     → through (blockLine block (getD count 0 0)) out ≡ nearestSaid (nearestYield answer block count) out
 unfolding nearestSaid
 said-found answer block count out h = rw h
-
-pub through-put : {n : ℕ} (text out : List ℕ) (r : ℕ) (out′ : List ℕ) → Put n text out 0 r out′ → madeYield (madeThrough r) out′ ≡ through text out
-unfolding through
-through-put text out r out′ p = rw (p .end, p .written, zero-add (length text))
 
 module _ (line out block count : List ℕ) (found : Bool) (h : length line ≡ 130) (f : Found line (replicate 9 0) (replicate 1 0) found block count) where
   whole : nearestSaid (nearestYield (f .answer) block count) out ≡ nearestLine line out

@@ -1,7 +1,8 @@
 use borrow.Author.Needs.{needs}
 use native.Mathlib.Omega.{arith}
 use borrow.Author.Tests.{not-true, not-false}
-use Rattle.fitjobs.proofs.Fitted.{word-test, answers, fit-bad, fit-refused, fit-through}
+use Rattle.words.proofs.Answers.{answers}
+use Rattle.fitjobs.proofs.Fitted.{word-test, fit-bad, fit-refused, fit-through}
 use Rattle.fitjobs.proofs.text.fit.Statement.{statement}
 use Rattle.fitjobs.proofs.text.fit.Tie as tie
 

@@ -1,7 +1,8 @@
 use borrow.Author.Needs.{needs}
 use native.Mathlib.Omega.{arith}
 use borrow.Author.Tests.{not-true, not-false}
-use Rattle.linejobs.proofs.Found.{answers, line-short, line-bad, line-found}
+use Rattle.words.proofs.Answers.{answers}
+use Rattle.linejobs.proofs.Found.{line-short, line-bad, line-found}
 use Rattle.linejobs.proofs.received.nearest_line.Statement.{statement}
 use Rattle.linejobs.proofs.received.nearest_line.Tie as tie
 
