@@ -8,7 +8,7 @@ use libc::STDOUT_FILENO;
 use muxjobs::Begun;
 use muxjobs::MOST_BYTES;
 use muxjobs::argument;
-use muxjobs::frames;
+use muxjobs::steps;
 use settings::Settings;
 use turns::Next;
 use turns::turn;
@@ -17,7 +17,7 @@ ghost use Prim.Native.Nat.{_≤_};
 
 // A multiplex frame whose input has come.
 fn pass_frame(job: MuxJob, s: Settings, description: &[u16], bytes: &[u8], out: &mut [u8]) -> Next {
-    let made = frames::frame(job, s, description, bytes, out);
+    let made = steps::frame(job, s, description, bytes, out);
     let n = made.length;
     let written = io::write_all(STDOUT_FILENO, &out[0..n]);
     let outcome = made.outcome;
@@ -56,7 +56,7 @@ fn run_frames(job: MuxJob, s: Settings, description: &[u16], bytes: &mut [u8], o
 
 // A run with a description, on the part of the largest buffers that it needs.
 fn begin_with(job: MuxJob, s: Settings, description: &[u16]) {
-    let plan = frames::plan(job, s, description);
+    let plan = steps::plan(job, s, description);
     let mut bytes = [0u8; MOST_BYTES];
     let mut out = [0u8; MOST_BYTES];
     let n = plan.input;

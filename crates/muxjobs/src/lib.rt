@@ -1,6 +1,6 @@
 // The desk's jobs on multiplex frames: what each makes of a frame. 02, S-8.
 pub mod argument;
-pub mod frames;
+pub mod steps;
 
 // No multiplex frame of any settings has more bytes, nor have its streams.
 pub const MOST_BYTES: usize = 4589;

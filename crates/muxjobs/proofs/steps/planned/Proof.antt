@@ -1,8 +1,8 @@
 use borrow.Author.Needs.{needs}
 use mathlib.Core.Path.{_∙_}
 use Rattle.muxjobs.proofs.Told.{frame-room, streams-room, plan-mux, plan-demux}
-use Rattle.muxjobs.proofs.frames.planned.Statement.{statement}
-use Rattle.muxjobs.proofs.frames.planned.Tie as tie
+use Rattle.muxjobs.proofs.steps.planned.Statement.{statement}
+use Rattle.muxjobs.proofs.steps.planned.Tie as tie
 
 taking-requires : tie.Need-taking-requires
 taking-requires c κs =

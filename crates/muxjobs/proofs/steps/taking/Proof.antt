@@ -1,8 +1,8 @@
 use borrow.Author.Needs.{needs}
 use mathlib.Core.Path.{_∙_}
 use Rattle.muxjobs.proofs.Told.{taking-none, taking-some, stopped-room}
-use Rattle.muxjobs.proofs.frames.taking.Statement.{statement}
-use Rattle.muxjobs.proofs.frames.taking.Tie as tie
+use Rattle.muxjobs.proofs.steps.taking.Statement.{statement}
+use Rattle.muxjobs.proofs.steps.taking.Tie as tie
 
 returns : tie.Need-returns
 returns c = let e = c .stopped .ensures in (e ∙ taking-none _ _ (c .before .if1 .taken), stopped-room _ _ e)

@@ -5,8 +5,8 @@ use Rattle.multiplex.specs.Description.{fits}
 use Rattle.multiplex.proofs.Layouts.{fitting}
 use Rattle.muxjobs.specs.Frames.{planned}
 use Rattle.muxjobs.proofs.Told.{plan-usage, plan-refused, plan-unfit, plan-fit, stopped-room}
-use Rattle.muxjobs.proofs.frames.plan.Statement.{statement}
-use Rattle.muxjobs.proofs.frames.plan.Tie as tie
+use Rattle.muxjobs.proofs.steps.plan.Statement.{statement}
+use Rattle.muxjobs.proofs.steps.plan.Tie as tie
 
 returns : tie.Need-returns
 returns c =

@@ -2,8 +2,8 @@ use borrow.Author.Needs.{needs}
 use mathlib.Core.Path.{_∙_}
 use native.Mathlib.Omega.{arith}
 use Rattle.muxjobs.proofs.Told.{made-refused, made-through}
-use Rattle.muxjobs.proofs.frames.made_by.Statement.{statement}
-use Rattle.muxjobs.proofs.frames.made_by.Tie as tie
+use Rattle.muxjobs.proofs.steps.made_by.Statement.{statement}
+use Rattle.muxjobs.proofs.steps.made_by.Tie as tie
 
 returns : tie.Need-returns
 returns c = let e = c .refused .ensures in (e ∙ made-refused _ _ (c .before .if1 .taken), rw e (omega arith))

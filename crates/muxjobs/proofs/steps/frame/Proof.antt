@@ -1,7 +1,7 @@
 use borrow.Author.Needs.{needs}
 use Rattle.muxjobs.proofs.Told.{frame-mux, frame-demux}
-use Rattle.muxjobs.proofs.frames.frame.Statement.{statement}
-use Rattle.muxjobs.proofs.frames.frame.Tie as tie
+use Rattle.muxjobs.proofs.steps.frame.Statement.{statement}
+use Rattle.muxjobs.proofs.steps.frame.Tie as tie
 
 returns : tie.Need-returns
 returns c =
