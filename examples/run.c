@@ -123,6 +123,12 @@ static unsigned read_back(size_t state_bytes) {
                     sizes[SDC_BYTES], given.msc, sizes[MSC_BYTES]);
 }
 
+static unsigned read_on(uint8_t *lost, size_t lost_bytes) {
+    return drm_read_on(reader.state, DRM_STATE_BYTES, reader.memory, sizes[MEMORY], cells.fac, sizes[FAC_NUMBERS],
+                       cells.sdc, sizes[SDC_NUMBERS], cells.msc, sizes[MSC_NUMBERS], given.fac, DRM_FAC_BYTES, given.sdc,
+                       sizes[SDC_BYTES], given.msc, sizes[MSC_BYTES], lost, lost_bytes);
+}
+
 static unsigned show(size_t fac_bytes) {
     return drm_preview(coder.state, DRM_STATE_BYTES, coder.memory, sizes[MEMORY], brought.fac, fac_bytes, brought.sdc,
                        sizes[SDC_BYTES], brought.msc, sizes[MSC_BYTES], shown.fac, sizes[FAC_NUMBERS], shown.sdc,
@@ -326,6 +332,52 @@ static void restore_with(const uint8_t *settings, const uint8_t *table) {
              memcmp(state, coder.state, DRM_STATE_BYTES) == 0, "with it the same");
 }
 
+/* Whether the frames of a super frame are as brought, or zero where a mark says so, out frames being handed out before. */
+static void compare_frames(const uint8_t *lost, size_t out, size_t finished) {
+    size_t bytes = sizes[MSC_BYTES] / 3, i, k;
+    for (i = 0; i < finished; i++)
+        for (k = 0; k < bytes; k++)
+            must(given.msc[bytes * i + k] == (lost[i] ? 0 : frames[bytes * (out + i) + k]), "a frame is as brought, or lost and zero");
+    for (i = finished; i < 3; i++)
+        must(lost[i] == 0, "a frame that is not finished is not lost");
+}
+
+/* A run of which one super frame comes in without a cell: reading on loses what that costs, and nothing else. */
+static void spoiled(const uint8_t *settings) {
+    enum { SPOILED = 1 };
+    size_t before = settings[9] == 0 ? 4 : 0, m, i, out = 0;
+    uint8_t lost[DRM_LOST_BYTES];
+    begin(settings);
+    printf("  lost of three FAC blocks, SDC block, finished frames:");
+    for (m = 0; m < SUPER_FRAMES; m++) {
+        unsigned finished;
+        bring(settings, m);
+        must(code(DRM_FAC_BYTES) == DRM_ACCEPTED, "the super frame is coded");
+        if (m == SPOILED) {
+            memset(&cells, 0, sizeof cells);
+            must(read_back(DRM_STATE_BYTES) == 256 * DRM_REFUSED_POINT, "Read stops there with 13, block 0");
+        }
+        memset(lost, 0xA5, sizeof lost);
+        must(read_on(lost, sizeof lost - 1) == 256 * DRM_REFUSED_OUTPUT_LENGTH, "six bytes for what is lost are refused by 10");
+        finished = read_on(lost, sizeof lost);
+        must(finished <= 3, "reading on accepts any cells");
+        for (i = 0; i < 4; i++)
+            must(lost[i] == (m == SPOILED), "FAC and SDC blocks of the spoiled super frame are lost, and no others");
+        for (i = 0; i < finished; i++)
+            must(lost[4 + i] == (out + i + before >= 3 * SPOILED && out + i <= 3 * SPOILED + 2),
+                 "frames are lost that had cells in it, and no others");
+        compare_frames(lost + 4, out, finished);
+        if (m != SPOILED)
+            must(memcmp(given.fac, brought.fac, DRM_FAC_BYTES) == 0 &&
+                     memcmp(given.sdc, brought.sdc, sizes[SDC_BYTES]) == 0, "other blocks are read as brought");
+        printf(" ");
+        for (i = 0; i < sizeof lost; i++)
+            printf("%d", lost[i]);
+        out += finished;
+    }
+    printf("\n");
+}
+
 /* A super frame with a puncturing table of one's own: rate 3/5 keeps b1 of its second column, not of its third. */
 static void own_table(const uint8_t *settings) {
     enum { TABLE = 12, RATE_3_5 = 56 };
@@ -486,6 +538,8 @@ int main(void) {
     nearest();
     measured(runs[sizeof runs / sizeof runs[0] - 1]);
     own_table(runs[1]);
+    spoiled(runs[0]);
+    spoiled(runs[1]);
     streams(runs[0]);
     streams(runs[2]);
     how_long(runs[0]);
