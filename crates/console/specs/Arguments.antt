@@ -11,7 +11,7 @@ use Rattle.line.specs.declared.Parsed.the-variants.{Line, Bad}
 use Rattle.line.specs.Read.{parseOf}
 use Rattle.line.specs.Written.{lineEnd}
 use Rattle.console.specs.declared.Job.{Job}
-use Rattle.console.specs.declared.Job.the-variants.{Code, Read, Grid, Ungrid}
+use Rattle.console.specs.declared.Job.the-variants.{Code, Read, ReadOn, Grid, Ungrid}
 use Rattle.console.specs.declared.LineJob.the-variants.{Nearest, FacBuild, FacRead}
 use Rattle.console.specs.declared.SettingsJob.{SettingsJob}
 use Rattle.console.specs.declared.Named.{Named}
@@ -55,6 +55,7 @@ fewestOf SettingsJob.Fit = 4
 unfoldable pub mostOfFrames : Job → ℕ
 mostOfFrames Code = 5
 mostOfFrames Read = 3
+mostOfFrames ReadOn = 3
 mostOfFrames Grid = 3
 mostOfFrames Ungrid = 3
 

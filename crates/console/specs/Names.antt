@@ -3,7 +3,7 @@ use Prim.Native.Nat.{ℕ}
 use mathlib.Core.Bool.{Bool, true, false, cond, _&&_}
 use mathlib.Core.List.{List, [], _∷_}
 use lib.Dec.{eqb}
-use Rattle.console.specs.declared.Job.the-variants.{Code, Read, Grid, Ungrid}
+use Rattle.console.specs.declared.Job.the-variants.{Code, Read, ReadOn, Grid, Ungrid}
 use Rattle.console.specs.declared.MuxJob.the-variants.{Mux, Demux}
 use Rattle.console.specs.declared.TurnJob.the-variants.{ToNew, ToOld}
 use Rattle.console.specs.declared.SettingsJob.the-variants.{Frames, FacBuild, FacRead, Multiplex, Turn, Preview, Fit}
@@ -23,8 +23,9 @@ unfoldable pub framesNamed : List ℕ → Named → Named
 framesNamed word other =
     cond (sameBytes word (bytesIn "code")) (Has (Frames Code))
     (cond (sameBytes word (bytesIn "read")) (Has (Frames Read))
+    (cond (sameBytes word (bytesIn "read-on")) (Has (Frames ReadOn))
     (cond (sameBytes word (bytesIn "grid")) (Has (Frames Grid))
-    (cond (sameBytes word (bytesIn "ungrid")) (Has (Frames Ungrid)) other)))
+    (cond (sameBytes word (bytesIn "ungrid")) (Has (Frames Ungrid)) other))))
 
 -- The jobs on lines.
 unfoldable pub linesNamed : List ℕ → Named → Named

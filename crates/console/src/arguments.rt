@@ -72,6 +72,7 @@ fn most_of_frames(job: Job) -> usize
     match job {
         Job::Code => 5,
         Job::Read => 3,
+        Job::ReadOn => 3,
         Job::Grid => 3,
         Job::Ungrid => 3,
     }

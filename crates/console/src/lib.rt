@@ -9,6 +9,7 @@ use settings::Settings;
 pub enum Job {
     Code,
     Read,
+    ReadOn,
     Grid,
     Ungrid,
 }

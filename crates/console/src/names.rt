@@ -40,10 +40,15 @@ fn frames_named(word: &[u8], other: Named) -> Named
         SettingsJob::Frames(Job::Grid),
         ungrid,
     );
+    let on = has(
+        same_bytes(word, b"read-on"),
+        SettingsJob::Frames(Job::ReadOn),
+        grid,
+    );
     let read = has(
         same_bytes(word, b"read"),
         SettingsJob::Frames(Job::Read),
-        grid,
+        on,
     );
     has(
         same_bytes(word, b"code"),

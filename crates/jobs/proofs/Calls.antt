@@ -2,7 +2,7 @@
 use Prim.Native.Nat.{ℕ, zero, suc, _+_, _-_, _*_, _/_, _≤_}
 use mathlib.Core.Path.{_≡_, refl, sym, ap, ap₂, _∙_}
 use mathlib.Core.List.{List, _∷_}
-use native.Mathlib.Nat.{sub-zero}
+use native.Mathlib.Nat.{sub-zero, zero-add}
 use native.Mathlib.Omega.{arith}
 use lib.ListN.{length, take, drop, replicate, length-drop, length-replicate}
 use lib.Seq.{sets, take-length, length-sets}
@@ -16,6 +16,7 @@ use Rattle.channels.specs.Scheme.{schemeRefusal}
 use Rattle.superframe.specs.declared.State.{State}
 use Rattle.superframe.specs.Code.{CodeCall, codeOf}
 use Rattle.superframe.specs.Read.{ReadCall, readOf}
+use Rattle.superframe.specs.ReadOn.{readOnOf}
 use Rattle.grid.specs.Calls.{gridSizes, placeOf, takeOf}
 use Rattle.placing.specs.Contracts.{cellsFrom}
 use Rattle.codecall.specs.Contracts.{codeCall}
@@ -27,10 +28,10 @@ use Rattle.cellmemory.specs.Contracts.{lengthRefusal}
 use Rattle.cellmemory.proofs.Chains.{scheme-settings}
 use Rattle.cellmemory.proofs.Laid.{take-sets}
 use Rattle.console.specs.declared.Job.{Job}
-use Rattle.console.specs.declared.Job.the-variants.{Code, Read, Grid, Ungrid}
+use Rattle.console.specs.declared.Job.the-variants.{Code, Read, ReadOn, Grid, Ungrid}
 use Rattle.deskcells.specs.Cells.{bytesCells}
 use Rattle.jobs.specs.Contracts.{Enough, CodeRoom, ReadRoom, GridRoom, Lent, Numbers}
-use Rattle.jobs.specs.SuperFrame.{JobYield, refused, gridLength, inputLength, outputLength, blocksLength, cellsLength, jobRefusal, jobOf, codeLent, codeWritten, readLent, readAnswered, cellsIn, blankCells, gridWritten, cellsWritten, jobCall}
+use Rattle.jobs.specs.SuperFrame.{JobYield, refused, gridLength, inputLength, outputLength, blocksLength, cellsLength, jobRefusal, jobOf, codeLent, codeWritten, readLent, readAnswered, readOnLent, readOnAnswered, cellsIn, blankCells, gridWritten, cellsWritten, jobCall}
 use Rattle.deskcells.proofs.Turns.{bytes-cells-long}
 use Rattle.jobs.proofs.Rooms.{enough}
 use Rattle.jobs.proofs.Lengths.{grid-most, length-most, input-most}
@@ -93,6 +94,11 @@ pub read-called : (state : State) (z : Sizes) (memory : List ℕ) (cells : List 
 unfolding jobCall
 read-called state z memory cells bytes out c y e f g h = h ∙ rw (g, f, e)
 
+pub read-on-called : (state : State) (z : Sizes) (memory : List ℕ) (cells : List ℤ) (bytes out : List ℕ) (c : ReadCall) (y : JobYield) → z ≡ sizesOf (state .scheme .settings) → cells ≡ bytesCells bytes
+    → c ≡ readLent z cells → y ≡ readOnAnswered (readOnOf state memory (record { call = c; lost = replicate 7 0 })) out → y ≡ jobCall ReadOn state memory bytes out
+unfolding jobCall readOnLent
+read-on-called state z memory cells bytes out c y e f g h = h ∙ rw (g, f, e)
+
 pub place-called : (state : State) (z : Sizes) (memory : List ℕ) (cells grid : List ℤ) (bytes out : List ℕ) (n : ℕ) (y : JobYield) → z ≡ sizesOf (state .scheme .settings) → cells ≡ bytesCells bytes
     → grid ≡ replicate 62235 (pos 0) → n ≡ gridSizes (state .scheme .settings) .numbers
     → y ≡ gridWritten (placeOf (state .scheme .settings) (cellsFrom (take 390 cells) (take (390 + z .sdcnumbers - 390) (drop 390 cells)) (drop (390 + z .sdcnumbers) cells)) (take (n - 0) grid)) state memory out
@@ -130,19 +136,34 @@ code-room state z bytes out fac sdc msc p ef es em =
           );
     }
 
-pub read-room : (state : State) (z : Sizes) (bytes : List ℕ) (cells : List ℤ) (out fac sdc msc : List ℕ) → Lent Read state z bytes out → cells ≡ bytesCells bytes
+-- The jobs that read, with so many bytes that tell what is lost.
+pub record Reads (job : Job) (lost : ℕ) : Type 0 where
+  pub input : (z : Sizes) (g : ℕ) → inputLength job z g ≡ cellsLength z
+  pub output : (z : Sizes) (g : ℕ) → outputLength job z g ≡ lost + (blocksLength z + 1)
+
+pub reads : Reads Read 0
+unfolding inputLength outputLength
+reads = record { input = λ z g. refl; output = λ z g. sym (zero-add (blocksLength z + 1)) }
+
+pub reads-on : Reads ReadOn 7
+unfolding inputLength outputLength
+reads-on = record { input = λ z g. refl; output = λ z g. refl }
+
+pub read-room : {job : Job} {lost : ℕ} → Reads job lost → (state : State) (z : Sizes) (bytes : List ℕ) (cells : List ℤ) (out fac sdc msc : List ℕ) → Lent job state z bytes out → cells ≡ bytesCells bytes
     → fac ≡ replicate 27 0 → sdc ≡ replicate 210 0 → msc ≡ replicate 13767 0
-    → ReadRoom (390 + z .sdcnumbers) cells fac (take (z .sdcbytes - 0) sdc) (take (z .mscbytes - 0) msc) out
-unfolding inputLength outputLength blocksLength cellsLength
-read-room state z bytes cells out fac sdc msc p e ef es em =
+    → ReadRoom lost (390 + z .sdcnumbers) cells fac (take (z .sdcbytes - 0) sdc) (take (z .mscbytes - 0) msc) out
+unfolding blocksLength cellsLength
+read-room {job} {lost} j state z bytes cells out fac sdc msc p e ef es em =
     let h = enough (state .scheme .settings) z (p .sizes) (p .accepted) in
+    let g = gridLength (state .scheme .settings) in
     record {
       first = omega arith;
-      last = omega (arith, p .input, h .facnumbers, ap length e, bytes-cells-long bytes);
+      last = omega (arith, p .input, j .input z g, h .facnumbers, ap length e, bytes-cells-long bytes);
       room =
           omega (
             arith,
             p .output,
+            j .output z g,
             ap length ef ∙ length-replicate {A = ℕ} 27 0,
             front-long 0 (z .sdcbytes) 210 sdc es (h .sdcbytes),
             front-long 0 (z .mscbytes) 13767 msc em (h .mscbytes),

@@ -11,7 +11,7 @@ use Rattle.settings.specs.Refusal.{refusal}
 use Rattle.settings.specs.Sizes.{noSizes, sizesOf}
 use Rattle.settings.proofs.Buffers.{sizes-refuses}
 use Rattle.console.specs.declared.Job.{Job}
-use Rattle.console.specs.declared.Job.the-variants.{Code, Read, Grid, Ungrid}
+use Rattle.console.specs.declared.Job.the-variants.{Code, Read, ReadOn, Grid, Ungrid}
 use Rattle.grid.specs.Calls.{gridNumbers, someGrid, gridSizes}
 use Rattle.kinds.proofs.Bands.{band}
 use Rattle.grid.proofs.Accepts.{pairing-of, grid-accepts, grid-refuses}
@@ -46,6 +46,7 @@ pub input-most : (job : Job) (z : Sizes) (g : ℕ) → Enough z → g ≤ 124470
 unfolding inputLength blocksLength cellsLength
 input-most Code z g e h = omega (arith, e .sdcbytes, e .mscbytes)
 input-most Read z g e h = omega (arith, e .facnumbers, e .sdcnumbers, e .mscnumbers)
+input-most ReadOn z g e h = omega (arith, e .facnumbers, e .sdcnumbers, e .mscnumbers)
 input-most Grid z g e h = omega (arith, e .facnumbers, e .sdcnumbers, e .mscnumbers)
 input-most Ungrid z g e h = h
 
@@ -53,6 +54,7 @@ none-most : (job : Job) (n g : ℕ) → g ≤ 124470 → inputLength job (noSize
 unfolding inputLength blocksLength cellsLength noSizes
 none-most Code n g h = omega arith
 none-most Read n g h = omega arith
+none-most ReadOn n g h = omega arith
 none-most Grid n g h = omega arith
 none-most Ungrid n g h = h
 

@@ -1,7 +1,7 @@
 -- What a job yields, from what its calls yield.
 use Prim.Native.Nat.{ℕ}
 use mathlib.Core.Path.{_≡_}
-use mathlib.Core.List.{List}
+use mathlib.Core.List.{List, _++_}
 use borrow.Author.Tests.{eq-eqb, ne-eqb}
 use Rattle.superframe.specs.declared.State.{State}
 use Rattle.superframe.specs.declared.Reading.{Reading}
@@ -27,13 +27,13 @@ pub answered-refused : (number : ℕ) (state : State) (memory : List ℕ) (bytes
 unfolding answered
 answered-refused number state memory bytes out h = rw (ne-eqb number 0 h)
 
-pub read-through : {n : ℕ} (reading : Reading) (fac sdc msc : List ℕ) (out : List ℕ) (k r : ℕ) (out′ : List ℕ) (memory : List ℕ) (a : Answer) → a ≡ Finished k
-    → Joined n (blockOutput fac sdc k msc) out r out′
-    → jobYield (record { outcome = Through; state = reading .state; length = r }) memory out′ ≡ readWritten a (readYield reading memory fac sdc msc) out
+pub read-through : {n : ℕ} (reading : Reading) (lost fac sdc msc : List ℕ) (out : List ℕ) (k r : ℕ) (out′ : List ℕ) (memory : List ℕ) (a : Answer) → a ≡ Finished k
+    → Joined n (lost ++ blockOutput fac sdc k msc) out r out′
+    → jobYield (record { outcome = Through; state = reading .state; length = r }) memory out′ ≡ readWritten a lost (readYield reading memory fac sdc msc) out
 unfolding readWritten
-read-through reading fac sdc msc out k r out′ memory a e j = rw e (joined-through (reading .state) memory j)
+read-through reading lost fac sdc msc out k r out′ memory a e j = rw e (joined-through (reading .state) memory j)
 
-pub read-refused : (reading : Reading) (fac sdc msc : List ℕ) (out : List ℕ) (number block : ℕ) (memory : List ℕ) (a : Answer) → a ≡ Answer·Refused number block
-    → jobYield (record { outcome = Refused number block; state = reading .state; length = 0 }) memory out ≡ readWritten a (readYield reading memory fac sdc msc) out
+pub read-refused : (reading : Reading) (lost fac sdc msc : List ℕ) (out : List ℕ) (number block : ℕ) (memory : List ℕ) (a : Answer) → a ≡ Answer·Refused number block
+    → jobYield (record { outcome = Refused number block; state = reading .state; length = 0 }) memory out ≡ readWritten a lost (readYield reading memory fac sdc msc) out
 unfolding readWritten refused
-read-refused reading fac sdc msc out number block memory a e = rw e
+read-refused reading lost fac sdc msc out number block memory a e = rw e

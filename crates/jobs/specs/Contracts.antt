@@ -19,11 +19,11 @@ pub record CodeRoom (at : ℕ) (bytes : List ℕ) (fac sdc msc : List ℤ) (out 
   pub last : at ≤ length bytes
   pub room : 2 * length fac + 2 * length sdc + 2 * length msc ≤ length out
 
--- Room for the blocks of a super frame.
-pub record ReadRoom (at : ℕ) (cells : List ℤ) (fac sdc msc out : List ℕ) : Type 0 where
+-- Room for the blocks of a super frame, and for bytes that tell what is lost.
+pub record ReadRoom (lost at : ℕ) (cells : List ℤ) (fac sdc msc out : List ℕ) : Type 0 where
   pub first : 390 ≤ at
   pub last : at ≤ length cells
-  pub room : length fac + length sdc + 1 + length msc ≤ length out
+  pub room : lost + length fac + length sdc + 1 + length msc ≤ length out
 
 -- The cells of a super frame, of which those of the MSC start at a place, and room for the bytes of a grid.
 pub record GridRoom (at : ℕ) (cells grid : List ℤ) (out : List ℕ) : Type 0 where

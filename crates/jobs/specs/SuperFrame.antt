@@ -1,7 +1,7 @@
--- What the jobs `code`, `read`, `grid` and `ungrid` make of a super frame, by the definitions of the calls.
+-- What the jobs `code`, `read`, `read-on`, `grid` and `ungrid` make of a super frame, by the definitions of the calls.
 use Prim.Native.Nat.{ℕ, _+_, _*_}
-use mathlib.Core.Bool.{cond}
-use mathlib.Core.List.{List}
+use mathlib.Core.Bool.{Bool, true, false, cond}
+use mathlib.Core.List.{List, [], _++_}
 use lib.ListN.{length, take, drop, replicate}
 use lib.Seq.{sets}
 use lib.IntN.{ℤ, pos}
@@ -14,12 +14,13 @@ use Rattle.superframe.specs.declared.Answer.{Answer}
 use Rattle.superframe.specs.declared.Answer.the-variants.{Finished, Refused as Answer·Refused}
 use Rattle.superframe.specs.Code.{CodeCall, CodeYield, codeOf}
 use Rattle.superframe.specs.Read.{ReadCall, ReadYield, readOf}
+use Rattle.superframe.specs.ReadOn.{ReadOnCall, ReadOnYield, lostBytes, readOnOf}
 use Rattle.cellmemory.specs.Contracts.{lengthRefusal}
 use Rattle.console.specs.declared.Job.{Job}
 use Rattle.settings.specs.declared.Settings.{Settings}
 use Rattle.placing.specs.Cells.{Cells}
 use Rattle.grid.specs.Calls.{gridSizes, PlaceYield, placeOf, TakeYield, takeOf}
-use Rattle.console.specs.declared.Job.the-variants.{Code, Read, Grid, Ungrid}
+use Rattle.console.specs.declared.Job.the-variants.{Code, Read, ReadOn, Grid, Ungrid}
 use Rattle.turns.specs.declared.Outcome.the-variants.{Through, Refused}
 use Rattle.jobs.specs.declared.Step.{Step}
 use Rattle.deskcells.specs.Cells.{cellBytes, bytesCells}
@@ -59,12 +60,14 @@ gridLength s = 2 * gridSizes s .numbers
 unfoldable pub inputLength : Job → Sizes → ℕ → ℕ
 inputLength Code z grid = blocksLength z
 inputLength Read z grid = cellsLength z
+inputLength ReadOn z grid = cellsLength z
 inputLength Grid z grid = cellsLength z
 inputLength Ungrid z grid = grid
 
 unfoldable pub outputLength : Job → Sizes → ℕ → ℕ
 outputLength Code z grid = cellsLength z
 outputLength Read z grid = blocksLength z + 1
+outputLength ReadOn z grid = lostBytes + (blocksLength z + 1)
 outputLength Grid z grid = grid
 outputLength Ungrid z grid = cellsLength z
 
@@ -100,12 +103,20 @@ readLent z cells =
       msc = replicate (z .mscbytes) 0;
     }
 
-unfoldable pub readWritten : Answer → ReadYield → List ℕ → JobYield
-readWritten (Finished n) y out = through (y .reading .state) (y .memory) (blockOutput (y .fac) (y .sdc) n (y .msc)) out
-readWritten (Answer·Refused number block) y out = refused number block (y .reading .state) (y .memory) out
+-- What goes out: bytes that tell what is lost, of which `read` has none, and then the blocks.
+unfoldable pub readWritten : Answer → List ℕ → ReadYield → List ℕ → JobYield
+readWritten (Finished n) lost y out = through (y .reading .state) (y .memory) (lost ++ blockOutput (y .fac) (y .sdc) n (y .msc)) out
+readWritten (Answer·Refused number block) lost y out = refused number block (y .reading .state) (y .memory) out
 
 unfoldable pub readAnswered : ReadYield → List ℕ → JobYield
-readAnswered y out = readWritten (y .reading .answer) y out
+readAnswered y out = readWritten (y .reading .answer) [] y out
+
+-- `read-on`: as `read`, with the seven bytes in front of each super frame. 02, S-13.
+unfoldable pub readOnLent : Sizes → List ℤ → ReadOnCall
+readOnLent z cells = record { call = readLent z cells; lost = replicate lostBytes 0 }
+
+unfoldable pub readOnAnswered : ReadOnYield → List ℕ → JobYield
+readOnAnswered y out = readWritten (y .yield .reading .answer) (y .lost) (y .yield) out
 
 -- `grid`: the same cells, and a grid that is placed; `ungrid`: a grid, and the cells that are taken off it. State and memory stay as they were. 02, S-4.
 unfoldable pub cellsIn : Sizes → List ℤ → Cells
@@ -131,6 +142,7 @@ cellsWritten y state memory out =
 unfoldable pub jobCall : Job → State → List ℕ → List ℕ → List ℕ → JobYield
 jobCall Code state memory bytes out = codeWritten (codeOf state memory (codeLent (sizesOf (state .scheme .settings)) bytes)) out
 jobCall Read state memory bytes out = readAnswered (readOf state memory (readLent (sizesOf (state .scheme .settings)) (bytesCells bytes))) out
+jobCall ReadOn state memory bytes out = readOnAnswered (readOnOf state memory (readOnLent (sizesOf (state .scheme .settings)) (bytesCells bytes))) out
 jobCall Grid state memory bytes out =
     gridWritten
     (placeOf (state .scheme .settings) (cellsIn (sizesOf (state .scheme .settings)) (bytesCells bytes)) (replicate (gridSizes (state .scheme .settings) .numbers) (pos 0)))
@@ -139,6 +151,14 @@ jobCall Grid state memory bytes out =
     out
 jobCall Ungrid state memory bytes out =
     cellsWritten (takeOf (state .scheme .settings) (bytesCells bytes) (blankCells (sizesOf (state .scheme .settings)))) state memory out
+
+-- The job that counts what is lost.
+unfoldable pub readsOn : Job → Bool
+readsOn Code = false
+readsOn Read = false
+readsOn ReadOn = true
+readsOn Grid = false
+readsOn Ungrid = false
 
 -- 1 to 10: an input of a super frame's length, and an output with room.
 unfoldable pub jobRefusal : Job → State → List ℕ → List ℕ → List ℕ → ℕ

@@ -2,6 +2,7 @@
 pub mod buffers;
 pub mod grids;
 pub mod output;
+pub mod readon;
 pub mod sizes;
 pub mod superframes;
 

@@ -2,6 +2,7 @@
 use console::bytes::put_bytes;
 use deskcells::numbers::put_cells;
 ghost use mathlib.Core.Path.{_≡_};
+ghost use mathlib.Core.List.{_++_};
 ghost use Prim.Native.Nat.{_+_, _*_, _≤_};
 ghost use lib.ListN.{length};
 ghost use Rattle.jobs.specs.Output.{Joined, framesLength, cellOutput, blockOutput};
@@ -33,18 +34,23 @@ fn frames_length(n: u8, all: usize) -> usize
     }
 }
 
-// FAC, SDC, the number of finished frames, and those frames, from the start of a buffer on, and how many bytes there are.
-pub fn join_blocks(fac: &[u8], sdc: &[u8], n: u8, msc: &[u8], out: &mut [u8]) -> usize
-    requires { ⌜ length (now fac) + length (now sdc) + 1 + length (now msc) ≤ length (now out) ⌝ }
-    ensures { λ r. ⌜ Joined (length (now (out .entry))) (blockOutput (now (fac .entry)) (now (sdc .entry)) n (now (msc .entry)))
+// What tells of lost blocks, FAC, SDC, the number of finished frames, and those frames, from the start of a buffer on, and how many bytes there are.
+pub fn join_blocks(lost: &[u8], fac: &[u8], sdc: &[u8], n: u8, msc: &[u8], out: &mut [u8]) -> usize
+    requires { ⌜ length (now lost) + length (now fac) + length (now sdc) + 1 + length (now msc) ≤ length (now out) ⌝ }
+    ensures { λ r. ⌜ Joined (length (now (out .entry)))
+        (now (lost .entry) ++ blockOutput (now (fac .entry)) (now (sdc .entry)) n (now (msc .entry)))
         (now (out .entry)) r (now (out .exit)) ⌝ }
 {
     let end = frames_length(n, msc.len());
-    let a = fac.len();
-    let b = a + sdc.len();
-    put_bytes(fac, out, 0);
-    put_bytes(sdc, out, a);
-    put_bytes(&[n], out, b);
-    put_bytes(&msc[0..end], out, b + 1);
-    b + 1 + end
+    let a = lost.len();
+    let b = a + fac.len();
+    let c = b + sdc.len();
+    let d = c + 1;
+    let total = d + end;
+    put_bytes(lost, out, 0);
+    put_bytes(fac, out, a);
+    put_bytes(sdc, out, b);
+    put_bytes(&[n], out, c);
+    put_bytes(&msc[0..end], out, d);
+    total
 }

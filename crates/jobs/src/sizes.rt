@@ -7,6 +7,9 @@ ghost use mathlib.Core.Path.{_≡_};
 ghost use Rattle.jobs.specs.SuperFrame.{blocksLength, cellsLength, gridLength, inputLength, outputLength};
 ghost use Rattle.jobs.specs.Contracts.{Rooms};
 
+// What `read-on` writes before each super frame: a byte for each block or finished frame.
+const LOST_BYTES: usize = 7;
+
 // What a program lends for a super frame of settings: bytes of input, and bytes of memory.
 pub struct Space {
     pub input: usize,
@@ -41,6 +44,7 @@ pub fn input_length(job: Job, z: Sizes, grid: usize) -> usize
     match job {
         Job::Code => blocks_length(z),
         Job::Read => cells_length(z),
+        Job::ReadOn => cells_length(z),
         Job::Grid => cells_length(z),
         Job::Ungrid => grid,
     }
@@ -52,6 +56,7 @@ pub fn output_length(job: Job, z: Sizes, grid: usize) -> usize
     match job {
         Job::Code => cells_length(z),
         Job::Read => blocks_length(z) + 1,
+        Job::ReadOn => LOST_BYTES + (blocks_length(z) + 1),
         Job::Grid => grid,
         Job::Ungrid => cells_length(z),
     }

@@ -6,6 +6,7 @@ use crate::grids::place_bytes;
 use crate::grids::take_bytes;
 use crate::output::join_blocks;
 use crate::output::join_cells;
+use crate::readon::read_on_bytes;
 use crate::sizes::grid_length;
 use crate::sizes::input_length;
 use crate::sizes::output_length;
@@ -129,18 +130,26 @@ fn code_bytes(state: State, z: Sizes, bytes: &[u8], memory: &mut [u8], out: &mut
     )
 }
 
-// What the output is after Read: FAC, SDC and the finished frames, or nothing where the call was refused.
-fn write_read(reading: Reading, fac: &[u8], sdc: &[u8], msc: &[u8], out: &mut [u8]) -> Step
-    requires { ⌜ length (now fac) + length (now sdc) + 1 + length (now msc) ≤ length (now out) ⌝ }
+// What the output is after reading: what tells of lost blocks, FAC, SDC and the finished frames, or nothing where the call was refused.
+pub fn write_read(
+    reading: Reading,
+    lost: &[u8],
+    fac: &[u8],
+    sdc: &[u8],
+    msc: &[u8],
+    out: &mut [u8],
+) -> Step
+    requires { ⌜ length (now lost) + length (now fac) + length (now sdc) + 1 + length (now msc) ≤ length (now out) ⌝ }
     ensures { λ r. ⌜ ((memory : List ℕ) → jobYield r memory (now (out .exit))
-        ≡ readWritten (reading .answer) (readYield reading memory (now (fac .entry)) (now (sdc .entry)) (now (msc .entry))) (now (out .entry))) ⌝ }
+        ≡ readWritten (reading .answer) (now (lost .entry))
+        (readYield reading memory (now (fac .entry)) (now (sdc .entry)) (now (msc .entry))) (now (out .entry))) ⌝ }
     ensures { λ r. ⌜ r .length ≤ length (now (out .entry)) ⌝ }
 {
     let answer = reading.answer;
     let state = reading.state;
     match answer {
         Answer::Finished(n) => {
-            let length = join_blocks(fac, sdc, n, msc, out);
+            let length = join_blocks(lost, fac, sdc, n, msc, out);
             Step {
                 outcome: Outcome::Through,
                 state,
@@ -166,7 +175,7 @@ fn read_with(
     msc: &mut [u8],
     out: &mut [u8],
 ) -> Step
-    requires { ⌜ ReadRoom at (now cells) (now fac) (now sdc) (now msc) (now out) ⌝ }
+    requires { ⌜ ReadRoom 0 at (now cells) (now fac) (now sdc) (now msc) (now out) ⌝ }
     ensures { λ r. ⌜ jobYield r (now (memory .exit)) (now (out .exit))
         ≡ readAnswered
         (readOf state (now (memory .entry))
@@ -185,7 +194,7 @@ fn read_with(
         sdc,
         msc,
     );
-    write_read(reading, fac, sdc, msc, out)
+    write_read(reading, b"", fac, sdc, msc, out)
 }
 
 // The job `read` on buffers of the right lengths.
@@ -236,6 +245,7 @@ pub fn step(job: Job, state: State, bytes: &[u8], memory: &mut [u8], out: &mut [
     match job {
         Job::Code => code_bytes(state, z, bytes, memory, out),
         Job::Read => read_bytes(state, z, bytes, memory, out),
+        Job::ReadOn => read_on_bytes(state, z, bytes, memory, out),
         Job::Grid => place_bytes(state, z, bytes, out),
         Job::Ungrid => take_bytes(state, z, bytes, out),
     }

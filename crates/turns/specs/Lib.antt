@@ -1,3 +1,4 @@
 pub mod Line
+pub mod Lost
 pub mod Turn
 pub mod Yield

@@ -13,6 +13,14 @@ unfoldable pub afterRead : ℕ → ℕ → Bool → Next
 afterRead got wanted ended =
     cond (eqb got wanted) On (cond ended (cond (eqb got 0) (Over Whole) (Over Inside)) (Over Unread))
 
+-- A whole input goes on, if it ended or filled all the room there is for one; a read that failed does not.
+unfoldable pub afterAll : ℕ → ℕ → Bool → Next
+afterAll got most ended = cond (eqb got most) On (cond ended On (Over Unread))
+
+-- By the number of a refusal, 0 for acceptance.
+unfoldable pub afterCall : ℕ → Next
+afterCall number = cond (eqb number 0) On (Over (Stopped number 0))
+
 -- A refusal ends the run, and so does a write that came short; of lines, only the line.
 unfoldable pub afterWrite : Outcome → Bool → Next
 afterWrite Through written = cond written On (Over Unwritten)

@@ -1,3 +1,4 @@
 pub mod Contracts
 pub mod Report
+pub mod Endings
 pub mod Words

@@ -1,4 +1,5 @@
 // What the desk's program says: every byte of it.
+pub mod endings;
 pub mod report;
 pub mod texts;
 

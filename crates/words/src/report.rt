@@ -60,7 +60,7 @@ pub fn put_refused(number: u8, block: u8, out: &mut [u8], at: usize) -> usize
 }
 
 // Why a super frame did not go through.
-fn put_why(end: End, out: &mut [u8], at: usize) -> usize
+pub fn put_why(end: End, out: &mut [u8], at: usize) -> usize
     requires { ⌜ at + 200 ≤ length (now out) ⌝ }
     ensures { λ r. ⌜ Put 200 (why end) (now (out .entry)) at r (now (out .exit)) ⌝ }
 {
@@ -75,7 +75,7 @@ fn put_why(end: End, out: &mut [u8], at: usize) -> usize
 }
 
 // Whether a run ended otherwise than after a whole super frame.
-fn failed(end: End) -> bool
+pub fn failed(end: End) -> bool
     ensures { λ r. ⌜ r ≡ failed end ⌝ }
 {
     match end {

@@ -20,5 +20,9 @@ returns-4 : tie.Need-returns-4
 unfolding mostOfFrames
 returns-4 c = sym (ap mostOfFrames (c .enum-told4 .given .1))
 
+returns-5 : tie.Need-returns-5
+unfolding mostOfFrames
+returns-5 c = sym (ap mostOfFrames (c .enum-told5 .given .1))
+
 pub most-of-frames-spec : {M : Type 1} → statement M
-most-of-frames-spec = tie.close (tie.spec (λ c. search needs) (λ c. search needs) (λ c. search needs) (λ c. search needs) returns returns-2 returns-3 returns-4)
+most-of-frames-spec = tie.close (tie.spec (λ c. search needs) (λ c. search needs) (λ c. search needs) (λ c. search needs) (λ c. search needs) returns returns-2 returns-3 returns-4 returns-5)

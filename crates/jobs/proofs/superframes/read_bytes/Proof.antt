@@ -2,7 +2,7 @@ use borrow.Author.Needs.{needs}
 use native.Mathlib.Omega.{arith}
 use Rattle.console.specs.declared.Job.the-variants.{Read}
 use Rattle.jobs.proofs.Rooms.{enough}
-use Rattle.jobs.proofs.Calls.{bytes-most, read-room, read-call, read-called}
+use Rattle.jobs.proofs.Calls.{bytes-most, reads, read-room, read-call, read-called}
 use Rattle.jobs.proofs.superframes.read_bytes.Statement.{statement}
 use Rattle.jobs.proofs.superframes.read_bytes.Tie as tie
 
@@ -21,7 +21,7 @@ part-msc-end c = let p = c .before .before .before .before .before .before .befo
 read-with-requires : tie.Need-read-with-requires
 read-with-requires c κs =
     let a = c .before .before .before .before .before .before .before .before .before .before .before .before .before .before .before .before .before in
-    read-room (a .args .state) _ _ _ _ _ _ _ (a .pre) (c .before .before .before .before .before .before .before .before .before .before .before .before .before .numbers-in .ensures .front) (c .before .before .before .before .before .before .before .before .before .before .before .before .fac-bytes .ensures) (c .before .before .before .before .before .before .before .before .before .before .before .sdc-bytes .ensures) (c .before .before .before .before .before .before .before .before .before .before .msc-bytes .ensures)
+    read-room reads (a .args .state) _ _ _ _ _ _ _ (a .pre) (c .before .before .before .before .before .before .before .before .before .before .before .before .before .numbers-in .ensures .front) (c .before .before .before .before .before .before .before .before .before .before .before .before .fac-bytes .ensures) (c .before .before .before .before .before .before .before .before .before .before .before .sdc-bytes .ensures) (c .before .before .before .before .before .before .before .before .before .before .msc-bytes .ensures)
 
 returns : tie.Need-returns
 returns c =

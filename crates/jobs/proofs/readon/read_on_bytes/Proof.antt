@@ -1,0 +1,37 @@
+use borrow.Author.Needs.{needs}
+use native.Mathlib.Omega.{arith}
+use Rattle.console.specs.declared.Job.the-variants.{ReadOn}
+use Rattle.jobs.proofs.Rooms.{enough}
+use Rattle.jobs.proofs.Calls.{bytes-most, reads-on, read-room, read-call, read-on-called}
+use Rattle.jobs.proofs.readon.read_on_bytes.Statement.{statement}
+use Rattle.jobs.proofs.readon.read_on_bytes.Tie as tie
+
+numbers-in-requires : tie.Need-numbers-in-requires
+numbers-in-requires c κs = let a = c .before .before .before in bytes-most ReadOn (a .args .state) _ _ _ (a .pre)
+
+part-read-on-with-end : tie.Need-part-read-on-with-end
+part-read-on-with-end c = let a = c .before .before .before .before .before .before .before .before .before .before .before in omega (arith, bytes-most ReadOn (a .args .state) _ _ _ (a .pre), c .before .before .before .before .before .before .before .numbers-in .ensures .long)
+
+part-sdc-end : tie.Need-part-sdc-end
+part-sdc-end c = let p = c .before .before .before .before .before .before .before .before .before .before .before .before .before .before .pre in omega (arith, enough _ _ (p .sizes) (p .accepted) .sdcbytes, c .before .before .before .before .before .before .before .before .sdc-bytes .ok)
+
+part-msc-end : tie.Need-part-msc-end
+part-msc-end c = let p = c .before .before .before .before .before .before .before .before .before .before .before .before .before .before .before .pre in omega (arith, enough _ _ (p .sizes) (p .accepted) .mscbytes, c .before .before .before .before .before .before .before .before .msc-bytes .ok)
+
+read-on-with-requires : tie.Need-read-on-with-requires
+read-on-with-requires c κs =
+    let a = c .before .before .before .before .before .before .before .before .before .before .before .before .before .before .before .before .before in
+    read-room reads-on (a .args .state) _ _ _ _ _ _ _ (a .pre) (c .before .before .before .before .before .before .before .before .before .before .before .before .before .numbers-in .ensures .front) (c .before .before .before .before .before .before .before .before .before .before .before .before .fac-bytes .ensures) (c .before .before .before .before .before .before .before .before .before .before .before .sdc-bytes .ensures) (c .before .before .before .before .before .before .before .before .before .before .msc-bytes .ensures)
+
+returns : tie.Need-returns
+returns c =
+    let a = c .before .before .before .before .before .before .before .before .before .before .before .before .before .before .before .before .before .before .before .before .before .before .before .before .before in
+    let w = c .before .before .before .before .before .before .before .read-on-with .ensures in
+    let h = enough _ _ (a .pre .sizes) (a .pre .accepted) in (
+      read-on-called (a .args .state) (a .args .z) _ _ (a .args .bytes .now) (a .args .out .now) _ _ (a .pre .sizes) (c .before .before .before .before .before .before .before .before .before .before .before .before .before .before .before .before .before .before .before .before .before .numbers-in .ensures .front)
+          (read-call _ _ _ _ _ h (c .before .before .before .before .before .before .before .before .before .before .before .before .before .before .before .before .before .before .before .before .fac-bytes .ensures) (c .before .before .before .before .before .before .before .before .before .before .before .before .before .before .before .before .before .before .before .sdc-bytes .ensures) (c .before .before .before .before .before .before .before .before .before .before .before .before .before .before .before .before .before .before .msc-bytes .ensures)) (w .0),
+      w .1,
+    )
+
+pub read-on-bytes-spec : {M : Type 1} → statement M
+read-on-bytes-spec = tie.close (tie.spec numbers-in-requires (λ c κs. search needs) (λ c κs. search needs) (λ c κs. search needs) (λ c. search needs) (λ c. search needs) (λ c. search needs) (λ c. search needs) (λ c. search needs) (λ c. search needs) part-read-on-with-end (λ c. search needs) (λ c. search needs) (λ c. search needs) part-sdc-end (λ c. search needs) (λ c. search needs) part-msc-end read-on-with-requires (λ c. search needs) (λ c. search needs) returns)
