@@ -1,0 +1,4 @@
+// What the desk's program makes of hold files. 02, S-7 and S-3.
+pub mod asked;
+pub mod files;
+pub mod shown;
