@@ -201,6 +201,165 @@ def lines(program, words, good, answer, wrong):
     os.close(folder)
 
 
+def lost_line(fac=0, sdc=0, frames=0):
+    return f"lost: FAC {fac}, SDC {sdc}, frames {frames}\n"
+
+
+def reading_on(program, settings, sdc, frame, cell_bytes, finished):
+    """Undamaged runs read as `desk read` with seven zero bytes before each super frame; a spoiled super frame costs what the cell interleaver spreads it over, and nothing after that."""
+    words = ["read-on", settings]
+    frames = make(sdc, frame, 5)
+    blocks = expected(frames, finished)
+    _, cells, _ = run([program, "code", settings], b"".join(b"".join(of_one) for of_one in frames))
+    five = "super frames: 5\n"
+    plain = [bytes(7) + block for block in blocks]
+    both(program, words, cells, "read on, undamaged", b"".join(plain), five + lost_line(), True)
+    both(program, words, b"", "read-on: no input", b"", "super frames: 0\n" + lost_line(), True)
+    both(program, words, cells[:cell_bytes + 1], "read-on: cells that end inside a super frame", plain[0],
+         "super frame 1: the input ends inside it\nsuper frames: 1\n" + lost_line(), False)
+    with open("/dev/full", "wb") as full:
+        both(program, words, cells, "read-on: output to a full device", b"", UNWRITTEN + lost_line(), False, stdout=full)
+    damaged = bytearray(cells)
+    at = 2 * cell_bytes + 2 * 130
+    damaged[at:at + 2] = b"\2\0"
+    one = list(plain)
+    fac = bytearray(one[2])
+    fac[1] = 1
+    fac[7 + 9:7 + 18] = bytes(9)
+    one[2] = bytes(fac)
+    both(program, words, bytes(damaged), "read on over one cell of FAC block 1", b"".join(one), five + lost_line(fac=1), True)
+    spoiled = cells[:cell_bytes] + bytes(cell_bytes) + cells[2 * cell_bytes:]
+    size, depth, at, out = (frame + 7) // 8, 5 if finished[0] == 0 else 1, 0, b""
+    for m, block in enumerate(blocks):
+        gone = [3 - (depth - 1) <= f <= 5 for f in range(at, at + finished[m])]
+        at += finished[m]
+        head = FAC + (sdc + 7) // 8
+        body = b"".join(bytes(size) if lost else block[head + 1 + k * size:head + 1 + (k + 1) * size] for k, lost in enumerate(gone))
+        marks = bytes([m == 1] * 4) + bytes(gone) + bytes(3 - len(gone))
+        out += marks + (bytes(head) if m == 1 else block[:head]) + block[head:head + 1] + body
+    lost = sum(3 - (depth - 1) <= f <= 5 for f in range(sum(finished)))
+    both(program, words, spoiled, "read on over a spoiled super frame", out, five + lost_line(3, 1, lost), True)
+
+
+NO_HOLD_FILE = "hold file: refused: 18, a hold file that is none of these settings\n"
+FILE_UNREAD = "hold file: not read: the input failed\n"
+FILE_UNWRITTEN = "hold file: not written: the output failed\n"
+
+
+def old_form(new):
+    """Each number in four digits, two's complement, in place of one."""
+    heading, *slots = new.decode().split("\n")
+    return "\n".join([heading] + ["".join(("FFF" if digit > "7" else "000") + digit for digit in slot) for slot in slots]).encode()
+
+
+def read_file(name):
+    with open(name, "rb") as file:
+        return file.read()
+
+
+def write_file(name, data):
+    with open(name, "wb") as file:
+        file.write(data)
+
+
+def hold_files(program, settings, sdc, frame, cell_bytes, finished):
+    """A transmitter's power-down and power-up: a run in two halves sends the cells of the uninterrupted one, and leaves its file. Files there and back, refused ones, and previews."""
+    frames = make(sdc, frame, 6)
+    bits = [b"".join(of_one) for of_one in frames]
+    everything = b"".join(bits)
+    with tempfile.TemporaryDirectory() as folder:
+        place = lambda name: os.path.join(folder, name)
+        five = "super frames: 5\n"
+        _, cells, _ = run([program, "code", settings], everything)
+        both(program, ["code", settings, "-"], everything, "from a reset", cells, five, True)
+        both(program, ["code", settings, "-", place("whole")], everything, "to a hold file", cells, five, True)
+        whole = read_file(place("whole"))
+        for half in range(SUPER_FRAMES + 1):
+            first, second = b"".join(bits[:half]), b"".join(bits[half:])
+            for start in (program, COMMAND):
+                status, one, said = run([start, "code", settings, "-", place("held")], first)
+                must(status == 0 and said == f"super frames: {half}\n", f"the first half: {status}, {said!r}")
+                status, two, said = run([start, "code", settings, place("held"), place("held")], second)
+                must(status == 0 and said == f"super frames: {SUPER_FRAMES - half}\n", f"the second half: {status}, {said!r}")
+                must(one + two == cells, "the halves send other cells than the whole run")
+                must(read_file(place("held")) == whole, "the halves leave another file than the whole run")
+        print(f"  power-down and power-up after 0 to {SUPER_FRAMES} super frames: the cells and the file of the uninterrupted run")
+        middle_of_runs(program, settings, bits, cells, cell_bytes, place)
+        previews(program, settings, bits, cells, cell_bytes, place)
+        begun = len(whole.split(b"\n")[1]) // 2
+        must(len(whole) == 3 + (5 if finished[0] == 0 else 1) * (2 * begun + 1), "a new file's length")
+        old = old_form(whole)
+        both(program, ["to-old", settings], whole, "a new file to an old one", old, "", True)
+        both(program, ["to-new", settings], old, "and back", whole, "", True)
+        turned_wrong(program, ["to-new", settings], old, 8, place)
+        turned_wrong(program, ["to-old", settings], whole, 2, place)
+        for name, data in wrong_files(whole, 2):
+            write_file(place("wrong"), data)
+            both(program, ["code", settings, place("wrong")], everything, "from a file, " + name, b"", NO_HOLD_FILE, False)
+        both(program, ["code", settings, place("none")], everything, "from no file", b"", FILE_UNREAD, False)
+        both(program, ["code", settings, folder], everything, "from a directory", b"", FILE_UNREAD, False)
+        both(program, ["code", settings, ""], everything, "from an empty name", b"", FILE_UNREAD, False)
+        both(program, ["code", settings, "-", place("none/none")], everything, "to a file that cannot be made", cells, FILE_UNWRITTEN + five, False)
+        both(program, ["code", settings, "-", "/dev/full"], everything, "to a full device", cells, FILE_UNWRITTEN + five, False)
+
+
+def wrong_files(file, width):
+    """Files that 18 refuses; a cell has so many digits."""
+    body = lambda at, digits: file[:at] + digits + file[at + len(digits):]
+    return [
+        ("empty", b""), ("without its last line feed", file[:-1]), ("with one more", file + b"\n"), ("longer than any", file * (300000 // len(file) + 1)),
+        ("a cell (0, 0)", body(3, b"0" * width)), ("a small letter", body(3, b"f" * width)), ("no digit", body(3, b"G")), ("position 5", body(0, b"5")), ("count 9", body(1, b"9")),
+        ("no line feed after count", body(2, b" ")), ("lines ended by carriage returns", file.replace(b"\n", b"\r")), ("a line of its cells too few", file[:3] + file[3 + width:]),
+    ]
+
+
+def turned_wrong(program, words, file, width, place):
+    """A file that is refused leaves nothing behind; inputs and outputs that fail."""
+    for name, data in wrong_files(file, width):
+        both(program, words, data, f"{words[0]}: a file, {name}", b"", NO_HOLD_FILE, False)
+    other = {"to-new": "to-old", "to-old": "to-new"}[words[0]]
+    both(program, [other] + words[1:], file, f"{other}: a file of the wrong form", b"", NO_HOLD_FILE, False)
+    with open("/dev/full", "wb") as full:
+        both(program, words, file, words[0] + ": output to a full device", b"", FILE_UNWRITTEN, False, stdout=full)
+    folder = os.open("/", os.O_RDONLY)
+    both(program, words, b"", words[0] + ": input from a directory", b"", FILE_UNREAD, False, stdin=folder)
+    os.close(folder)
+
+
+def middle_of_runs(program, settings, bits, cells, cell_bytes, place):
+    """A run that ends in a super frame stores what stands after the one before it, and the run goes on from there; after a failed write it stores nothing."""
+    one = len(bits[0])
+    spare = bytearray(bits[1])
+    spare[-1] |= 1
+    refused = "super frame 1: refused: 11, a spare bit set\nsuper frames: 1\n"
+    inside = "super frame 1: the input ends inside it\nsuper frames: 1\n"
+    for what, rest, said in (("a refused super frame", bytes(spare), refused), ("half a super frame", bits[1][:one // 2], inside)):
+        both(program, ["code", settings, "-", place("kept")], bits[0] + rest, "to a hold file after " + what, cells[:cell_bytes], said, False)
+        both(program, ["code", settings, place("kept")], b"".join(bits[1:]), "and on from there", cells[cell_bytes:], f"super frames: {SUPER_FRAMES - 1}\n", True)
+    write_file(place("kept"), b"as it was")
+    with open("/dev/full", "wb") as full:
+        both(program, ["code", settings, "-", place("kept")], b"".join(bits), "to a hold file and a full device", b"", UNWRITTEN, False, stdout=full)
+    must(read_file(place("kept")) == b"as it was", "after a failed write a hold file is stored")
+
+
+def previews(program, settings, bits, cells, cell_bytes, place):
+    """At each moment of a run a preview shows the cells that the next super frame then sends, and leaves the file."""
+    for m in range(SUPER_FRAMES):
+        run([program, "code", settings, "-", place("now")], b"".join(bits[:m]))
+        held = read_file(place("now"))
+        words = ["preview", settings, place("now")]
+        both(program, words, bits[m], f"preview of super frame {m}", cells[m * cell_bytes:(m + 1) * cell_bytes], "super frames: 1\n", True)
+        must(read_file(place("now")) == held, "a preview leaves its file")
+    wrong = "super frame 0: refused: 9, an input of the wrong length\nsuper frames: 0\n"
+    for what, data in (("no input", b""), ("a byte less", bits[0][:-1]), ("a byte more", bits[0] + b"\0"), ("two super frames", bits[0] * 2), ("much more", bytes(200000))):
+        both(program, words, data, "preview: " + what, b"", wrong, False)
+    with open("/dev/full", "wb") as full:
+        both(program, words, bits[0], "preview: output to a full device", b"", UNWRITTEN, False, stdout=full)
+    write_file(place("now"), held[:-1])
+    both(program, words, bits[0], "preview: a hold file that is none", b"", NO_HOLD_FILE, False)
+    both(program, ["preview", settings, "-"], bits[0], "preview: no hold file", b"", FILE_UNREAD, False)
+
+
 KINDS = os.path.join(os.path.dirname(os.path.abspath(__file__)), "..", "crates", "gridkinds", "stdout")
 FAC_KIND, SDC_KIND, MSC_KIND = 4, 5, 6
 
@@ -523,7 +682,11 @@ def arguments(program):
         ("a job in capitals", ["CODE", settings]),
         ("an empty job", ["", settings]),
         ("a long job", ["c" * 4096, settings]),
-        ("an argument too many", ["code", settings, settings]),
+        ("an argument too many", ["code", settings, "-", "/dev/null", settings]),
+        ("such for reading on", ["read-on", settings, "-"]),
+        ("a hold file's job with an argument too many", ["to-new", settings, settings]),
+        ("a preview without its hold file", ["preview", settings]),
+        ("a preview with an argument too many", ["preview", settings, "/dev/null", "/dev/null"]),
         ("settings before the job", [settings, "code"]),
         ("short settings", ["code", "0003"]),
         ("long settings", ["code", settings + "0"]),
@@ -566,9 +729,9 @@ def arguments(program):
         (6, "SDC mode or interleaving not 0 or 1", "00030000010000000200"),
         (7, "too many bytes in part A", "000300000100FFFF0000"),
     ]:
-        for job in ("code", "read", "grid", "ungrid", "fac-build", "fac-read", "mux", "demux", "fit"):
-            description = ["285,0"] if "mux" in job else ["1"] if job == "fit" else []
-            both(program, [job, bad] + description, b"", "settings refused", b"", f"settings: refused: {number}, {words}\n", False)
+        for job in ("code", "read", "read-on", "grid", "ungrid", "fac-build", "fac-read", "mux", "demux", "fit", "to-new", "to-old", "preview"):
+            more = ["285,0"] if "mux" in job else ["1"] if job == "fit" else ["FILE"] if job == "preview" else []
+            both(program, [job, bad] + more, b"", "settings refused", b"", f"settings: refused: {number}, {words}\n", False)
 
 
 def main():
@@ -576,6 +739,8 @@ def main():
     program = os.path.join(sys.argv[1], "desk")
     for one in EXAMPLES:
         example(program, *one)
+        reading_on(program, *one)
+        hold_files(program, *one)
     grids(program)
     nearest(program)
     fac_fields(program)

@@ -1,27 +1,18 @@
 // The desk's program: it reads, calls the jobs and writes. What is decided and what is said stands in `turns`, `console`, `words` and the crates of the jobs.
 mod fitting;
+mod hold_files;
 mod lines;
 mod multiplex_frames;
 mod output;
 mod plans;
+mod previews;
 mod reading;
 mod super_frames;
 
-use console::Job;
 use console::Start;
 use console::arguments;
 use output::say_settings;
 use output::say_usage;
-use settings::Settings;
-
-// A job on super frames; `code` has no hold files yet.
-fn begin(job: Job, s: Settings) {
-    if os::arg_count() != 3 {
-        say_usage();
-        return;
-    }
-    super_frames::begin(job, s);
-}
 
 fn main() {
     let mut word = [0u8; 32];
@@ -32,11 +23,11 @@ fn main() {
     match start {
         Start::Usage => say_usage(),
         Start::Refused(number) => say_settings(number),
-        Start::Begin(job, s) => begin(job, s),
+        Start::Begin(job, s) => super_frames::begin(job, s),
         Start::Lines(job) => lines::run_lines(job),
         Start::Multiplex(job, s) => multiplex_frames::begin(job, s),
-        Start::Turn(_, _) => say_usage(),
-        Start::Preview(_) => say_usage(),
+        Start::Turn(job, s) => hold_files::turn_input(job, s),
+        Start::Preview(s) => previews::preview(s),
         Start::Fit(s) => fitting::begin(s),
         Start::Plan => plans::begin(),
     }

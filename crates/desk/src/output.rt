@@ -1,7 +1,9 @@
 // What goes out: the front of a buffer, and what is said on standard error.
 use libc::STDERR_FILENO;
 use turns::End;
+use turns::Lost;
 use words::Counted;
+use words::endings;
 use words::report;
 use words::report::USAGE_BYTES;
 ghost use Prim.Native.Nat.{_≤_};
@@ -46,4 +48,16 @@ pub fn say_line(end: End, index: u64) -> bool {
     let n = report::line_said(end, index, &mut text);
     write_front(STDERR_FILENO, &text, n);
     0 < n
+}
+
+pub fn say_lost(lost: Lost) {
+    let mut text = [0u8; 1024];
+    let n = endings::lost_said(lost, &mut text);
+    write_front(STDERR_FILENO, &text, n);
+}
+
+pub fn say_file(end: End) {
+    let mut text = [0u8; 1024];
+    let n = endings::file_said(end, &mut text);
+    write_front(STDERR_FILENO, &text, n);
 }

@@ -5,12 +5,31 @@ use turns::Seen;
 use turns::input;
 use turns::turn;
 ghost use Prim.Native.Nat.{_≤_};
+ghost use lib.ListN.{length};
 
 // Fills a buffer; a read after that tells the end of the input from a read that failed.
 pub fn fill(bytes: &mut [u8]) -> Next {
     let n = io::read_full(STDIN_FILENO, bytes);
     let last = libc::read(STDIN_FILENO, &mut bytes[n..]);
     turn::after_read(n, bytes.len(), last == 0)
+}
+
+// How many bytes of a whole input came, and what follows.
+pub struct Taken {
+    pub next: Next,
+    pub got: usize,
+}
+
+// The whole of an input, or what fills the buffer.
+pub fn take_all(from: i32, bytes: &mut [u8]) -> Taken
+    ensures { λ r. ⌜ r .got ≤ length (now (bytes .exit)) ⌝ }
+{
+    let n = io::read_full(from, bytes);
+    let last = libc::read(from, &mut bytes[n..]);
+    Taken {
+        next: turn::after_all(n, bytes.len(), last == 0),
+        got: n,
+    }
 }
 
 // A line, of which so many bytes count, and what ended it.

@@ -1,16 +1,22 @@
 // Jobs on super frames.
+use crate::hold_files::begin_from;
+use crate::hold_files::store_at;
+use crate::output::say_file;
+use crate::output::say_lost;
 use crate::output::say_run;
 use crate::reading::fill;
-use channels::tables::standard_scheme;
-use codecall::reset::reset;
 use console::Job;
 use jobs::buffers;
+use jobs::readon::reads_on;
 use jobs::sizes;
 use jobs::superframes;
 use libc::STDOUT_FILENO;
 use settings::Settings;
 use superframe::State;
+use turns::End;
+use turns::Lost;
 use turns::Next;
+use turns::marks::lost_after;
 use turns::turn;
 use words::Counted;
 
@@ -45,34 +51,80 @@ fn take(job: Job, state: State, bytes: &mut [u8], memory: &mut [u8], out: &mut [
     }
 }
 
+// A run: how it ended, how many super frames went through, what it lost, and the state after them.
+struct Ran {
+    end: End,
+    count: u64,
+    lost: Lost,
+    state: State,
+}
+
+// What is lost with a super frame more.
+fn count_lost(job: Job, lost: Lost, out: &[u8]) -> Lost {
+    if reads_on(job) {
+        return lost_after(lost, out);
+    }
+    lost
+}
+
 // Super frames up to the first end. A loop that is proved to end counts its turns.
-fn run(job: Job, start: State, bytes: &mut [u8], memory: &mut [u8], out: &mut [u8]) {
+fn run(job: Job, start: State, bytes: &mut [u8], memory: &mut [u8], out: &mut [u8]) -> Ran {
     let mut state = start;
     let mut count: u64 = 0;
+    let mut lost = Lost {
+        fac: 0,
+        sdc: 0,
+        frames: 0,
+    };
     while count < u64::MAX {
         let turn = take(job, state, bytes, memory, out);
         let next = turn.next;
         state = turn.state;
         match next {
-            Next::On => count += 1,
+            Next::On => {
+                lost = count_lost(job, lost, out);
+                count += 1;
+            }
             Next::Over(end) => {
-                say_run(Counted::SuperFrame, end, count);
-                return;
+                return Ran {
+                    end,
+                    count,
+                    lost,
+                    state,
+                };
             }
         }
     }
+    Ran {
+        end: End::Whole,
+        count,
+        lost,
+        state,
+    }
 }
 
-// A run from a reset; settings that it refuses are refused at the first super frame too.
+// A run from a state, and what is stored and said at its end.
+fn run_from(job: Job, start: State, bytes: &mut [u8], memory: &mut [u8], out: &mut [u8]) {
+    let ran = run(job, start, bytes, memory, out);
+    let end = ran.end;
+    let state = ran.state;
+    let lost = ran.lost;
+    store_at(end, state, memory);
+    say_run(Counted::SuperFrame, end, ran.count);
+    if reads_on(job) {
+        say_lost(lost);
+    }
+}
+
+// A run from where the arguments say.
 fn run_settings(job: Job, s: Settings, bytes: &mut [u8], memory: &mut [u8], out: &mut [u8]) {
-    let old = State {
-        scheme: standard_scheme(s),
-        position: 0,
-        count: 0,
-    };
-    let done = reset(old, s, memory);
-    let start = done.state;
-    run(job, start, bytes, memory, out);
+    let begun = begin_from(s, memory);
+    let next = begun.next;
+    let start = begun.state;
+    match next {
+        Next::On => run_from(job, start, bytes, memory, out),
+        Next::Over(end) => say_file(end),
+    }
 }
 
 // The same on the part of the largest buffers that the settings need.
