@@ -12,7 +12,7 @@ use Rattle.console.specs.declared.Job.the-variants.{Code}
 use Rattle.turns.specs.Yield.{MadeYield, madeYield, through, refused, answered}
 use Rattle.jobs.specs.Output.{cellOutput}
 use Rattle.jobs.specs.SuperFrame.{JobYield, through as Job·through, refused as Job·refused, answered as Job·answered, codeLent, codeWritten, jobCall, jobRefusal, jobOf}
-use Rattle.holdjobs.specs.Shown.{previewWritten, shownOf}
+use Rattle.holdjobs.specs.Shown.{previewWritten, shownOf, copyAfter}
 
 -- A job's yield without state and memory.
 abbrev made : JobYield → MadeYield
@@ -41,3 +41,7 @@ unfolding jobOf jobCall shownOf previewOf
 shown state memory bytes out y e =
     let r = jobRefusal Code state memory bytes out in
     ap made e ∙ made-cond (eqb r 0) _ _ _ _ (made-coded (codeOf state memory (codeLent (sizesOf (state .scheme .settings)) bytes)) out) (made-refused r state memory out)
+
+pub copied : (state : State) (memory bytes out : List ℕ) (y : JobYield) → y ≡ jobOf Code state memory bytes out → y .memory ≡ copyAfter state memory bytes out
+unfolding copyAfter
+copied state memory bytes out y e = ap (λ (z : JobYield). z .memory) e

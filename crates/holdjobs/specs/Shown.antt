@@ -9,7 +9,7 @@ use Rattle.superframe.specs.Preview.{PreviewYield, previewOf}
 use Rattle.console.specs.declared.Job.the-variants.{Code}
 use Rattle.turns.specs.Yield.{MadeYield, refused, answered}
 use Rattle.jobs.specs.Output.{cellOutput}
-use Rattle.jobs.specs.SuperFrame.{codeLent, jobRefusal}
+use Rattle.jobs.specs.SuperFrame.{codeLent, jobRefusal, jobOf}
 
 -- The cells of a preview, or its refusal.
 unfoldable pub previewWritten : PreviewYield → List ℕ → MadeYield
@@ -21,3 +21,7 @@ shownOf state memory bytes out =
     cond (eqb (jobRefusal Code state memory bytes out) 0)
     (previewWritten (previewOf state memory (codeLent (sizesOf (state .scheme .settings)) bytes)) out)
     (refused (jobRefusal Code state memory bytes out) out)
+
+-- The working copy of the memory is left as `code` leaves its own.
+unfoldable pub copyAfter : State → List ℕ → List ℕ → List ℕ → List ℕ
+copyAfter state memory bytes out = jobOf Code state memory bytes out .memory

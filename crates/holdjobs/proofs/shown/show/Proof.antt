@@ -1,5 +1,5 @@
 use borrow.Author.Needs.{needs}
-use Rattle.holdjobs.proofs.Previews.{shown}
+use Rattle.holdjobs.proofs.Previews.{shown, copied}
 use Rattle.holdjobs.proofs.shown.show.Statement.{statement}
 use Rattle.holdjobs.proofs.shown.show.Tie as tie
 
@@ -7,7 +7,7 @@ returns : tie.Need-returns
 returns c =
     let a = c .before .before .before .before .before .before .before .before .before .before .args in
     let w = c .before .before .before .before .step .ensures in
-    (shown (a .state) (a .memory .now) (a .bytes .now) (a .out .now) _ (w .0), w .1)
+    (shown (a .state) (a .memory .now) (a .bytes .now) (a .out .now) _ (w .0), (copied (a .state) (a .memory .now) (a .bytes .now) (a .out .now) _ (w .0), w .1))
 
 pub show-spec : {M : Type 1} → statement M
 show-spec = tie.close (tie.spec (λ c κs. search needs) (λ c. search needs) (λ c. search needs) returns)
