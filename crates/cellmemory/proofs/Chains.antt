@@ -24,6 +24,7 @@ use Rattle.channels.specs.Scheme.{schemeRefusal}
 use Rattle.superframe.specs.declared.State.{State}
 use Rattle.superframe.specs.Call.{memoryLength, inOrder}
 use Rattle.cellmemory.specs.Contracts.{lengthRefusal, bytesLong, cellsLong, refusalThen}
+use Rattle.superframe.specs.Reset.{resetRefusal}
 use Rattle.superframe.specs.Code.{byteLengths, cellLengths}
 use Rattle.superframe.specs.Contracts.{Fits}
 use Rattle.superframe.proofs.Calls.{first-hold, first-own, first-own-pass}
@@ -142,6 +143,12 @@ module _ (s : Scheme) (z : Sizes) (e : z ≡ sizesOf (s .settings)) (r : ℕ) (g
           ≡ first (ltb 0 (schemeRefusal s)) (schemeRefusal s) (lengths-then (not (eqb (length memory) (memoryLength (s .settings)))) (not nine′) (not ten′) 0)
       go (inl h) = scheme-refused s z e r g (length memory) _ nine ten (omega arith)
       go (inr h) = let k : schemeRefusal s ≡ 0 = omega arith in scheme-allowed s z e r g (length memory) nine ten k ∙ rw (p k, q k)
+
+-- Where neither 9 nor 10 can apply, 1 to 8 are those of Reset.
+pub reset-found : (s : Scheme) (memory : List ℕ) (z : Sizes) → z ≡ sizesOf (s .settings) → (n : ℕ) → n ≡ schemeRefusal s → (r : ℕ)
+    → r ≡ lengthRefusal n z (length memory) true true → r ≡ resetRefusal s memory
+unfolding resetRefusal refusalThen first
+reset-found s memory z e n f r g = g ∙ refusal-is s z e n f memory true true true true (λ h. refl) (λ h. refl)
 
 -- Lengths right by the sizes are right by the settings.
 module _ (s : Scheme) (z : Sizes) (e : z ≡ sizesOf (s .settings)) where

@@ -1,5 +1,6 @@
 // Refusals, and the tests that they rest on. 01 "Operations".
 use channels::blocks::msc_constellation;
+use channels::tables::refusal_with;
 use dispersal::bits::spare_zero;
 use mapping::tests::bytes_pass;
 use settings::Settings;
@@ -16,7 +17,9 @@ ghost use Rattle.settings.specs.Refusal.{refusal};
 ghost use Rattle.settings.specs.Lengths.{lSdc};
 ghost use Rattle.block.specs.Packing.{spareZero};
 ghost use Rattle.lists.specs.Bools.{every};
+ghost use Rattle.channels.specs.Scheme.{schemeOf};
 ghost use Rattle.superframe.specs.Call.{parts, inOrder};
+ghost use Rattle.superframe.specs.Reset.{resetRefusal};
 ghost use Rattle.superframe.specs.Code.{sparesZero};
 ghost use Rattle.superframe.specs.Contracts.{Fits};
 ghost use Rattle.cellmemory.specs.Contracts.{bytesLong, cellsLong, lengthRefusal, Packed};
@@ -53,6 +56,15 @@ pub fn length_refusal(number: u8, z: Sizes, bytes: usize, nine: bool, ten: bool)
         return 10;
     }
     0
+}
+
+// 1 to 7, 23 and 8, as Reset, storing and restoring ask for them.
+pub fn reset_refusal(s: Settings, table: &[u8], memory: &[u8]) -> u8
+    ensures { λ r. ⌜ r ≡ resetRefusal (schemeOf s (now (table .entry))) (now (memory .entry)) ⌝ }
+{
+    let number = refusal_with(s, table);
+    let z = answers::sizes(s);
+    length_refusal(number, z, memory.len(), true, true)
 }
 
 // No spare bit is set in three frames of so many bits and bytes.

@@ -1,10 +1,8 @@
 // The call Reset. 01 "Operations"; 02 S-11 and S-5.
-use cellmemory::refusal;
-use channels::tables::refusal_with;
+use cellmemory::refusal::reset_refusal;
 use channels::tables::scheme_of;
 use patterns::table::standard_table;
 use settings::Settings;
-use settings::answers;
 use startcells::start::fill_memory;
 use superframe::Done;
 use superframe::State;
@@ -17,9 +15,7 @@ ghost use Rattle.codecall.specs.Contracts.{resetYield};
 pub fn reset_table(old: State, settings: Settings, table: &[u8], memory: &mut [u8]) -> Done
     ensures { λ r. ⌜ resetYield r (now (memory .exit)) ≡ resetOf old (schemeOf settings (now (table .entry))) (now (memory .entry)) ⌝ }
 {
-    let number = refusal_with(settings, table);
-    let z = answers::sizes(settings);
-    let number = refusal::length_refusal(number, z, memory.len(), true, true);
+    let number = reset_refusal(settings, table, memory);
     if number != 0 {
         return Done {
             refusal: number,

@@ -7,9 +7,7 @@ use native.Mathlib.Omega.{arith}
 use borrow.Author.Tests.{eq-eqb, ne-eqb, eqb-true, not-false}
 use lib.ListN.{length}
 use lib.Dec.{eqb}
-use Rattle.settings.specs.declared.Sizes.{Sizes}
 use Rattle.settings.specs.Refusal.{first}
-use Rattle.settings.specs.Sizes.{sizesOf}
 use Rattle.settings.specs.Accepted.{Accepted}
 use Rattle.channels.specs.declared.Scheme.{Scheme}
 use Rattle.channels.specs.Scheme.{schemeRefusal}
@@ -19,8 +17,8 @@ use Rattle.superframe.specs.Call.{memoryLength, inOrder}
 use Rattle.superframe.specs.Reset.{resetRefusal}
 use Rattle.superframe.specs.Contracts.{Fits, Ordered}
 use Rattle.superframe.proofs.Calls.{first-own, first-zero, ordered, in-order}
-use Rattle.cellmemory.specs.Contracts.{lengthRefusal, refusalThen}
-use Rattle.cellmemory.proofs.Chains.{refusal-is, then-stops, then-fits, then-goes-on}
+use Rattle.cellmemory.specs.Contracts.{refusalThen}
+use Rattle.cellmemory.proofs.Chains.{then-stops, then-fits, then-goes-on}
 use Rattle.holdfile.specs.declared.Form.{Form}
 use Rattle.holdfile.specs.Files.{fileOf, fileLength}
 use Rattle.holdfile.specs.Convert.{convertYield}
@@ -32,12 +30,6 @@ use Rattle.holdcalls.specs.Store.{heldOf, storeRefusal, storeOf}
 pub reset-then : (s : Scheme) (memory : List ℕ) → resetRefusal s memory ≡ refusalThen s memory true true 0
 unfolding resetRefusal refusalThen first
 reset-then s memory = refl
-
--- They are found by the sizes of the settings.
-pub reset-found : (s : Scheme) (memory : List ℕ) (z : Sizes) → z ≡ sizesOf (s .settings) → (n : ℕ) → n ≡ schemeRefusal s → (r : ℕ)
-    → r ≡ lengthRefusal n z (length memory) true true → r ≡ resetRefusal s memory
-reset-found s memory z e n f r g =
-    g ∙ refusal-is s z e n f memory true true true true (λ h. refl) (λ h. refl) ∙ sym (reset-then s memory)
 
 -- What is known where they give 0.
 module _ (s : Scheme) (memory : List ℕ) (n : ℕ) (g : n ≡ resetRefusal s memory) where

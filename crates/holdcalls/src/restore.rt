@@ -1,6 +1,6 @@
 // State and memory restored from a file. 02, S-7 and S-11.
-use crate::refusals::reset_refusal;
 use cellmemory::buffers::memory_buffer;
+use cellmemory::refusal::reset_refusal;
 use channels::tables::scheme_of;
 use holdfile::Form;
 use holdfile::digits::digit_or;

@@ -1,6 +1,6 @@
 // State and memory stored in a file. 02, S-7.
-use crate::refusals::reset_refusal;
 use cellmemory::refusal::in_order;
+use cellmemory::refusal::reset_refusal;
 use holdfile::Form;
 use holdfile::reading::file_bytes;
 use holdfile::writing::put_file;

@@ -1,9 +1,9 @@
 -- `reset_refusal` meets its contract. Assumes nothing.
 use borrow.Author.Needs.{needs}
 use Rattle.channels.specs.Scheme.{schemeOf}
-use Rattle.holdcalls.proofs.StoreCalls.{reset-found}
-use Rattle.holdcalls.proofs.refusals.reset_refusal.Statement.{statement}
-use Rattle.holdcalls.proofs.refusals.reset_refusal.Tie as tie
+use Rattle.cellmemory.proofs.Chains.{reset-found}
+use Rattle.cellmemory.proofs.refusal.reset_refusal.Statement.{statement}
+use Rattle.cellmemory.proofs.refusal.reset_refusal.Tie as tie
 
 returns : tie.Need-returns
 returns c = reset-found (schemeOf _ _) _ _ (c .before .sizes .ensures) _ (c .before .before .refusal-with .ensures) _ (c .length-refusal .ensures)
