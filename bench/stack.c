@@ -30,6 +30,9 @@ static uint8_t measured_kinds[DRM_FAC_CELLS], measured_bits[6 * DRM_FAC_CELLS];
 static float measured[2 * DRM_FAC_CELLS];
 static int16_t points[2 * DRM_FAC_CELLS];
 static uint8_t logical[DRM_MOST_MSC_BYTES / 3];
+static uint8_t new_file[DRM_MOST_NEW_HOLD_BYTES], old_file[DRM_MOST_OLD_HOLD_BYTES];
+static uint32_t of_files[DRM_HOLD_SIZES];
+static uint8_t table[DRM_TABLE_NUMBERS];
 static unsigned answer;
 
 /* Bodies of the threads. */
@@ -55,7 +58,6 @@ static void *call_reset(void *unused) {
 
 /* With the table of the last accepted reset. */
 static void *call_reset_table(void *unused) {
-    static uint8_t table[DRM_TABLE_NUMBERS];
     memcpy(table, state + sizeof state - sizeof table, sizeof table);
     answer = drm_reset_table(state, sizeof state, settings, sizeof settings, table, sizeof table, memory, sizes[5]);
     return unused;
@@ -113,6 +115,43 @@ static void *call_plan(void *unused) {
         memcpy(rule + 4, settings, DRM_SETTINGS_BYTES);
     }
     answer = drm_plan(rules, sizeof rules, 503999, of_plan, sizeof of_plan);
+    return unused;
+}
+
+/* The bytes of files, state and memory to files, a file to the other form, and state and memory back. */
+static void *call_hold_sizes(void *unused) {
+    answer = drm_hold_sizes(settings, sizeof settings, of_files, DRM_HOLD_SIZES);
+    return unused;
+}
+
+static void *call_store_old(void *unused) {
+    answer = drm_store_old(state, sizeof state, memory, sizes[5], old_file, of_files[0]);
+    return unused;
+}
+
+static void *call_store_new(void *unused) {
+    answer = drm_store_new(state, sizeof state, memory, sizes[5], new_file, of_files[1]);
+    return unused;
+}
+
+static void *call_to_old(void *unused) {
+    answer = drm_to_old(settings, sizeof settings, new_file, of_files[1], old_file, of_files[0]);
+    return unused;
+}
+
+static void *call_to_new(void *unused) {
+    answer = drm_to_new(settings, sizeof settings, old_file, of_files[0], new_file, of_files[1]);
+    return unused;
+}
+
+static void *call_restore_old(void *unused) {
+    answer = drm_restore_old(state, sizeof state, settings, sizeof settings, old_file, of_files[0], memory, sizes[5]);
+    return unused;
+}
+
+static void *call_restore_new_table(void *unused) {
+    answer = drm_restore_new_table(state, sizeof state, settings, sizeof settings, table, sizeof table, new_file,
+                                   of_files[1], memory, sizes[5]);
     return unused;
 }
 
@@ -245,6 +284,14 @@ static const struct {
     {"read_on", call_read_on},
     {"how_long", call_how_long},
     {"plan", call_plan},
+    {"reset", call_reset},
+    {"hold_sizes", call_hold_sizes},
+    {"store_old", call_store_old},
+    {"store_new", call_store_new},
+    {"to_old", call_to_old},
+    {"to_new", call_to_new},
+    {"restore_old", call_restore_old},
+    {"restore_new_table", call_restore_new_table},
 };
 
 enum { CALLS = sizeof calls / sizeof calls[0] };
