@@ -17,6 +17,10 @@ onAxis (w ∷ ws) v = sameNumber w v || onAxis ws v
 unfoldable pub isPoint : Constellation → ℤ → ℤ → Bool
 isPoint k re im = onAxis (k .real) re && onAxis (k .imaginary) im
 
+-- A cell is (0, 0).
+unfoldable pub isEmpty : ℤ → ℤ → Bool
+isEmpty re im = sameNumber (pos 0) re && sameNumber (pos 0) im
+
 -- Every cell of a flat list, real before imaginary, is a point of a constellation.
 unfoldable pub arePoints : Constellation → List ℤ → Bool
 arePoints k cells = every (table (λ j. onAxis (axis k j) (getD cells j (pos 0))) 0 (length cells))

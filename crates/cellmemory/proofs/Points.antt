@@ -17,17 +17,17 @@ use Rattle.lists.proofs.Tables.{table-ext}
 use Rattle.channels.specs.declared.Scheme.{Scheme}
 use Rattle.settings.specs.Lengths.{nMux}
 use Rattle.settings.specs.Sizes.{depth}
-use Rattle.block.specs.Points.{arePoints}
+use Rattle.block.specs.Points.{isEmpty, arePoints}
 use Rattle.block.specs.Block.{pointsOf}
 use Rattle.mapping.specs.declared.PointTest.{PointTest}
 use Rattle.cellbytes.specs.CellBytes.{numbers}
 use Rattle.cellbytes.proofs.CellBytes.{length-numbers, real-at, imaginary-at}
-use Rattle.mapping.specs.PointTests.{isBlank, cellPasses, pointsPass, allCells, pointsOnly}
+use Rattle.mapping.specs.PointTests.{cellPasses, pointsPass, allCells, pointsOnly}
 use Rattle.mapping.proofs.PointTests.{points-only}
 use Rattle.channels.specs.Fac.{facBlock}
 use Rattle.channels.specs.Sdc.{sdcConstellation, sdcBlock}
 use Rattle.channels.specs.Msc.{mscConstellation, mscBlock}
-use Rattle.superframe.specs.Call.{isEmpty, memoryCell}
+use Rattle.superframe.specs.Call.{memoryCell}
 use Rattle.superframe.specs.Read.{rowCell, rowPoints}
 use Rattle.cellmemory.proofs.Ring.{delay-even}
 
@@ -46,7 +46,7 @@ not-leb a b = go (below-or b a)
 module _ (s : Scheme) where
   memory-cell : (empties : Bool) (memory : List ℕ) (i : ℕ)
       → cellPasses (allCells (mscConstellation (s .settings .msc)) empties) (numbers memory) i ≡ memoryCell empties s memory i
-  unfolding cellPasses memoryCell isBlank isEmpty mscBlock pointsOf
+  unfolding cellPasses memoryCell isEmpty mscBlock pointsOf
   memory-cell empties memory i = rw (mod-one i, real-at memory i, imaginary-at memory i)
 
   pub memory-points : (empties : Bool) (n : ℕ) (memory : List ℕ) → length memory ≡ n

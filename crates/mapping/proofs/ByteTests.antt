@@ -13,11 +13,11 @@ use Rattle.lists.specs.Lists.{table}
 use Rattle.lists.specs.Same.{sameNumber}
 use Rattle.lists.proofs.Rules.{each, at}
 use Rattle.block.specs.Mapping.{coordinate, qam4, qam16, standard64, symmetric64, constellation}
-use Rattle.block.specs.Points.{onAxis, isPoint}
+use Rattle.block.specs.Points.{isEmpty, onAxis, isPoint}
 use Rattle.cellbytes.specs.CellBytes.{signed, realOf, imaginaryOf, numbers}
 use Rattle.cellbytes.specs.TwosComplement.{twosComplement}
 use Rattle.cellbytes.proofs.CellBytes.{real-at, imaginary-at}
-use Rattle.mapping.specs.PointTests.{isBlank, cellPasses, allCells}
+use Rattle.mapping.specs.PointTests.{cellPasses, allCells}
 use Rattle.mapping.specs.Contracts.{halfPasses, bytePasses, Reaches}
 
 -- two tests that agree below n, by one test that is computed
@@ -83,13 +83,13 @@ both-zero b = go (eqb b 0) refl (eqb (b / 16) 0) refl
     go false e true f = ne-eqb (b % 16) 0 (λ z. eqb-false b 0 e (omega (arith, eqb-true (b / 16) 0 f)))
     go false e false f = refl
 
-pub blank-byte : (b : ℕ) → b < 256 → isBlank (realOf b) (imaginaryOf b) ≡ eqb b 0
-unfolding isBlank realOf imaginaryOf
+pub blank-byte : (b : ℕ) → b < 256 → isEmpty (realOf b) (imaginaryOf b) ≡ eqb b 0
+unfolding isEmpty realOf imaginaryOf
 blank-byte b h = rw (half-zero (b / 16) (omega arith), half-zero (b % 16) (omega arith)) (both-zero b)
 
 -- what the code finds of a byte
 byte-axes : (c : ℕ) (blank : Bool) (top b : ℕ) → Reaches c top → b < 256
-    → bytePasses top blank b ≡ (blank && isBlank (realOf b) (imaginaryOf b)) || isPoint (constellation c) (realOf b) (imaginaryOf b)
+    → bytePasses top blank b ≡ (blank && isEmpty (realOf b) (imaginaryOf b)) || isPoint (constellation c) (realOf b) (imaginaryOf b)
 unfolding isPoint realOf imaginaryOf
 byte-axes c blank top b R h = rw (← blank-byte b h, R .real (b / 16) (omega arith), R .imaginary (b % 16) (omega arith))
 

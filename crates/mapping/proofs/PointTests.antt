@@ -22,9 +22,9 @@ use Rattle.lists.proofs.Tables.{table-ext}
 use Rattle.lists.proofs.Bools.{never-both}
 use Rattle.lists.proofs.Same.{sameNumber-refl, sameNumber-true}
 use Rattle.block.specs.Mapping.{coordinate, qam4, qam16, standard64, symmetric64, constellation, axis}
-use Rattle.block.specs.Points.{onAxis, isPoint, arePoints}
+use Rattle.block.specs.Points.{isEmpty, onAxis, isPoint, arePoints}
 use Rattle.mapping.specs.declared.PointTest.{PointTest}
-use Rattle.mapping.specs.PointTests.{isBlank, cellPasses, pointsPass, pointsOnly}
+use Rattle.mapping.specs.PointTests.{cellPasses, pointsPass, pointsOnly}
 use Rattle.mapping.specs.Contracts.{inTable, Holds}
 use Rattle.mapping.proofs.Coordinates.{fitting, fitting-at, axis-even, axis-odd}
 use Rattle.mapping.proofs.Labels.{None, coordinates-all}
@@ -134,7 +134,7 @@ zero-bits v f = go (sameNumber (pos 0) v) refl
 -- what the code finds of cell i
 pub cell-read : (test : PointTest) (cells : List ℤ) (i delay : ℕ) (known : List ℤ) (r : Bool) → Holds (test .constellation) known → delay ≡ i % test .depth
     → mag (getD cells (2 * i) (pos 0)) < 2 ^ 15 → mag (getD cells (2 * i + 1) (pos 0)) < 2 ^ 15
-    → r ≡ (test .blank && isBlank (toZ w16 (ofZ w16 (getD cells (2 * i) (pos 0)))) (toZ w16 (ofZ w16 (getD cells (2 * i + 1) (pos 0)))))
+    → r ≡ (test .blank && isEmpty (toZ w16 (ofZ w16 (getD cells (2 * i) (pos 0)))) (toZ w16 (ofZ w16 (getD cells (2 * i + 1) (pos 0)))))
     || (inTable known (toZ w16 (ofZ w16 (getD cells (2 * i) (pos 0)))) && inTable known (toZ w16 (ofZ w16 (getD cells (2 * i + 1) (pos 0)))))
     → (ltb (test .count) delay || r) ≡ cellPasses test cells i
 unfolding cellPasses isPoint

@@ -6,22 +6,17 @@ use lib.ListN.{length, getD}
 use lib.IntN.{ℤ, pos}
 use lib.Dec.{ltb}
 use Rattle.lists.specs.Lists.{table}
-use Rattle.lists.specs.Same.{sameNumber}
 use Rattle.lists.specs.Bools.{every}
 use Rattle.block.specs.Mapping.{constellation}
-use Rattle.block.specs.Points.{isPoint}
+use Rattle.block.specs.Points.{isEmpty, isPoint}
 use Rattle.mapping.specs.declared.PointTest.{PointTest}
-
--- The cell (0, 0).
-unfoldable pub isBlank : ℤ → ℤ → Bool
-isBlank re im = sameNumber (pos 0) re && sameNumber (pos 0) im
 
 -- Cell i passes: it is ignored, its delay being above the count; or it is (0, 0) where such cells pass; or it is a point.
 unfoldable pub cellPasses : PointTest → List ℤ → ℕ → Bool
 cellPasses test cells i =
     let re = getD cells (2 * i) (pos 0) in
     let im = getD cells (2 * i + 1) (pos 0) in
-    ltb (test .count) (i % test .depth) || ((test .blank && isBlank re im) || isPoint (constellation (test .constellation)) re im)
+    ltb (test .count) (i % test .depth) || ((test .blank && isEmpty re im) || isPoint (constellation (test .constellation)) re im)
 
 -- Every cell passes.
 unfoldable pub pointsPass : PointTest → List ℤ → Bool

@@ -5,7 +5,8 @@ ghost use mathlib.Core.Path.{_≡_};
 ghost use mathlib.Core.Bool.{_&&_, _||_};
 ghost use Prim.Native.Nat.{_+_, _%_, _<_};
 ghost use Rattle.cellbytes.specs.CellBytes.{numbers};
-ghost use Rattle.mapping.specs.PointTests.{isBlank, pointsPass, allCells};
+ghost use Rattle.block.specs.Points.{isEmpty};
+ghost use Rattle.mapping.specs.PointTests.{pointsPass, allCells};
 ghost use Rattle.mapping.specs.Contracts.{inTable, Holds, halfPasses, bytePasses, Reaches};
 
 // The coordinates of an axis by their four lowest binary digits; 1 stands where there is none, since a number with those digits isn't 1.
@@ -37,7 +38,7 @@ fn is_coordinate(known: &[i16; 16], v: i16) -> bool
 
 // A cell is a point, or (0, 0) where such cells pass.
 fn cell_passes(known: &[i16; 16], blank: bool, re: i16, im: i16) -> bool
-    ensures { λ r. ⌜ r ≡ (blank && isBlank re im) || (inTable (now (known .entry)) re && inTable (now (known .entry)) im) ⌝ }
+    ensures { λ r. ⌜ r ≡ (blank && isEmpty re im) || (inTable (now (known .entry)) re && inTable (now (known .entry)) im) ⌝ }
 {
     (blank & ((re == 0) & (im == 0))) | (is_coordinate(known, re) & is_coordinate(known, im))
 }

@@ -19,11 +19,11 @@ use Rattle.settings.specs.Lengths.{nMux}
 use Rattle.settings.specs.Sizes.{depth}
 use Rattle.block.specs.Block.{cellsOf, pointsOf, bitCount}
 use Rattle.lists.specs.Bools.{every}
-use Rattle.block.specs.Points.{isPoint}
+use Rattle.block.specs.Points.{isEmpty, isPoint}
 use Rattle.channels.specs.Msc.{mscBlock}
 use Rattle.superframe.specs.Memory.{slotSize, numberIn, startFrame}
 use Rattle.superframe.specs.Interleaving.{Progress, sentPlace, delay, slotBefore}
-use Rattle.superframe.specs.Call.{part, joined, memoryLength, isEmpty, memoryCell}
+use Rattle.superframe.specs.Call.{part, joined, memoryLength, memoryCell}
 use Rattle.superframe.specs.Reset.{startMemory}
 use Rattle.superframe.specs.Code.{stateOf}
 use Rattle.superframe.specs.Contracts.{Ordered}

@@ -23,7 +23,7 @@ use Rattle.settings.specs.Cells.{facCells}
 use Rattle.settings.specs.Lengths.{nMux, nSfa}
 use Rattle.settings.specs.Sizes.{depth}
 use Rattle.block.specs.Mapping.{constellation, coordinate, qam4, qam16, standard64, symmetric64}
-use Rattle.block.specs.Points.{onAxis, isPoint}
+use Rattle.block.specs.Points.{isEmpty, onAxis, isPoint}
 use Rattle.block.specs.declared.Block.{Block}
 use Rattle.block.specs.Block.{pointsOf}
 use Rattle.channels.specs.declared.Scheme.{Scheme}
@@ -34,7 +34,7 @@ use Rattle.channels.specs.Msc.{mscBlock}
 use Rattle.superframe.specs.declared.State.{State}
 use Rattle.superframe.specs.Memory.{slotSize, replaced}
 use Rattle.superframe.specs.Interleaving.{Progress, advanced, delay, slotBefore, sentPlace, fillers, takenFrom, taken, finishedBy, afterRows, finishedFrames}
-use Rattle.superframe.specs.Call.{part, parts, isEmpty}
+use Rattle.superframe.specs.Call.{part, parts}
 use Rattle.superframe.specs.Code.{byteLengths, cellLengths, progressOf}
 use Rattle.superframe.specs.Read.{ReadCall, rowsOf, fillersOf, countAt, rowCell, rowPoints, pointTests, givenTests, orderRefusal, answerOf, readAccepted, readRefused, readOf}
 use Rattle.superframe.specs.Runs.{SuperFrame, Run, bits, cells}

@@ -19,7 +19,7 @@ use Rattle.settings.specs.Lengths.{nMux}
 use Rattle.settings.specs.Sizes.{depth, frameBytes, sdcBytes}
 use Rattle.block.specs.declared.Block.{Block}
 use Rattle.block.specs.Block.{pointsOf}
-use Rattle.block.specs.Points.{isPoint, arePoints}
+use Rattle.block.specs.Points.{isEmpty, isPoint, arePoints}
 use Rattle.lists.specs.Same.{sameNumbers}
 use Rattle.block.specs.Reading.{given, bytesRead}
 use Rattle.channels.specs.declared.Scheme.{Scheme}
@@ -29,7 +29,7 @@ use Rattle.channels.specs.Msc.{mscBlock}
 use Rattle.superframe.specs.declared.State.{State}
 use Rattle.superframe.specs.Memory.{slotSize}
 use Rattle.superframe.specs.Interleaving.{Progress, delay, advanced, takenFrom, taken, afterRows, finishedFrames, fillers}
-use Rattle.superframe.specs.Call.{part, parts, joined, facBytes, isEmpty, memoryCell}
+use Rattle.superframe.specs.Call.{part, parts, joined, facBytes, memoryCell}
 use Rattle.superframe.specs.Contracts.{Ordered, ReadOnFits}
 use Rattle.superframe.specs.Code.{progressOf}
 use Rattle.superframe.specs.Read.{ReadCall, answerNumber, rowsOf, fillersOf, rowCell, rowPoints, countAt, orderRefusal, pointTests, givenTests, handedOut, readAccepted, readOf}

@@ -22,12 +22,12 @@ use Rattle.settings.specs.Cells.{facCells}
 use Rattle.settings.specs.Lengths.{nMux}
 use Rattle.settings.specs.Sizes.{depth}
 use Rattle.block.specs.Block.{pointsOf}
-use Rattle.block.specs.Points.{isPoint}
+use Rattle.block.specs.Points.{isEmpty, isPoint}
 use Rattle.channels.specs.declared.Scheme.{Scheme}
 use Rattle.channels.specs.Msc.{mscBlock}
 use Rattle.superframe.specs.Memory.{slotSize}
 use Rattle.superframe.specs.Interleaving.{sentPlace, delay}
-use Rattle.superframe.specs.Call.{part, parts, isEmpty}
+use Rattle.superframe.specs.Call.{part, parts}
 use Rattle.superframe.specs.Read.{rowsOf}
 use Rattle.superframe.specs.ReadOn.{keptNumber, keptCells}
 use Rattle.superframe.specs.Runs.{SuperFrame}

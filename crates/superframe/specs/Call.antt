@@ -3,16 +3,14 @@ use Prim.Native.Nat.{ℕ, _*_}
 use mathlib.Core.Bool.{Bool, _&&_, _||_}
 use mathlib.Core.List.{List, [], _∷_, _++_}
 use lib.ListN.{getD, take, drop}
-use lib.IntN.{ℤ, pos}
 use lib.Dec.{ltb}
 use Rattle.lists.specs.Lists.{table}
 use Rattle.cellbytes.specs.CellBytes.{realOf, imaginaryOf}
 use Rattle.settings.specs.declared.Settings.{Settings}
 use Rattle.settings.specs.Lengths.{nMux}
 use Rattle.settings.specs.Sizes.{depth}
-use Rattle.lists.specs.Same.{sameNumber}
 use Rattle.lists.specs.Bools.{every}
-use Rattle.block.specs.Points.{isPoint}
+use Rattle.block.specs.Points.{isEmpty, isPoint}
 use Rattle.block.specs.Block.{pointsOf}
 use Rattle.channels.specs.declared.Scheme.{Scheme}
 use Rattle.channels.specs.Msc.{mscBlock}
@@ -42,10 +40,6 @@ facNumbers = 130
 -- The bytes that memory must have.
 unfoldable pub memoryLength : Settings → ℕ
 memoryLength s = depth s * nMux s
-
--- An empty cell is (0, 0).
-unfoldable pub isEmpty : ℤ → ℤ → Bool
-isEmpty re im = sameNumber (pos 0) re && sameNumber (pos 0) im
 
 -- Refusal 12: position or count above 4 (above 0 in short), or a memory cell that is no MSC point. 02 S-5: an empty cell passes only where it is told so, which Code and Read do not.
 unfoldable pub memoryCell : Bool → Scheme → List ℕ → ℕ → Bool

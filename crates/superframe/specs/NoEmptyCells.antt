@@ -9,7 +9,7 @@ use Rattle.settings.specs.declared.Settings.{Settings}
 use Rattle.settings.specs.Cells.{facCells}
 use Rattle.settings.specs.Lengths.{nMux, nSdc}
 use Rattle.settings.specs.Sizes.{depth}
-use Rattle.block.specs.Points.{isPoint}
+use Rattle.block.specs.Points.{isEmpty, isPoint}
 use Rattle.block.specs.Block.{pointsOf}
 use Rattle.channels.specs.declared.Scheme.{Scheme}
 use Rattle.channels.specs.Fac.{facBlock}
@@ -18,7 +18,7 @@ use Rattle.channels.specs.Msc.{mscBlock}
 use Rattle.superframe.specs.declared.State.{State}
 use Rattle.superframe.specs.Memory.{slotSize}
 use Rattle.superframe.specs.Interleaving.{delay, fillers}
-use Rattle.superframe.specs.Call.{part, isEmpty}
+use Rattle.superframe.specs.Call.{part}
 use Rattle.superframe.specs.Code.{cellLengths}
 use Rattle.superframe.specs.Read.{ReadCall, fillersOf, countAt, readOf}
 use Rattle.superframe.specs.Runs.{SuperFrame, Run, cells}

@@ -2,13 +2,13 @@
 use borrow.Author.Needs.{needs}
 use mir.Syntax.{w16}
 use mir.Facts.{toZ-ofZ}
-use Rattle.mapping.specs.PointTests.{isBlank}
+use Rattle.block.specs.Points.{isEmpty}
 use Rattle.mapping.proofs.PointTests.{zero-bits}
 use Rattle.mapping.proofs.tests.cell_passes.Statement.{statement}
 use Rattle.mapping.proofs.tests.cell_passes.Tie as tie
 
 returns : tie.Need-returns
-unfolding isBlank
+unfolding isEmpty
 returns c =
     let start = c .before .before in
     rw (
