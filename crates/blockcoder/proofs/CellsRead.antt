@@ -15,7 +15,7 @@ use Rattle.block.specs.Dispersal.{dispersed, dispersedParts}
 use Rattle.block.specs.Mapping.{constellation}
 use Rattle.block.specs.Block.{levelsOf, pointsOf, oneAxis}
 use Rattle.mapping.specs.Contracts.{Unmaps}
-use Rattle.multilevel.specs.Contracts.{bitsBefore, digitAt, ReadsLevels}
+use Rattle.multilevel.specs.Contracts.{BlockOrder, bitsBefore, digitAt, ReadsLevels}
 use Rattle.multilevel.proofs.Totals.{all-bits, count-is, three, fits-level}
 use Rattle.blockcoder.specs.Contracts.{ReadsCells, CellsRead, ReadsCandidate}
 use Rattle.block.proofs.Dispersal.{length-dispersed}
@@ -28,12 +28,13 @@ digits-low false s l h k = omega arith
 
 module _ {k : Block} {cells : List ℤ} {a b : List ℕ} (R : ReadsCells k cells a b) where
   -- the levels can be read from the labels of the block's coordinates
-  pub reads-both : {labels p : List ℕ} → labels ≡ p → length p ≡ length cells → ReadsLevels k labels a b
-  reads-both {labels} g h =
+  pub reads-both : {order labels p : List ℕ} → BlockOrder k order → labels ≡ p → length p ≡ length cells → ReadsLevels k order labels a b
+  reads-both {order} {labels} O g h =
       let F = R .fits in
       let e : length labels ≡ 2 * k .cells = rw g (h ∙ R .long) in
       let half : 2 * k .cells / 2 ≡ k .cells = omega arith in
       record {
+        ordered = λ l m n f. O .each l m n (rw (e, half) at f);
         few = F .few;
         room = F .room;
         fits = λ l m. rw (e, half) (fits-level F l m);

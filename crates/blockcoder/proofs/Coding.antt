@@ -23,7 +23,7 @@ use Rattle.block.specs.Mapping.{constellation, labelAt, mapped, weave, woven}
 use Rattle.mapping.specs.Labels.{coordinates}
 use Rattle.mapping.specs.Contracts.{ThreeBits}
 use Rattle.block.specs.Block.{levelsOf, pointsOf, oneAxis, bitCount, streamsOf, cellsOf, cellsFrom}
-use Rattle.multilevel.specs.Contracts.{bitsBefore, streamAt, stepped, CodesLevels}
+use Rattle.multilevel.specs.Contracts.{bitsBefore, streamAt, stepped, BlockOrder, CodesLevels}
 use Rattle.multilevel.proofs.Totals.{total-A, all-bits, streams-are, count-is, three, codes-levels, length-streamAt, number-low}
 use Rattle.block.proofs.Lists.{bits-take}
 use Rattle.block.proofs.Packing.{length-unpacked}
@@ -56,8 +56,8 @@ module _ {k : Block} {a b : List ℕ} {out : List ℤ} (C : CodesParts k a b out
   few = omega (arith, sym (count-is (C .fits)) ∙ rw one at (C .fits .levels), three (C .fits))
 
   -- they can be coded
-  pub codes-both : {labels : List ℕ} → length labels ≡ length out → CodesLevels (k .levels) 0 1 (k .count) a b labels
-  codes-both e = codes-levels (C .fits) (C .parts) both out-low (C .inputA) (C .inputB) 1 0 (k .count) (omega arith) (omega arith) (omega arith) few (omega arith) e
+  pub codes-both : {order labels : List ℕ} → BlockOrder k order → length labels ≡ length out → CodesLevels (k .levels) 0 1 (k .count) order a b labels
+  codes-both O e = codes-levels (C .fits) (C .parts) both out-low (C .inputA) (C .inputB) O 1 0 (k .count) (omega arith) (omega arith) (omega arith) few (omega arith) e
 
   module _ {labels : List ℕ} (e : labels ≡ table (labelAt (stepped (streamAt (k .levels) a b) 0 1 (k .count))) 0 (length out)) where
     same-count : length labels ≡ length out
@@ -99,9 +99,9 @@ module _ {k : Block} {a b : List ℕ} {out : List ℤ} (C : CodesParts k a b out
   twice = omega (arith, count)
 
   -- those of the real axis can be coded, and those of the imaginary one
-  pub codes-axis : {labels : List ℕ} (l : ℕ) → l ≤ 1 → length labels ≡ k .cells → CodesLevels (k .levels) l 2 (k .count / 2) a b labels
-  codes-axis l h e =
-      codes-levels (C .fits) (C .parts) axis cells-low (C .inputA) (C .inputB) 2 l (k .count / 2) (omega arith) (omega arith) h pairs (omega (arith, twice)) e
+  pub codes-axis : {order labels : List ℕ} → BlockOrder k order → (l : ℕ) → l ≤ 1 → length labels ≡ k .cells → CodesLevels (k .levels) l 2 (k .count / 2) order a b labels
+  codes-axis O l h e =
+      codes-levels (C .fits) (C .parts) axis cells-low (C .inputA) (C .inputB) O 2 l (k .count / 2) (omega arith) (omega arith) h pairs (omega (arith, twice)) e
 
   module _ {re im : List ℕ}
       (e : re ≡ table (labelAt (stepped (streamAt (k .levels) a b) 0 2 (k .count / 2))) 0 (k .cells))

@@ -12,17 +12,19 @@ ghost use Prim.Native.Nat.{_≤_};
 ghost use lib.ListN.{length};
 ghost use Rattle.block.specs.Dispersal.{dispersedParts};
 ghost use Rattle.block.specs.Reading.{candidate};
+ghost use Rattle.multilevel.specs.Contracts.{BlockOrder};
 ghost use Rattle.blockcoder.specs.Contracts.{ReadsCells, CellsRead, ReadsCandidate};
 
 // All levels read from cells.
-fn read_cells(k: Block, cells: &[i16], a: &mut [u8], b: &mut [u8])
+fn read_cells(k: Block, places: &[u16], cells: &[i16], a: &mut [u8], b: &mut [u8])
     requires { ⌜ ReadsCells k (now cells) (now a) (now b) ⌝ }
+    requires { ⌜ BlockOrder k (now places) ⌝ }
     ensures { λ r. ⌜ CellsRead k (now (cells .entry)) (now (a .exit)) (now (b .exit)) ⌝ }
 {
     let mut labels = cell_buffer();
     let n = cells.len();
     unmap_cells(k.constellation, cells, &mut labels[0..n]);
-    read_levels(k, &labels[0..n], a, b);
+    read_levels(k, places, &labels[0..n], a, b);
 }
 
 // The first `vspp` bits and the others, dispersed each from the sequence's start.
@@ -35,14 +37,15 @@ fn disperse_parts(vspp: usize, bits: &mut [u8])
 }
 
 // The candidate: part A's bits are read to the front, part B's come through a buffer of their own.
-pub fn candidate_bits(k: Block, cells: &[i16], bits: &mut [u8])
+pub fn candidate_bits(k: Block, places: &[u16], cells: &[i16], bits: &mut [u8])
     requires { ⌜ ReadsCandidate k (now cells) (now bits) ⌝ }
+    requires { ⌜ BlockOrder k (now places) ⌝ }
     ensures { λ r. ⌜ now (bits .exit) ≡ candidate k (now (cells .entry)) ⌝ }
 {
     let mut b = bit_buffer();
     let front = bits_before(k, false, k.count);
     let rest = bits_before(k, true, k.count);
-    read_cells(k, cells, &mut bits[0..front], &mut b[0..rest]);
+    read_cells(k, places, cells, &mut bits[0..front], &mut b[0..rest]);
     copy(&b[0..rest], &mut bits[front..]);
     disperse_parts(k.vspp, bits);
 }

@@ -9,6 +9,7 @@ use lib.ListN.{length, take, drop, length-drop}
 use lib.IntN.{ℤ}
 use lib.Seq.{length-sets, length-take-le, drop-length}
 use borrow.Rule.Slice.PartMut.{putMid, post-is}
+use Rattle.multilevel.specs.Contracts.{BlockOrder}
 use Rattle.lists.specs.Lists.{table}
 use Rattle.lists.specs.Buffers.{Long}
 use Rattle.lists.proofs.Tables.{length-table, table-add, map-table}
@@ -157,6 +158,11 @@ module _ (state : State) (msc : List ℕ) (memory₀ : List ℕ) (cells₀ : Lis
     -- Frame i and its row lie within their buffers.
     pub coding-within : i < 3 → (len * i + len ≤ length msc) × (n * i + n ≤ length cells)
     coding-within h = (part-within len i 3 (length msc) h (w .lent .input ∙ rw (w .bytes-are)), part-below n i 3 (length cells) h rows-within)
+
+    -- every frame has the same places
+    pub coding-order : {order : List ℕ} → BlockOrder (mscBlock (state .scheme)) order → BlockOrder (mscBlock (after .scheme)) order
+    unfolding stateOf
+    coding-order O = let e : after .scheme ≡ state .scheme = ap (λ (x : State). x .scheme) (w .state-is) in rw e O
 
     settings-are : after .scheme .settings ≡ state .scheme .settings
     unfolding stateOf

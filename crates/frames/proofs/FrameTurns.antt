@@ -26,6 +26,7 @@ use Rattle.block.specs.declared.Block.{Block}
 use Rattle.block.specs.Reading.{given, bytesRead}
 use Rattle.block.specs.Fits.{BlockLent}
 use Rattle.channels.proofs.Lent.{msc-lent}
+use Rattle.multilevel.specs.Contracts.{BlockOrder}
 use Rattle.blockcoder.specs.declared.Found.{Found}
 use Rattle.blockcoder.specs.declared.Found.the-variants.{Given, NoBits}
 use Rattle.blockcoder.specs.Contracts.{BlockRead, foundOf}
@@ -331,6 +332,11 @@ module _ (state : State) (msc : List ℤ) (memory₀ out₀ : List ℕ) (n : ℕ
     settings-are : after .scheme .settings ≡ state .scheme .settings
     unfolding stateOf
     settings-are = ap (λ (x : State). x .scheme .settings) (w .state-is)
+
+    -- Every frame has the same places.
+    pub row-order : {order : List ℕ} → BlockOrder (mscBlock (state .scheme)) order → BlockOrder (mscBlock (after .scheme)) order
+    unfolding stateOf
+    row-order O = let e : after .scheme ≡ state .scheme = ap (λ (x : State). x .scheme) (w .state-is) in rw e O
 
     -- Row i lies within the cells, and can be taken.
     pub row-within : i < 3 → n * i + n ≤ length msc

@@ -3,46 +3,62 @@ use crate::Frames;
 use block::Block;
 use block::buffers::coordinate_buffer;
 use blockcoder::Found;
-use blockcoder::read::read_block;
+use blockcoder::read::read_ordered;
 use cellbytes::cells::to_numbers;
 use cellmemory::rows::next_state;
 use cellmemory::rows::slot_size;
 use cellmemory::rows::take_row;
 use channels::Scheme;
 use channels::blocks::msc_block;
+use multilevel::tables::block_places;
+use multilevel::tables::place_buffer;
 use settings::answers;
 use superframe::State;
 ghost use Rattle.cellbytes.specs.CellBytes.{numbers};
 ghost use Rattle.block.specs.Fits.{BlockLent};
 ghost use Rattle.channels.specs.Msc.{mscBlock};
+ghost use Rattle.multilevel.specs.Contracts.{BlockOrder};
 ghost use Rattle.frames.specs.Contracts.{SlotLent, FinishLent, FrameFinished, RowsLent, RowsRead, GivenRead};
 
-// Whether bits give a block's cells; its bytes are written then.
-pub fn read_given(k: Block, cells: &[i16], bytes: &mut [u8]) -> bool
+// Whether bits give a block's cells, by the places of its coded bits; its bytes are written then.
+fn given_ordered(k: Block, places: &[u16], cells: &[i16], bytes: &mut [u8]) -> bool
     requires { ⌜ BlockLent k (now bytes) (now cells) ⌝ }
+    requires { ⌜ BlockOrder k (now places) ⌝ }
     ensures { λ r. ⌜ GivenRead k (now (cells .entry)) (now (bytes .entry)) r (now (bytes .exit)) ⌝ }
 {
-    let found = read_block(k, cells, bytes);
+    let found = read_ordered(k, places, cells, bytes);
     if let Found::Given = found {
         return true;
     }
     false
 }
 
-// The same of a frame whose cells stand in a slot of memory.
-fn read_slot(s: Scheme, slot: &[u8], bytes: &mut [u8]) -> bool
+// The same, with places of its own.
+pub fn read_given(k: Block, cells: &[i16], bytes: &mut [u8]) -> bool
+    requires { ⌜ BlockLent k (now bytes) (now cells) ⌝ }
+    ensures { λ r. ⌜ GivenRead k (now (cells .entry)) (now (bytes .entry)) r (now (bytes .exit)) ⌝ }
+{
+    let mut places = place_buffer();
+    block_places(k, &mut places);
+    given_ordered(k, &places, cells, bytes)
+}
+
+// The same of a frame whose cells stand in a slot of memory, by the places lent.
+fn read_slot(s: Scheme, places: &[u16], slot: &[u8], bytes: &mut [u8]) -> bool
     requires { ⌜ SlotLent s (now slot) (now bytes) ⌝ }
+    requires { ⌜ BlockOrder (mscBlock s) (now places) ⌝ }
     ensures { λ r. ⌜ GivenRead (mscBlock s) (numbers (now (slot .entry))) (now (bytes .entry)) r (now (bytes .exit)) ⌝ }
 {
     let mut frame = coordinate_buffer();
     let n = 2 * slot.len();
     to_numbers(slot, &mut frame[0..n]);
-    read_given(msc_block(s), &frame[0..n], bytes)
+    given_ordered(msc_block(s), places, &frame[0..n], bytes)
 }
 
 // After a row: the frame that it finished, if any, read into its place. Its cells stand in the slot that is written next.
-fn read_finished(frames: Frames, memory: &[u8], out: &mut [u8]) -> Frames
+fn read_finished(frames: Frames, places: &[u16], memory: &[u8], out: &mut [u8]) -> Frames
     requires { ⌜ FinishLent frames (now memory) (now out) ⌝ }
+    requires { ⌜ BlockOrder (mscBlock (frames .after .scheme)) (now places) ⌝ }
     ensures { λ r. ⌜ FrameFinished frames (now (memory .entry)) (now (out .entry)) r (now (out .exit)) ⌝ }
 {
     let state = frames.after;
@@ -62,6 +78,7 @@ fn read_finished(frames: Frames, memory: &[u8], out: &mut [u8]) -> Frames
     let at = after.position as usize * n;
     given[k] = read_slot(
         s,
+        places,
         &memory[at..at + n],
         &mut out[bytes * k..bytes * k + bytes],
     );
@@ -72,12 +89,14 @@ fn read_finished(frames: Frames, memory: &[u8], out: &mut [u8]) -> Frames
     }
 }
 
-// Three rows taken into memory, and each frame that they finish read right after its row: the next row overwrites its slot.
+// Three rows taken into memory, and each frame that they finish read right after its row: the next row overwrites its slot. The frames have the same places.
 pub fn read_rows(state: State, msc: &[i16], memory: &mut [u8], out: &mut [u8]) -> Frames
     requires { ⌜ RowsLent state (now msc) (now memory) (now out) ⌝ }
     ensures { λ r. ⌜ RowsRead state (now (msc .entry)) (now (memory .entry)) r (now (memory .exit)) (now (out .exit)) ⌝ }
 {
     let n = slot_size(state.scheme.settings);
+    let mut places = place_buffer();
+    block_places(msc_block(state.scheme), &mut places);
     let mut frames = Frames {
         given: [true; 3],
         finished: 0,
@@ -86,7 +105,7 @@ pub fn read_rows(state: State, msc: &[i16], memory: &mut [u8], out: &mut [u8]) -
     let mut i = 0;
     while i < 3 {
         take_row(frames.after, &msc[n * i..n * i + n], memory);
-        frames = read_finished(frames, memory, out);
+        frames = read_finished(frames, &places, memory, out);
         i += 1;
     }
     frames

@@ -1,13 +1,13 @@
 -- A part's bits with their weight in as many labels: added, interleaved or as they are, and taken out. Assumes nothing.
 use Prim.Native.Nat.{ℕ, _+_, _*_, _<_}
-use mathlib.Core.Path.{_≡_, sym, _∙_}
+use mathlib.Core.Path.{_≡_}
 use mathlib.Core.List.{List}
 use native.Mathlib.Omega.{arith}
-use lib.ListN.{length, getD}
+use lib.ListN.{getD}
 use borrow.Author.Tests.{ne-eqb}
 use Rattle.interleaver.specs.Interleaving.{interleaved}
 use Rattle.interleaver.specs.Deinterleaving.{Cycles, deinterleaved}
-use Rattle.labels.specs.Contracts.{Adds, AddsPart, Takes, TakesPart}
+use Rattle.labels.specs.Contracts.{AddsPart}
 use Rattle.lists.proofs.Tables.{Filled}
 use Rattle.labels.proofs.Weights.{weighed-le}
 use Rattle.block.specs.Levels.{mixed}
@@ -25,23 +25,6 @@ cycles (plain e) p q = absurd (p e)
 cycles (empty e) p q = absurd (q e)
 cycles (cycle c) p q = c
 
--- what adding interleaved bits requires, where they are interleaved and not none
-pub adds : {t w : ℕ} {bits d : List ℕ} → AddsPart t w bits d → (t ≡ 0 → ⊥) → (length bits ≡ 0 → ⊥) → Adds t w bits d
-adds R p q =
-    record {
-      lends = record {
-        fits = record {
-          cycles = rw (R .same) (cycles (R .mixes) p (λ e. q (R .same ∙ e)));
-          high = omega (arith, R .room .high, R .same);
-          small = R .room .small;
-        };
-        same = sym (R .same);
-      };
-      few = omega (arith, R .room .high, R .same);
-      bit = R .input .bit;
-      room = R .room .sums;
-    }
-
 module _ (t : ℕ) (v : List ℕ) where
   -- a part's bits where t is 0, and where it is not
   pub mixed-plain : t ≡ 0 → mixed t v ≡ v
@@ -51,15 +34,6 @@ module _ (t : ℕ) (v : List ℕ) where
   pub mixed-cycle : (t ≡ 0 → ⊥) → mixed t v ≡ interleaved 0 t v
   unfolding mixed
   mixed-cycle p = rw (ne-eqb t 0 p)
-
--- what taking them out requires
-pub takes : {t w : ℕ} {labels out : List ℕ} → TakesPart t w labels out → (t ≡ 0 → ⊥) → (length labels ≡ 0 → ⊥) → Takes t w labels out
-takes R p q =
-    record {
-      lends = record { fits = record { cycles = cycles (R .mixes) p q; high = omega (arith, R .high); small = R .small }; same = R .same };
-      few = R .high;
-      weighs = R .weighs;
-    }
 
 -- a part's bits put back where t is 0, and where it is not
 module _ (t : ℕ) (v : List ℕ) where

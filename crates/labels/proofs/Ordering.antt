@@ -1,21 +1,21 @@
 -- Bits gathered and scattered by the table of their places: interleaved, and put back. Assumes nothing.
-use Prim.Native.Nat.{ℕ, zero, suc, _+_, _*_, _-_, _≤_, _<_}
+use Prim.Native.Nat.{ℕ, zero, suc, _+_, _*_, _≤_, _<_}
 use mathlib.Core.Path.{_≡_, refl, sym, ap, _∙_}
-use mathlib.Core.List.{List, [], _∷_, _++_, append-assoc}
+use mathlib.Core.List.{List, [], _∷_}
 use native.Mathlib.Nat.{suc-add}
 use native.Mathlib.Omega.{arith}
-use lib.ListN.{length, getD, set, take, drop, length-set, length-append}
-use lib.Seq.{take-at}
+use lib.ListN.{length, getD, set, drop, length-set}
 use Rattle.lists.specs.Lists.{table}
 use Rattle.lists.proofs.Tables.{length-table, getD-table, table-ext, Filled}
-use Rattle.lists.proofs.Parts.{from-start}
 use Rattle.interleaver.specs.Interleaving.{place, interleaved}
 use Rattle.interleaver.specs.Deinterleaving.{Cycles, Interleaves, putBack, deinterleaved}
 use Rattle.interleaver.specs.Tables.{places}
 use Rattle.interleaver.proofs.Places.{place-low}
 use Rattle.interleaver.proofs.Interleaving.{put-back-any}
-use Rattle.block.specs.Reading.{taken}
-use Rattle.labels.specs.Contracts.{added, gathered, scattered, Within, Gathers, Scatters, Adds, Takes}
+use Rattle.block.specs.Reading.{taken, unmixed}
+use Rattle.labels.specs.Contracts.{added, gathered, scattered, Within, Gathers, Scatters, AddsPart, TakesPart, Ordered}
+use Rattle.block.specs.Levels.{mixed}
+use Rattle.labels.proofs.Mixing.{cycles, mixed-cycle, unmixed-cycle}
 use Rattle.labels.proofs.Weights.{weighed-le, taken-length}
 
 -- the places of a part's bits
@@ -31,14 +31,6 @@ places-within {t} {n} c l e =
       low = λ i h. rw (getD-table 0 (place t n) n i (omega (arith, places-length t n, h)), e) (place-low t n (c .cycles) i);
       high = omega (arith, e, c .high);
     }
-
--- the front of a buffer into which they were made
-pub places-made : (t n : ℕ) (part rest : List ℕ) → part ≡ places t n ++ (0 ∷ []) → take (n - 0) (part ++ rest) ≡ places t n
-places-made t n part rest e =
-    rw (e, from-start n, append-assoc (places t n) (0 ∷ []) rest) (take-at (places t n) ((0 ∷ []) ++ rest) n (places-length t n))
-
-pub places-room : (t n : ℕ) (part rest : List ℕ) → part ≡ places t n ++ (0 ∷ []) → n ≤ length (part ++ rest)
-places-room t n part rest e = rw (e, length-append, length-append) (omega (arith, places-length t n))
 
 -- the place of an element
 pub within-low : {ps l : List ℕ} → Within ps l → (i : ℕ) → i < length l → getD ps i 0 < length l
@@ -104,35 +96,39 @@ pub scattering-end : {ps values d out : List ℕ} {i : ℕ} → length ps ≤ i 
 unfolding scattered
 scattering-end {ps} {values} {d} {out} {i} h w = rw (drop-all ps i h) at (w .left)
 
--- what gathering and scattering by these places require
-pub adds-gathers : {t w : ℕ} {bits d : List ℕ} → Adds t w bits d → Gathers w (places t (length bits)) bits d
-adds-gathers {t} {w} {bits} {d} R =
-    record { within = places-within (R .lends .fits) bits refl; same = R .lends .same; bit = R .bit; room = R .room }
+-- a part's bits in their order
+module _ {t w : ℕ} {order bits d : List ℕ} (R : AddsPart t w bits d) (O : Ordered t (length d) order) (p : t ≡ 0 → ⊥) where
+  -- can be gathered
+  pub gathers-part : (length bits ≡ 0 → ⊥) → Gathers w order bits d
+  gathers-part q =
+      let c : Cycles t (length d) = cycles (R .mixes) p (λ e. q (R .same ∙ e)) in
+      record {
+        within = rw (O .order-is p) (places-within (record { cycles = c; high = omega (arith, R .room .high); small = R .room .small }) bits (R .same));
+        same = sym (R .same);
+        bit = R .input .bit;
+        room = R .room .sums;
+      }
 
-pub takes-scatters : {t w : ℕ} {labels out : List ℕ} → Takes t w labels out → Scatters w (places t (length labels)) labels out
-takes-scatters {t} {w} {labels} {out} R =
-    record { within = places-within (R .lends .fits) labels refl; same = R .lends .same; weighs = R .weighs }
+  -- and are then interleaved
+  pub added-part : {out : List ℕ} → out ≡ added w (gathered order bits) d → out ≡ added w (mixed t bits) d
+  added-part f = rw (mixed-cycle t bits p, ← gathered-places t bits) (rw (O .order-is p, ← R .same) at f)
 
--- and what is scattered then is what goes back
-pub taken-scattered : {t w : ℕ} {labels out : List ℕ} → Takes t w labels out → scattered (places t (length labels)) (taken w labels) out ≡ deinterleaved 0 t (taken w labels)
-taken-scattered {t} {w} {labels} {out} R =
-    let e = taken-length w labels in
-    rw e at (scattered-places t (taken w labels) out (rw e (R .lends .fits .cycles)) (R .lends .same ∙ sym e))
+module _ {t w : ℕ} {order labels out : List ℕ} (R : TakesPart t w labels out) (O : Ordered t (length labels) order) (p : t ≡ 0 → ⊥) (q : length labels ≡ 0 → ⊥) where
+  cycle-is : Cycles t (length labels)
+  cycle-is = cycles (R .mixes) p q
 
--- gathered and scattered by places that stand at the front of a buffer
-module _ (part buffer : List ℕ) where
-  module _ {t w : ℕ} {bits d : List ℕ} (R : Adds t w bits d) (e : part ≡ places t (length bits) ++ (0 ∷ [])) where
-    pub gathers-made : Gathers w (take (length bits - 0) (part ++ drop (length bits + 1 - 0) buffer)) bits d
-    gathers-made = rw (places-made t (length bits) part (drop (length bits + 1 - 0) buffer) e) (adds-gathers R)
+  -- can be scattered
+  pub scatters-part : Scatters w order labels out
+  scatters-part =
+      record {
+        within = rw (O .order-is p) (places-within (record { cycles = cycle-is; high = omega (arith, R .high); small = R .small }) labels refl);
+        same = R .same;
+        weighs = R .weighs;
+      }
 
-    pub added-made : {out : List ℕ} → out ≡ added w (gathered (take (length bits - 0) (part ++ drop (length bits + 1 - 0) buffer)) bits) d
-        → out ≡ added w (interleaved 0 t bits) d
-    added-made f = rw (places-made t (length bits) part (drop (length bits + 1 - 0) buffer) e, gathered-places t bits) at f
-
-  module _ {t w : ℕ} {labels out : List ℕ} (R : Takes t w labels out) (e : part ≡ places t (length labels) ++ (0 ∷ [])) where
-    pub scatters-made : Scatters w (take (length labels - 0) (part ++ drop (length labels + 1 - 0) buffer)) labels out
-    scatters-made = rw (places-made t (length labels) part (drop (length labels + 1 - 0) buffer) e) (takes-scatters R)
-
-    pub taken-made : {out′ : List ℕ} → out′ ≡ scattered (take (length labels - 0) (part ++ drop (length labels + 1 - 0) buffer)) (taken w labels) out
-        → out′ ≡ deinterleaved 0 t (taken w labels)
-    taken-made f = (rw (places-made t (length labels) part (drop (length labels + 1 - 0) buffer) e) at f) ∙ taken-scattered R
+  -- and have then gone back
+  pub taken-part : {out′ : List ℕ} → out′ ≡ scattered order (taken w labels) out → out′ ≡ unmixed t (taken w labels)
+  taken-part f =
+      let e = taken-length w labels in
+      let g = rw e at (scattered-places t (taken w labels) out (rw e cycle-is) (R .same ∙ sym e)) in
+      rw (unmixed-cycle t (taken w labels) p) ((rw (O .order-is p) at f) ∙ g)

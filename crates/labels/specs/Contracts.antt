@@ -5,7 +5,7 @@ use mathlib.Core.List.{List, [], _∷_}
 use lib.ListN.{length, getD, set}
 use Rattle.component.specs.Bits.{Bits}
 use Rattle.block.specs.Fits.{Mixes}
-use Rattle.interleaver.specs.Deinterleaving.{Lends}
+use Rattle.interleaver.specs.Tables.{places}
 use Rattle.lists.specs.Lists.{table}
 
 -- A level's bits, times their weight, are added to the labels.
@@ -46,19 +46,6 @@ pub record Scatters (weight : ℕ) (places labels out : List ℕ) : Type 0 where
   pub same : length out ≡ length labels
   pub weighs : Weight weight
 
--- What adding interleaved bits requires: bits, and labels that stay below 256.
-pub record Adds (t weight : ℕ) (bits labels : List ℕ) : Type 0 where
-  pub lends : Lends t bits labels
-  pub few : length bits ≤ 12236
-  pub bit : (k : ℕ) → getD bits k 0 < 2
-  pub room : (k : ℕ) → getD labels k 0 + weight < 256
-
--- What taking interleaved bits out of labels requires.
-pub record Takes (t weight : ℕ) (labels out : List ℕ) : Type 0 where
-  pub lends : Lends t labels out
-  pub few : length labels ≤ 12236
-  pub weighs : Weight weight
-
 -- ThreeBits that a level's bits can be added to: few enough for the interleaver, and below 256 with the weight.
 pub record Room (t weight : ℕ) (labels : List ℕ) : Type 0 where
   pub small : t < 64
@@ -79,3 +66,8 @@ pub record TakesPart (t weight : ℕ) (labels out : List ℕ) : Type 0 where
   pub high : length labels ≤ 12236
   pub same : length out ≡ length labels
   pub weighs : Weight weight
+
+-- Where bits are interleaved with t, the order of n of them: the table of their places.
+pub record Ordered (t n : ℕ) (order : List ℕ) : Type 0 where
+  pub long : length order ≡ n
+  pub order-is : (t ≡ 0 → ⊥) → order ≡ places t n

@@ -1,14 +1,10 @@
 // Level bits with their weights: interleaved and added to labels, taken out again and put back. 01 "Bit interleaving" and "Mapping".
-use block::buffers::MOST_NUMBERS;
-use interleaver::table::make_places;
 ghost use mathlib.Core.Path.{_≡_};
 ghost use Prim.Native.Nat.{_/_, _%_};
-ghost use Rattle.interleaver.specs.Interleaving.{interleaved};
-ghost use Rattle.interleaver.specs.Deinterleaving.{deinterleaved};
 ghost use Rattle.block.specs.Levels.{mixed};
 ghost use Rattle.block.specs.Reading.{taken, unmixed};
-ghost use Rattle.lists.specs.Buffers.{Long};
-ghost use Rattle.labels.specs.Contracts.{added, gathered, scattered, Weight, Adds, Takes, AddsPart, TakesPart, Gathers, Scatters};
+ghost use lib.ListN.{length};
+ghost use Rattle.labels.specs.Contracts.{added, gathered, scattered, Weight, AddsPart, TakesPart, Ordered, Gathers, Scatters};
 
 // Bits as they are, times their weight, added to the labels.
 fn add_plain(weight: u8, bits: &[u8], labels: &mut [u8])
@@ -20,16 +16,6 @@ fn add_plain(weight: u8, bits: &[u8], labels: &mut [u8])
         labels[i] = labels[i] + weight * bits[i];
         i += 1;
     }
-}
-
-// A place for each of a level's coded bits, and one number more.
-const MOST_PLACES: usize = MOST_NUMBERS + 1;
-
-// Room for the places, from a function of its own: proofs then take its length and do not write it out.
-fn place_buffer() -> [u16; MOST_PLACES]
-    ensures { λ r. ⌜ Long 12237 r ⌝ }
-{
-    [0u16; MOST_PLACES]
 }
 
 // Label i becomes itself + weight × bit places[i].
@@ -45,20 +31,9 @@ fn gather(weight: u8, places: &[u16], bits: &[u8], labels: &mut [u8])
     }
 }
 
-// Label i becomes itself + weight × bit P(i): a level's bits are interleaved and added in one pass.
-fn add_interleaved(t: usize, weight: u8, bits: &[u8], labels: &mut [u8])
-    requires { ⌜ Adds t weight (now bits) (now labels) ⌝ }
-    ensures { λ r. ⌜ now (labels .exit) ≡ added weight (interleaved 0 t (now (bits .entry))) (now (labels .entry)) ⌝ }
-{
-    let mut places = place_buffer();
-    let n = bits.len();
-    make_places(t, n, &mut places[0..n + 1]);
-    gather(weight, &places[0..n], bits, labels);
-}
-
-// A part's bits, interleaved or as they are, times their weight, added to the labels.
-pub fn add_part(t: usize, weight: u8, bits: &[u8], labels: &mut [u8])
-    requires { ⌜ AddsPart t weight (now bits) (now labels) ⌝ }
+// A part's bits, interleaved by the table of their places or as they are, times their weight, added to the labels.
+pub fn add_part(t: usize, weight: u8, places: &[u16], bits: &[u8], labels: &mut [u8])
+    requires { ⌜ AddsPart t weight (now bits) (now labels) × Ordered t (length (now labels)) (now places) ⌝ }
     ensures { λ r. ⌜ now (labels .exit) ≡ added weight (mixed t (now (bits .entry))) (now (labels .entry)) ⌝ }
 {
     if t == 0 {
@@ -68,7 +43,7 @@ pub fn add_part(t: usize, weight: u8, bits: &[u8], labels: &mut [u8])
     if bits.len() == 0 {
         return;
     }
-    add_interleaved(t, weight, bits, labels);
+    gather(weight, places, bits, labels);
 }
 
 // The bit with that weight in a number.
@@ -104,20 +79,9 @@ fn scatter(weight: u8, places: &[u16], labels: &[u8], out: &mut [u8])
     }
 }
 
-// Output P(i) is the bit with that weight in label i: the inverse of add_interleaved.
-fn take_interleaved(t: usize, weight: u8, labels: &[u8], out: &mut [u8])
-    requires { ⌜ Takes t weight (now labels) (now out) ⌝ }
-    ensures { λ r. ⌜ now (out .exit) ≡ deinterleaved 0 t (taken weight (now (labels .entry))) ⌝ }
-{
-    let mut places = place_buffer();
-    let n = labels.len();
-    make_places(t, n, &mut places[0..n + 1]);
-    scatter(weight, &places[0..n], labels, out);
-}
-
-// The bits with that weight in the labels, put back to their places or as they are.
-pub fn take_part(t: usize, weight: u8, labels: &[u8], out: &mut [u8])
-    requires { ⌜ TakesPart t weight (now labels) (now out) ⌝ }
+// The bits with that weight in the labels, put back to their places by the table of these or as they are.
+pub fn take_part(t: usize, weight: u8, places: &[u16], labels: &[u8], out: &mut [u8])
+    requires { ⌜ TakesPart t weight (now labels) (now out) × Ordered t (length (now labels)) (now places) ⌝ }
     ensures { λ r. ⌜ now (out .exit) ≡ unmixed t (taken weight (now (labels .entry))) ⌝ }
 {
     if t == 0 {
@@ -127,5 +91,5 @@ pub fn take_part(t: usize, weight: u8, labels: &[u8], out: &mut [u8])
     if labels.len() == 0 {
         return;
     }
-    take_interleaved(t, weight, labels, out);
+    scatter(weight, places, labels, out);
 }

@@ -1,7 +1,7 @@
 -- A block's levels read one after the other into parts A and B. Assumes nothing.
-use Prim.Native.Nat.{ℕ, zero, suc, _+_, _-_, _/_, _%_, _^_, _≤_, _<_}
+use Prim.Native.Nat.{ℕ, zero, suc, _+_, _-_, _*_, _/_, _%_, _^_, _≤_, _<_}
 use mathlib.Core.Path.{_≡_, refl, sym, ap, _∙_}
-use mathlib.Core.Bool.{Bool, true, false}
+use mathlib.Core.Bool.{Bool, true, false, cond}
 use mathlib.Core.List.{List, [], _++_, append-nil, append-assoc}
 use native.Mathlib.Nat.{add-zero, zero-add}
 use native.Mathlib.Numerals.{add-one}
@@ -17,7 +17,7 @@ use Rattle.block.specs.declared.Block.{Block}
 use Rattle.block.specs.Block.{levelsOf, oneAxis}
 use Rattle.multilevel.specs.Contracts.{levelAt, bitsIn, bitsBefore, ReadsLevel, LevelRead, ReadsAt, ReadAt, digitAt, axisLabels, ReadsLevels, ReadsStream, takenOver}
 use Rattle.multilevel.proofs.Totals.{levels-table}
-use Rattle.multilevel.proofs.Partition.{before-mono, part-long, ends-a, ends-b}
+use Rattle.multilevel.proofs.Partition.{before-mono, part-is, part-long, ends-a, ends-b}
 
 -- a part of v from d on, written over, is stored in v
 pub stored-part : (x v : List ℕ) (s n d : ℕ) → s ≡ d → length x ≡ n → d + n ≤ length v
@@ -35,12 +35,13 @@ length-inputB : (l : Level) (y : List ℕ) → length (inputB l y) ≡ l .bitsb
 unfolding inputB
 length-inputB l y = length-decode _ _ 0 (l .bitsb) _
 
-module _ {ls : List Level} {l w : ℕ} {labels coded a b : List ℕ} (R : ReadsAt ls l w labels coded a b)
+module _ {ls : List Level} {l w : ℕ} {order labels coded a b : List ℕ} (R : ReadsAt ls l w order labels coded a b)
     {s r : ℕ} (es : s ≡ bitsBefore ls false l) (er : r ≡ bitsBefore ls true l) where
   -- what reading the level requires
-  pub reads-level : ReadsLevel (levelAt ls l) w labels coded (take (s + levelAt ls l .bitsa - s) (drop s a)) (take (r + levelAt ls l .bitsb - r) (drop r b))
+  pub reads-level : ReadsLevel (levelAt ls l) w (take (l * length labels + length labels - l * length labels) (drop (l * length labels) order)) labels coded (take (s + levelAt ls l .bitsa - s) (drop s a)) (take (r + levelAt ls l .bitsb - r) (drop r b))
   reads-level =
       record {
+        ordered = rw (part-is order (l * length labels) (length labels) (l * length labels) refl) (R .level .ordered);
         fits = R .level .fits;
         longA = part-long a s (levelAt ls l .bitsa) s refl (ends-a (R .level) es);
         longB = part-long b r (levelAt ls l .bitsb) r refl (ends-b (R .level) er);
@@ -126,13 +127,14 @@ pub record Reading (k : Block) (ys : ℕ → List ℕ) (a₀ b₀ a b : List ℕ
 pub start : (k : Block) (ys : ℕ → List ℕ) (a b : List ℕ) → Reading k ys a b a b 0
 start k ys a b = record { turns = omega arith; partA = placed-start _ (k .levels) false a; partB = placed-start _ (k .levels) true b }
 
-module _ {k : Block} {labels a₀ b₀ : List ℕ} (R : ReadsLevels k labels a₀ b₀) where
+module _ {k : Block} {order labels a₀ b₀ : List ℕ} (R : ReadsLevels k order labels a₀ b₀) where
   -- reading one more level requires the same of the buffers as they are then
   pub reads-stream : {coded a b : List ℕ} {l : ℕ} → Reading k (streamIn (oneAxis k) labels) a₀ b₀ a b l → l < k .count → length coded ≡ 12236
-      → ReadsStream k l labels coded a b
+      → ReadsStream k l order labels coded a b
   reads-stream L h e =
       record {
         all = record {
+          ordered = R .ordered;
           few = R .few;
           room = R .room;
           fits = R .fits;
@@ -165,14 +167,16 @@ module _ {k : Block} {labels a₀ b₀ : List ℕ} (R : ReadsLevels k labels a�
         placed-done (L .partB) e (R .long .1) ∙ sym (inputsB-joined (levelAt (k .levels)) (streamIn (oneAxis k) labels) 0 (k .count)),
       )
 
-module _ {k : Block} {l : ℕ} {labels coded a b : List ℕ} (R : ReadsStream k l labels coded a b) where
+module _ {k : Block} {l : ℕ} {order labels coded a b : List ℕ} (R : ReadsStream k l order labels coded a b) where
   -- what reading the level from its labels, of both axes or of one, requires
   reads-at : {w : ℕ} (d : ℕ) → w ≡ 2 ^ d → (own : List ℕ) → LevelFits (length own) (levelAt (k .levels) l) → length own ≤ length labels
-      → ReadsAt (k .levels) l w own coded a b
-  reads-at d e own f m =
+      → length own ≡ cond (oneAxis k) (length labels / 2) (length labels) → ReadsAt (k .levels) l w order own coded a b
+  reads-at d e own f m g =
       let A = R .all in
       record {
         level = record {
+          room = A .ordered l (R .known) (length own) g .0;
+          ordered = A .ordered l (R .known) (length own) g .1;
           there = omega (arith, R .known, A .few);
           fits = f;
           withinA = omega (arith, before-mono (k .levels) false (suc l) (k .count) (R .known), A .long .0);
@@ -184,11 +188,11 @@ module _ {k : Block} {l : ℕ} {labels coded a b : List ℕ} (R : ReadsStream k 
         weighs = record { digit = d; power = e };
       }
 
-  pub reads-both : {w : ℕ} → oneAxis k ≡ false → w ≡ 2 ^ l → ReadsAt (k .levels) l w labels coded a b
-  reads-both one e = reads-at l e labels (rw one at (R .all .fits l (R .known))) (omega arith)
+  pub reads-both : {w : ℕ} → oneAxis k ≡ false → w ≡ 2 ^ l → ReadsAt (k .levels) l w order labels coded a b
+  reads-both one e = reads-at l e labels (rw one at (R .all .fits l (R .known))) (omega arith) (rw one)
 
-  pub reads-axis : {w : ℕ} → oneAxis k ≡ true → w ≡ 2 ^ (l / 2) → {own : List ℕ} → length own ≡ length labels / 2 → ReadsAt (k .levels) l w own coded a b
-  reads-axis one e {own} m = reads-at (l / 2) e own (rw m (rw one at (R .all .fits l (R .known)))) (omega (arith, m))
+  pub reads-axis : {w : ℕ} → oneAxis k ≡ true → w ≡ 2 ^ (l / 2) → {own : List ℕ} → length own ≡ length labels / 2 → ReadsAt (k .levels) l w order own coded a b
+  reads-axis one e {own} m = reads-at (l / 2) e own (rw m (rw one at (R .all .fits l (R .known)))) (omega (arith, m)) (rw one m)
 
   pub digit-both : oneAxis k ≡ false → l < 3
   unfolding digitAt

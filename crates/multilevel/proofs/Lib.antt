@@ -5,3 +5,4 @@ pub mod Totals
 pub mod Summing
 pub mod OneRead
 pub mod LevelsRead
+pub mod Orders

@@ -4,16 +4,16 @@ use mathlib.Core.Path.{_≡_, sym, _∙_}
 use mathlib.Core.List.{List, [], _++_, append-nil}
 use native.Mathlib.Omega.{arith}
 use lib.Dec.{lit<}
-use lib.ListN.{length, take, drop, length-append, length-drop}
+use lib.ListN.{length, take, drop, length-append, length-take, length-drop}
 use lib.Seq.{sets, length-sets, length-take-le, take-all, drop-length}
-use Rattle.lists.proofs.Parts.{from-start}
+use Rattle.lists.proofs.Parts.{from-start, to-end}
 use Rattle.component.specs.Register.{after}
 use Rattle.component.specs.Codeword.{encode, tailBits}
 use Rattle.component.specs.Decoding.{codedLength, segment}
 use Rattle.patterns.specs.Contracts.{patternOf, Held}
 use Rattle.component.specs.Coding.{Encodes, Encoded}
 use Rattle.multilevel.specs.Contracts.{codedWithTail, codedOver, CodesA, CodedA, CodesB, CodesLevel}
-use Rattle.labels.specs.Contracts.{added, Room, AddsPart}
+use Rattle.labels.specs.Contracts.{added, Room, AddsPart, Ordered}
 use Rattle.component.proofs.Register.{after-low}
 use Rattle.component.proofs.Codeword.{encode-bits, codeword-bits, codeword-one, codeword-two, length-tail}
 use Rattle.labels.proofs.Weights.{added-length, added-front, added-rest, added-behind}
@@ -24,10 +24,10 @@ use Rattle.block.proofs.Levels.{length-mixed}
 use Rattle.multilevel.proofs.Parts.{room-take, room-drop, front, length-by}
 
 -- part A can be coded
-pub a-encodes : {l : Level} {w : ℕ} {bits coded labels : List ℕ} → CodesA l w bits coded labels → Held (l .patterna) × Encodes (patternOf (l .patterna)) 0 bits coded 0
+pub a-encodes : {l : Level} {w : ℕ} {order bits coded labels : List ℕ} → CodesA l w order bits coded labels → Held (l .patterna) × Encodes (patternOf (l .patterna)) 0 bits coded 0
 a-encodes R = (R .held, record { sound = R .held .sound; seven = lit< tt; input = R .input; room = omega (arith, R .there, R .buffer) })
 
-module _ {l : Level} {w : ℕ} {bits coded labels : List ℕ} (R : CodesA l w bits coded labels)
+module _ {l : Level} {w : ℕ} {order bits coded labels : List ℕ} (R : CodesA l w order bits coded labels)
     {r n : ℕ} {coded′ : List ℕ} (E : Encoded (patternOf (l .patterna)) 0 bits coded 0 r n coded′) where
   length-first : length (encode (patternOf (l .patterna)) 0 0 bits) ≡ n
   length-first = omega (arith, E .place)
@@ -39,6 +39,9 @@ module _ {l : Level} {w : ℕ} {bits coded labels : List ℕ} (R : CodesA l w bi
   pub within-coded : n ≤ length coded′
   within-coded = rw (E .written, length-sets coded 0 (encode (patternOf (l .patterna)) 0 0 bits)) (omega (arith, count, R .buffer, R .there))
 
+  pub within-order : n ≤ length order
+  within-order = omega (arith, count, rw length-take at (R .ordered .long))
+
   pub within-labels : n ≤ length labels
   within-labels = omega (arith, count, R .there)
 
@@ -49,14 +52,16 @@ module _ {l : Level} {w : ℕ} {bits coded labels : List ℕ} (R : CodesA l w bi
   length-taken = rw (from-start n) (length-take-le n labels within-labels)
 
   -- they can be added to the first labels
-  pub adds-a : AddsPart (l .t) w (take (n - 0) coded′) (take (n - 0) labels)
-  adds-a =
-      record {
-        mixes = rw (length-taken, count) (R .mixes);
-        same = rw (first-is, length-taken) length-first;
-        input = rw first-is (encode-bits (patternOf (l .patterna)) 0 0 bits);
-        room = room-take (n - 0) (R .room);
-      }
+  pub adds-a : AddsPart (l .t) w (take (n - 0) coded′) (take (n - 0) labels) × Ordered (l .t) (length (take (n - 0) labels)) (take (n - 0) order)
+  adds-a = (
+    record {
+      mixes = rw (length-taken, count) (R .mixes);
+      same = rw (first-is, length-taken) length-first;
+      input = rw first-is (encode-bits (patternOf (l .patterna)) 0 0 bits);
+      room = room-take (n - 0) (R .room);
+    },
+    rw (length-taken, from-start n, count) (R .ordered),
+  )
 
   -- and are then added
   pub coded-a : {part : List ℕ} → part ≡ added w (mixed (l .t) (take (n - 0) coded′)) (take (n - 0) labels)
@@ -69,7 +74,7 @@ module _ {l : Level} {w : ℕ} {bits coded labels : List ℕ} (R : CodesA l w bi
         written = rw (e, first-is, from-start n) (sym (added-front w x labels n (length-mixed (l .t) (encode (patternOf (l .patterna)) 0 0 bits) ∙ length-first) within-labels));
       }
 
-module _ {l : Level} {r w : ℕ} {bits coded labels : List ℕ} (R : CodesB l r w bits coded labels) where
+module _ {l : Level} {r w : ℕ} {order bits coded labels : List ℕ} (R : CodesB l r w order bits coded labels) where
   -- part B and its tail have as many coded bits as there are labels
   length-word : length (codedWithTail l r bits) ≡ length labels
   length-word =
@@ -87,15 +92,15 @@ module _ {l : Level} {r w : ℕ} {bits coded labels : List ℕ} (R : CodesB l r 
     word-is = rw (from-start (length labels), e) (front _ coded (length labels) length-word (omega (arith, R .size, R .encodes .room)))
 
     -- they can be added to them
-    pub adds-b : AddsPart (l .t) w (take (length labels - 0) coded′) labels
-    adds-b = record { mixes = R .mixes; same = rw word-is length-word; input = rw word-is (codeword-bits r _); room = R .room }
+    pub adds-b : AddsPart (l .t) w (take (length labels - 0) coded′) labels × Ordered (l .t) (length labels) order
+    adds-b = (record { mixes = R .mixes; same = rw word-is length-word; input = rw word-is (codeword-bits r _); room = R .room }, R .ordered)
 
     -- and are then added
     pub coded-b : {out : List ℕ} → out ≡ added w (mixed (l .t) (take (length labels - 0) coded′)) labels
         → out ≡ added w (mixed (l .t) (codedWithTail l r bits)) labels
     coded-b f = rw word-is at f
 
-module _ {l : Level} {w : ℕ} {a b coded labels : List ℕ} (R : CodesLevel l w a b coded labels) where
+module _ {l : Level} {w : ℕ} {order a b coded labels : List ℕ} (R : CodesLevel l w order a b coded labels) where
   -- the coded bits of both parts together
   sizes : codedLength (patternOf (l .patterna)) 0 (length a) + (codedLength (patternOf (l .patternb)) 0 (length b) + codedLength (patternOf (l .tail)) 0 6) ≡ length labels
   unfolding sizeA sizeB
@@ -105,10 +110,11 @@ module _ {l : Level} {w : ℕ} {a b coded labels : List ℕ} (R : CodesLevel l w
   room-all = record { small = R .fits .small; high = R .high; sums = R .sums }
 
   -- part A can be coded
-  pub codes-a : CodesA l w a coded labels
+  pub codes-a : CodesA l w order a coded labels
   unfolding sizeA
   codes-a =
       record {
+        ordered = rw (R .longA) (R .ordered .front);
         held = R .fits .heldA;
         input = R .inputA;
         mixes = rw (R .longA) (R .fits .mixesA);
@@ -130,10 +136,17 @@ module _ {l : Level} {w : ℕ} {a b coded labels : List ℕ} (R : CodesLevel l w
     low : n ≤ length labels
     low = omega (arith, sizes, C .place)
 
+    pub place-low : n ≤ 12236
+    place-low = omega (arith, low, R .high)
+
     kept : length labels′ ≡ length labels
     kept = rw (C .written) (added-length w (mixed (l .t) (encode (patternOf (l .patterna)) 0 0 a)) labels)
 
-    -- there are labels behind part A
+    -- there are labels behind part A, and their order
+    pub behind-order : n ≤ length order
+    unfolding sizeA
+    behind-order = omega (arith, C .place, rw (length-take, ← R .longA) at (R .ordered .front .long))
+
     pub behind-a : n ≤ length labels′
     behind-a = omega (arith, low, kept)
 
@@ -147,8 +160,8 @@ module _ {l : Level} {w : ℕ} {a b coded labels : List ℕ} (R : CodesLevel l w
     rest-kept = rw (C .written) (added-rest w (mixed (l .t) (encode (patternOf (l .patterna)) 0 0 a)) labels n first-length low)
 
     -- part B can be coded and added to them
-    pub codes-b : {coded′ : List ℕ} → length coded′ ≡ length coded → CodesB l r w b coded′ (take (length labels′ - n) (drop n labels′))
-    unfolding sizeB
+    pub codes-b : {coded′ : List ℕ} → length coded′ ≡ length coded → CodesB l r w (take (length order - n) (drop n order)) b coded′ (take (length labels′ - n) (drop n labels′))
+    unfolding sizeA sizeB
     codes-b e =
         record {
           encodes = record {
@@ -158,6 +171,7 @@ module _ {l : Level} {w : ℕ} {a b coded labels : List ℕ} (R : CodesLevel l w
             input = R .inputB;
             room = omega (arith, e, sizes, R .buffer);
           };
+          ordered = rw (rest-is, rest-length, R .longB, to-end n order, C .place, R .longA) (R .ordered .rest);
           mixes = rw (rest-is, rest-length, R .longB) (R .fits .mixesB);
           size = rw (rest-is, rest-length);
           room = rw (rest-is, rest-kept) (room-drop n room-all);

@@ -4,10 +4,10 @@ use mathlib.Core.Path.{_≡_, sym, _∙_}
 use mathlib.Core.List.{List, _++_}
 use native.Mathlib.Omega.{arith}
 use lib.Dec.{lit<}
-use lib.ListN.{length, take, drop, length-append, length-drop}
+use lib.ListN.{length, take, drop, length-append, length-take, length-drop}
 use native.Mathlib.Nat.{zero-add}
 use lib.Seq.{sets, sets-eq, length-sets, length-take-le, take-all}
-use Rattle.lists.proofs.Parts.{from-start, length-start}
+use Rattle.lists.proofs.Parts.{from-start, to-end, length-start}
 use Rattle.patterns.specs.declared.Pattern.{Pattern}
 use Rattle.component.specs.Decoding.{codedLength, decode}
 use Rattle.patterns.specs.Contracts.{patternOf, Held}
@@ -26,7 +26,7 @@ stored-front x d n k h =
     rw (from-start n, sets-eq x d 0 (omega (arith, e, h)), zero-add (length x), e)
 
 -- a part can be decoded from the bits that were taken out
-pub decodes : {p : Pattern} {r t w : ℕ} {labels coded out coded′ : List ℕ} → ReadsPart p r t w labels coded out → length coded′ ≡ length coded
+pub decodes : {p : Pattern} {r t w : ℕ} {order labels coded out coded′ : List ℕ} → ReadsPart p r t w order labels coded out → length coded′ ≡ length coded
     → Held p × Decodes (patternOf p) r coded′ 0 out
 decodes R e = (R .held, record { sound = R .held .sound; seven = R .seven; room = omega (arith, R .there, R .takes .same, e) })
 
@@ -35,7 +35,7 @@ pub part-read : {p : Pattern} {r t w n r′ at : ℕ} {labels coded out : List �
     → PartRead p r t w labels n r′ out
 part-read e D = record { state = rw (D .written) (D .state); written = rw (← e) (D .written) }
 
-module _ {l : Level} {w : ℕ} {labels coded a b : List ℕ} (R : ReadsLevel l w labels coded a b) where
+module _ {l : Level} {w : ℕ} {order labels coded a b : List ℕ} (R : ReadsLevel l w order labels coded a b) where
   all-sizes : codedLength (patternOf (l .patterna)) 0 (length a) + (codedLength (patternOf (l .patternb)) 0 (length b) + codedLength (patternOf (l .tail)) 0 6) ≡ length labels
   unfolding sizeA sizeB
   all-sizes = rw (R .longA, R .longB) (R .fits .size)
@@ -53,16 +53,21 @@ module _ {l : Level} {w : ℕ} {labels coded a b : List ℕ} (R : ReadsLevel l w
     pub first-labels : first ≤ length labels
     first-labels = omega (arith, all-sizes, front-is)
 
+    pub first-order : first ≤ length order
+    unfolding sizeA
+    first-order = omega (arith, first-is, rw length-take at (R .ordered .front .long))
+
     pub first-coded : first ≤ length coded
     first-coded = omega (arith, first-labels, R .buffer)
 
     -- part A can be read
-    pub reads-a : ReadsPart (l .patterna) 0 (l .t) w (take (first - 0) labels) (take (first - 0) coded) a
+    pub reads-a : ReadsPart (l .patterna) 0 (l .t) w (take (first - 0) order) (take (first - 0) labels) (take (first - 0) coded) a
     unfolding sizeA
     reads-a =
         let e : length (take (first - 0) labels) ≡ first = rw (from-start first) (length-take-le first labels first-labels) in
         let f : length (take (first - 0) coded) ≡ first = rw (from-start first) (length-take-le first coded first-coded) in
         record {
+          ordered = rw (e, from-start first, first-is) (R .ordered .front);
           held = R .fits .heldA;
           seven = lit< tt;
           takes = record {
@@ -81,8 +86,8 @@ module _ {l : Level} {w : ℕ} {labels coded a b : List ℕ} (R : ReadsLevel l w
 
       -- part B can be read from the register behind part A
       pub reads-b : (part : List ℕ) → length part ≡ length (take (first - 0) coded)
-          → ReadsPart (l .patternb) r (l .t) w (take (length labels - first) (drop first labels)) (take (length labels - first - 0) (part ++ drop (first - 0) coded)) b
-      unfolding sizeB
+          → ReadsPart (l .patternb) r (l .t) w (take (length order - first) (drop first order)) (take (length labels - first) (drop first labels)) (take (length labels - first - 0) (part ++ drop (first - 0) coded)) b
+      unfolding sizeA sizeB
       reads-b part h =
           let e : length (drop first labels) ≡ codedLength (patternOf (l .patternb)) 0 (length b) + codedLength (patternOf (l .tail)) 0 6 =
           rw length-drop (omega (arith, all-sizes, front-is)) in
@@ -91,6 +96,7 @@ module _ {l : Level} {w : ℕ} {labels coded a b : List ℕ} (R : ReadsLevel l w
           let g : length (take (length labels - first - 0) (part ++ drop (first - 0) coded)) ≡ length (drop first labels) =
           length-take-le (length labels - first - 0) (part ++ drop (first - 0) coded) (omega (arith, f, R .buffer)) ∙ rw length-drop (omega arith) in
           record {
+            ordered = rw (rest-all, e, R .longB, to-end first order, first-is) (R .ordered .rest);
             held = R .fits .heldB;
             seven = rw (P .state) (after-low (lit< tt) (rw (P .written) (decode-bits (patternOf (l .patterna)) 0 0 (length a) _)));
             takes = record {

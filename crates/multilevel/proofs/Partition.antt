@@ -1,10 +1,10 @@
 -- The bits of levels before a level, and a level's bits among those of parts A and B. Assumes nothing.
-use Prim.Native.Nat.{ℕ, zero, suc, _+_, _-_, _≤_, _<_}
+use Prim.Native.Nat.{ℕ, zero, suc, _+_, _-_, _*_, _≤_, _<_}
 use mathlib.Core.Path.{_≡_, refl}
 use mathlib.Core.Logic.{_⊎_, inl, inr}
 use mathlib.Core.Bool.{Bool, true, false}
 use mathlib.Core.List.{List}
-use native.Mathlib.Nat.{eq-or-lt-of-le}
+use native.Mathlib.Nat.{mul-le-mul, eq-or-lt-of-le}
 use native.Mathlib.Numerals.{add-one}
 use native.Mathlib.Omega.{arith}
 use lib.ListN.{length, take, drop, length-take, length-drop}
@@ -46,7 +46,11 @@ module _ (v : List ℕ) (s n d : ℕ) (e : s ≡ d) where
   pub part-bits : Bits v → Bits (take (s + n - s) (drop s v))
   part-bits B = rw part-is (bits-take n (bits-drop d B))
 
-module _ {ls : List Level} {n : ℕ} {a b : List ℕ} {l : ℕ} (L : LevelThere ls n a b l) where
+module _ {ls : List Level} {n : ℕ} {order a b : List ℕ} {l : ℕ} (L : LevelThere ls n order a b l) where
+  -- its order's place can be worked out
+  pub place-fits : l * n ≤ 5 * 12236
+  place-fits = mul-le-mul {n₂ = 5} {m₂ = 12236} (omega (arith, L .there)) (L .high)
+
   -- the bits of the levels before it can be counted
   pub sums-a : Sums ls false l
   sums-a = record { there = omega (arith, L .there); fits = omega (arith, before-mono ls false l (suc l) (omega arith), L .withinA, L .short .0) }
@@ -63,12 +67,13 @@ module _ {ls : List Level} {n : ℕ} {a b : List ℕ} {l : ℕ} (L : LevelThere 
   unfolding bitsBefore bitsIn
   ends-b er = rw er (L .withinB)
 
-module _ {ls : List Level} {l w : ℕ} {a b coded labels : List ℕ} (C : CodesAt ls l w a b coded labels)
+module _ {ls : List Level} {l w : ℕ} {order a b coded labels : List ℕ} (C : CodesAt ls l w order a b coded labels)
     {s r : ℕ} (es : s ≡ bitsBefore ls false l) (er : r ≡ bitsBefore ls true l) where
   -- what coding the level requires
-  pub codes-level : CodesLevel (levelAt ls l) w (take (s + levelAt ls l .bitsa - s) (drop s a)) (take (r + levelAt ls l .bitsb - r) (drop r b)) coded labels
+  pub codes-level : CodesLevel (levelAt ls l) w (take (l * length labels + length labels - l * length labels) (drop (l * length labels) order)) (take (s + levelAt ls l .bitsa - s) (drop s a)) (take (r + levelAt ls l .bitsb - r) (drop r b)) coded labels
   codes-level =
       record {
+        ordered = rw (part-is order (l * length labels) (length labels) (l * length labels) refl) (C .level .ordered);
         fits = C .level .fits;
         longA = part-long a s (levelAt ls l .bitsa) s refl (ends-a (C .level) es);
         longB = part-long b r (levelAt ls l .bitsb) r refl (ends-b (C .level) er);

@@ -24,7 +24,7 @@ use Rattle.block.specs.Fits.{Labels, LevelFits, LevelsFit, none, more, BlockFit
 use Rattle.block.proofs.Lists.{bits-take}
 use Rattle.block.proofs.Levels.{bits-stream, length-stream}
 use Rattle.block.proofs.Mapping.{levelCount, constellation-labels}
-use Rattle.multilevel.specs.Contracts.{pastLevels, levelAt, bitsIn, bitsBefore, streamAt, stepped, Sums, LevelThere, LevelsThere, none, more, CodesLevels, PartsOf}
+use Rattle.multilevel.specs.Contracts.{BlockOrder, pastLevels, levelAt, bitsIn, bitsBefore, streamAt, stepped, Sums, LevelThere, LevelsThere, none, more, CodesLevels, PartsOf}
 use Rattle.multilevel.proofs.Partition.{before-mono}
 
 -- the bits of part A of levels from k on, and of part B
@@ -129,31 +129,40 @@ module _ {k : Block} (F : BlockFits k) where
 
   module _ {a b : List ℕ} (P : PartsOf k a b) {n : ℕ} (e : n ≡ cond (oneAxis k) (k .cells) (2 * k .cells)) (high : n ≤ 12236) where
     -- its bits stand in those of parts A and B
-    there : (l : ℕ) → l < k .count → LevelThere (k .levels) n a b l
-    there l h =
-        record {
-          there = omega (arith, F .few);
-          fits = rw e (fits-level l h);
-          withinA = omega (arith, P .longA, before-mono (k .levels) false (suc l) (k .count) h);
-          withinB = omega (arith, P .longB, before-mono (k .levels) true (suc l) (k .count) h);
-          short = (omega (arith, P .longA, all-bits, F .short), omega (arith, P .longB, all-bits, F .short));
-          high = high;
-        }
+    within-A : (l : ℕ) → l < k .count → bitsBefore (k .levels) false (suc l) ≤ length a
+    within-A l h = omega (arith, P .longA, before-mono (k .levels) false (suc l) (k .count) h)
 
-    -- and so do those of every s-th level
-    all-there : (s l m : ℕ) → 0 < s → l + s * m < k .count + s → LevelsThere (k .levels) n a b s l m
-    all-there s l zero p h = none
-    all-there s l (suc m) p h =
-        let f : s * suc m ≡ s + s * m = mul-suc s m ∙ omega arith in
-        more (there l (omega arith)) (all-there s (l + s) m p (omega arith))
+    within-B : (l : ℕ) → l < k .count → bitsBefore (k .levels) true (suc l) ≤ length b
+    within-B l h = omega (arith, P .longB, before-mono (k .levels) true (suc l) (k .count) h)
+
+    module _ {order : List ℕ} (O : BlockOrder k order) where
+      there : (l : ℕ) → l < k .count → LevelThere (k .levels) n order a b l
+      there l h =
+          record {
+            room = O .each l h n e .0;
+            ordered = O .each l h n e .1;
+            there = omega (arith, F .few);
+            fits = rw e (fits-level l h);
+            withinA = within-A l h;
+            withinB = within-B l h;
+            short = (omega (arith, P .longA, all-bits, F .short), omega (arith, P .longB, all-bits, F .short));
+            high = high;
+          }
+
+      -- and so do those of every s-th level
+      all-there : (s l m : ℕ) → 0 < s → l + s * m < k .count + s → LevelsThere (k .levels) n order a b s l m
+      all-there s l zero p h = none
+      all-there s l (suc m) p h =
+          let f : s * suc m ≡ s + s * m = mul-suc s m ∙ omega arith in
+          more (there l (omega arith)) (all-there s (l + s) m p (omega arith))
 
     module _ (A : Bits a) (B : Bits b) where
       -- what coding them requires
-      pub codes-levels : {labels : List ℕ} (s l m : ℕ) → 0 < s → s ≤ 2 → l ≤ 1 → m ≤ 3 → l + s * m < k .count + s → length labels ≡ n
-          → CodesLevels (k .levels) l s m a b labels
-      codes-levels s l m p s2 l1 m3 h g =
+      pub codes-levels : {order labels : List ℕ} → BlockOrder k order → (s l m : ℕ) → 0 < s → s ≤ 2 → l ≤ 1 → m ≤ 3 → l + s * m < k .count + s → length labels ≡ n
+          → CodesLevels (k .levels) l s m order a b labels
+      codes-levels O s l m p s2 l1 m3 h g =
           record {
-            levels = rw g (all-there s l m p h);
+            levels = rw g (all-there O s l m p h);
             three = m3;
             near = (omega arith, omega arith);
             inputA = A;
@@ -166,7 +175,7 @@ module _ {k : Block} (F : BlockFits k) where
       unfolding streamAt bitsBefore bitsIn
       length-streamAt l h =
           let ls = k .levels in
-          let T = there l h in
-          length-stream (T .fits) (bits-take (levelAt ls l .bitsa) (bits-drop (bitsBefore ls false l) A)) (bits-take (levelAt ls l .bitsb) (bits-drop (bitsBefore ls true l) B))
-          (length-take-le (levelAt ls l .bitsa) (drop (bitsBefore ls false l) a) (rw length-drop (omega (arith, T .withinA))))
-          (length-take-le (levelAt ls l .bitsb) (drop (bitsBefore ls true l) b) (rw length-drop (omega (arith, T .withinB))))
+          let T : LevelFits n (levelAt ls l) = rw e (fits-level l h) in
+          length-stream T (bits-take (levelAt ls l .bitsa) (bits-drop (bitsBefore ls false l) A)) (bits-take (levelAt ls l .bitsb) (bits-drop (bitsBefore ls true l) B))
+          (length-take-le (levelAt ls l .bitsa) (drop (bitsBefore ls false l) a) (rw length-drop (omega (arith, within-A l h))))
+          (length-take-le (levelAt ls l .bitsb) (drop (bitsBefore ls true l) b) (rw length-drop (omega (arith, within-B l h))))

@@ -9,7 +9,7 @@ use Rattle.component.specs.Bits.{Bits}
 use Rattle.block.specs.declared.Level.{Level}
 use Rattle.block.specs.declared.Block.{Block}
 use Rattle.block.specs.Levels.{stream, mixed}
-use Rattle.block.specs.Fits.{LevelFits, Mixes}
+use Rattle.block.specs.Fits.{BlockFits, LevelFits, Mixes}
 use Rattle.component.specs.Register.{after}
 use Rattle.component.specs.Codeword.{encode, codeword, tailBits}
 use Rattle.component.specs.Decoding.{codedLength, segment, decode}
@@ -17,8 +17,8 @@ use Rattle.patterns.specs.Contracts.{patternOf, Held}
 use Rattle.lists.specs.Lists.{table}
 use lib.Seq.{sets}
 use Rattle.block.specs.Block.{oneAxis}
-use Rattle.block.specs.Reading.{taken, unmixed, sizeA, inputA, inputB}
-use Rattle.labels.specs.Contracts.{Room, TakesPart, Weight, added}
+use Rattle.block.specs.Reading.{taken, unmixed, sizeA, sizeB, inputA, inputB}
+use Rattle.labels.specs.Contracts.{Ordered, Room, TakesPart, Weight, added}
 
 -- What the code would find past the last of a block's places.
 abbrev pub noPattern : Pattern
@@ -58,8 +58,15 @@ pub record Sums (ls : List Level) (b : Bool) (l : ℕ) : Type 0 where
   pub there : l ≤ 6
   pub fits : bitsBefore ls b l ≤ 65536
 
--- Level l with n coded bits, whose bits stand in those of parts A and B.
-pub record LevelThere (ls : List Level) (n : ℕ) (a b : List ℕ) (l : ℕ) : Type 0 where
+-- The order of a level's coded bits: the places of part A's, and then of part B's.
+pub record LevelOrder (l : Level) (order : List ℕ) : Type 0 where
+  pub front : Ordered (l .t) (sizeA l) (take (sizeA l) order)
+  pub rest : Ordered (l .t) (sizeB l) (drop (sizeA l) order)
+
+-- Level l with n coded bits, whose bits stand in those of parts A and B, and its order in that of all levels.
+pub record LevelThere (ls : List Level) (n : ℕ) (order a b : List ℕ) (l : ℕ) : Type 0 where
+  pub room : l * n + n ≤ length order
+  pub ordered : LevelOrder (levelAt ls l) (take n (drop (l * n) order))
   pub there : l < 6
   pub fits : LevelFits n (levelAt ls l)
   pub withinA : bitsBefore ls false (suc l) ≤ length a
@@ -68,26 +75,31 @@ pub record LevelThere (ls : List Level) (n : ℕ) (a b : List ℕ) (l : ℕ) : T
   pub high : n ≤ 12236
 
 -- What coding level l requires: bits, room for its coded bits, and labels that they can be added to.
-pub record CodesAt (ls : List Level) (l weight : ℕ) (a b coded labels : List ℕ) : Type 0 where
-  pub level : LevelThere ls (length labels) a b l
+pub record CodesAt (ls : List Level) (l weight : ℕ) (order a b coded labels : List ℕ) : Type 0 where
+  pub level : LevelThere ls (length labels) order a b l
   pub inputA : Bits a
   pub inputB : Bits b
   pub buffer : length labels ≤ length coded
   pub sums : (k : ℕ) → getD labels k 0 + weight < 256
 
 -- So many levels from level l on, every s-th.
-pub data LevelsThere (ls : List Level) (n : ℕ) (a b : List ℕ) (s : ℕ) : ℕ → ℕ → Type 0 where
-  none : {l : ℕ} → LevelsThere ls n a b s l 0
-  more : {l m : ℕ} → LevelThere ls n a b l → LevelsThere ls n a b s (l + s) m → LevelsThere ls n a b s l (suc m)
+pub data LevelsThere (ls : List Level) (n : ℕ) (order a b : List ℕ) (s : ℕ) : ℕ → ℕ → Type 0 where
+  none : {l : ℕ} → LevelsThere ls n order a b s l 0
+  more : {l m : ℕ} → LevelThere ls n order a b l → LevelsThere ls n order a b s (l + s) m → LevelsThere ls n order a b s l (suc m)
 
 -- What coding at most three levels into labels requires.
-pub record CodesLevels (ls : List Level) (first step many : ℕ) (a b labels : List ℕ) : Type 0 where
-  pub levels : LevelsThere ls (length labels) a b step first many
+pub record CodesLevels (ls : List Level) (first step many : ℕ) (order a b labels : List ℕ) : Type 0 where
+  pub levels : LevelsThere ls (length labels) order a b step first many
   pub three : many ≤ 3
   pub near : (first ≤ 2) × (step ≤ 2)
   pub inputA : Bits a
   pub inputB : Bits b
   pub high : length labels ≤ 12236
+
+-- The order of a block's coded bits: those of its levels one after the other.
+pub record BlockOrder (k : Block) (order : List ℕ) : Type 0 where
+  pub each : (l : ℕ) → l < k .count → (n : ℕ) → n ≡ cond (oneAxis k) (k .cells) (2 * k .cells)
+      → (l * n + n ≤ length order) × LevelOrder (levelAt (k .levels) l) (take n (drop (l * n) order))
 
 -- The bits of all levels in parts A and B.
 pub record PartsOf (k : Block) (a b : List ℕ) : Type 0 where
@@ -120,7 +132,8 @@ abbrev pub sizeWithTail : Level → ℕ → ℕ
 sizeWithTail l n = codedLength (patternOf (l .patternb)) 0 n + codedLength (patternOf (l .tail)) 0 6
 
 -- What coding part A and adding it to the first of the labels requires.
-pub record CodesA (l : Level) (weight : ℕ) (bits coded labels : List ℕ) : Type 0 where
+pub record CodesA (l : Level) (weight : ℕ) (order bits coded labels : List ℕ) : Type 0 where
+  pub ordered : Ordered (l .t) (codedLength (patternOf (l .patterna)) 0 (length bits)) (take (codedLength (patternOf (l .patterna)) 0 (length bits)) order)
   pub held : Held (l .patterna)
   pub input : Bits bits
   pub mixes : Mixes (l .t) (codedLength (patternOf (l .patterna)) 0 (length bits))
@@ -143,14 +156,16 @@ pub record EncodesB (l : Level) (register : ℕ) (bits out : List ℕ) : Type 0 
   pub room : sizeWithTail l (length bits) ≤ length out
 
 -- What adding them to as many labels requires besides.
-pub record CodesB (l : Level) (register weight : ℕ) (bits coded labels : List ℕ) : Type 0 where
+pub record CodesB (l : Level) (register weight : ℕ) (order bits coded labels : List ℕ) : Type 0 where
+  pub ordered : Ordered (l .t) (length labels) order
   pub encodes : EncodesB l register bits coded
   pub mixes : Mixes (l .t) (length labels)
   pub size : sizeWithTail l (length bits) ≡ length labels
   pub room : Room (l .t) weight labels
 
 -- What coding a level requires: a level that fits, its bits, a buffer for its coded bits, and labels that they can be added to.
-pub record CodesLevel (l : Level) (weight : ℕ) (a b coded labels : List ℕ) : Type 0 where
+pub record CodesLevel (l : Level) (weight : ℕ) (order a b coded labels : List ℕ) : Type 0 where
+  pub ordered : LevelOrder l order
   pub fits : LevelFits (length labels) l
   pub longA : length a ≡ l .bitsa
   pub longB : length b ≡ l .bitsb
@@ -161,7 +176,8 @@ pub record CodesLevel (l : Level) (weight : ℕ) (a b coded labels : List ℕ) :
   pub sums : (k : ℕ) → getD labels k 0 + weight < 256
 
 -- What reading a part requires: all coded bits of the input bits wanted are there.
-pub record ReadsPart (p : Pattern) (register t weight : ℕ) (labels coded out : List ℕ) : Type 0 where
+pub record ReadsPart (p : Pattern) (register t weight : ℕ) (order labels coded out : List ℕ) : Type 0 where
+  pub ordered : Ordered t (length labels) order
   pub held : Held p
   pub seven : register < 128
   pub takes : TakesPart t weight labels coded
@@ -173,7 +189,8 @@ pub record PartRead (p : Pattern) (register t weight : ℕ) (labels : List ℕ) 
   pub written : out' ≡ decode (patternOf p) register 0 n (unmixed t (taken weight labels))
 
 -- What reading a level requires: it fits, and there is room for its bits and its coded bits. The labels may be any.
-pub record ReadsLevel (l : Level) (weight : ℕ) (labels coded a b : List ℕ) : Type 0 where
+pub record ReadsLevel (l : Level) (weight : ℕ) (order labels coded a b : List ℕ) : Type 0 where
+  pub ordered : LevelOrder l order
   pub fits : LevelFits (length labels) l
   pub longA : length a ≡ l .bitsa
   pub longB : length b ≡ l .bitsb
@@ -187,8 +204,8 @@ pub record LevelRead (l : Level) (y a b : List ℕ) : Type 0 where
   pub partB : b ≡ inputB l y
 
 -- What reading level l requires: its bits have places in those of parts A and B.
-pub record ReadsAt (ls : List Level) (l weight : ℕ) (labels coded a b : List ℕ) : Type 0 where
-  pub level : LevelThere ls (length labels) a b l
+pub record ReadsAt (ls : List Level) (l weight : ℕ) (order labels coded a b : List ℕ) : Type 0 where
+  pub level : LevelThere ls (length labels) order a b l
   pub buffer : length labels ≤ length coded
   pub weighs : Weight weight
 
@@ -211,7 +228,9 @@ pub record TakesAxis (a : ℕ) (labels out : List ℕ) : Type 0 where
   pub same : length labels ≡ 2 * length out
 
 -- What reading a block's levels from the labels requires: every level fits and has a weight of at most 4, and the buffers fit.
-pub record ReadsLevels (k : Block) (labels a b : List ℕ) : Type 0 where
+pub record ReadsLevels (k : Block) (order labels a b : List ℕ) : Type 0 where
+  pub ordered : (l : ℕ) → l < k .count → (n : ℕ) → n ≡ cond (oneAxis k) (length labels / 2) (length labels)
+      → (l * n + n ≤ length order) × LevelOrder (levelAt (k .levels) l) (take n (drop (l * n) order))
   pub few : k .count ≤ 6
   pub room : k .count ≤ length (k .levels)
   pub fits : (l : ℕ) → l < k .count → LevelFits (cond (oneAxis k) (length labels / 2) (length labels)) (levelAt (k .levels) l)
@@ -222,7 +241,25 @@ pub record ReadsLevels (k : Block) (labels a b : List ℕ) : Type 0 where
   pub high : length labels ≤ 12236
 
 -- What reading level l of them requires.
-pub record ReadsStream (k : Block) (l : ℕ) (labels coded a b : List ℕ) : Type 0 where
-  pub all : ReadsLevels k labels a b
+pub record ReadsStream (k : Block) (l : ℕ) (order labels coded a b : List ℕ) : Type 0 where
+  pub all : ReadsLevels k order labels a b
   pub known : l < k .count
   pub buffer : length labels ≤ length coded
+
+-- What making a part's table of places requires: room for them and one number more.
+pub record PartPlaces (t n : ℕ) (out : List ℕ) : Type 0 where
+  pub mixes : Mixes t n
+  pub small : t < 64
+  pub high : n ≤ 12236
+  pub room : length out ≡ n + 1
+
+-- The same of a level with n coded bits.
+pub record LevelPlaces (n : ℕ) (l : Level) (out : List ℕ) : Type 0 where
+  pub fits : LevelFits n l
+  pub high : n ≤ 12236
+  pub room : length out ≡ n + 1
+
+-- The same of a block's levels.
+pub record BlockPlaces (k : Block) (out : List ℕ) : Type 0 where
+  pub fits : BlockFits k
+  pub room : 36709 ≤ length out

@@ -18,15 +18,22 @@ ghost use Rattle.block.specs.Levels.{mixed, stream};
 ghost use Rattle.block.specs.Mapping.{labelAt};
 
 // Part A coded and added to the first of the labels.
-fn code_a(l: Level, weight: u8, a: &[u8], coded: &mut [u8], labels: &mut [u8]) -> Coder
-    requires { ⌜ CodesA l weight (now a) (now coded) (now labels) ⌝ }
+fn code_a(
+    l: Level,
+    weight: u8,
+    places: &[u16],
+    a: &[u8],
+    coded: &mut [u8],
+    labels: &mut [u8],
+) -> Coder
+    requires { ⌜ CodesA l weight (now places) (now a) (now coded) (now labels) ⌝ }
     ensures { λ r. ⌜ CodedA l weight (now (a .entry)) (now (labels .entry)) (r .register) (r .at) (now (labels .exit)) ⌝ }
     ensures { λ r. ⌜ now (coded .exit) ≡ sets (now (coded .entry)) 0 (encode (patternOf (l .patterna)) 0 0 (now (a .entry))) ⌝ }
 {
     let pattern = l.patterna;
     let coder = encode(pattern, 0, a, coded, 0);
     let n = coder.at;
-    add_part(l.t, weight, &coded[0..n], &mut labels[0..n]);
+    add_part(l.t, weight, &places[0..n], &coded[0..n], &mut labels[0..n]);
     coder
 }
 
@@ -43,30 +50,63 @@ fn encode_b(l: Level, register: u32, b: &[u8], out: &mut [u8])
 }
 
 // Part B with its tail coded and added to the labels.
-fn code_b(l: Level, register: u32, weight: u8, b: &[u8], coded: &mut [u8], labels: &mut [u8])
-    requires { ⌜ CodesB l register weight (now b) (now coded) (now labels) ⌝ }
+fn code_b(
+    l: Level,
+    register: u32,
+    weight: u8,
+    places: &[u16],
+    b: &[u8],
+    coded: &mut [u8],
+    labels: &mut [u8],
+)
+    requires { ⌜ CodesB l register weight (now places) (now b) (now coded) (now labels) ⌝ }
     ensures { λ r. ⌜ now (labels .exit) ≡ added weight (mixed (l .t) (codedWithTail l register (now (b .entry)))) (now (labels .entry)) ⌝ }
     ensures { λ r. ⌜ now (coded .exit) ≡ sets (now (coded .entry)) 0 (codedWithTail l register (now (b .entry))) ⌝ }
 {
     encode_b(l, register, b, coded);
     let n = labels.len();
-    add_part(l.t, weight, &coded[0..n], labels);
+    add_part(l.t, weight, places, &coded[0..n], labels);
 }
 
 // A level's bits coded, parts A and B interleaved separately, and added to the labels with the level's weight. The register runs on from A into B.
-fn code_level(l: Level, weight: u8, a: &[u8], b: &[u8], coded: &mut [u8], labels: &mut [u8])
-    requires { ⌜ CodesLevel l weight (now a) (now b) (now coded) (now labels) ⌝ }
+fn code_level(
+    l: Level,
+    weight: u8,
+    places: &[u16],
+    a: &[u8],
+    b: &[u8],
+    coded: &mut [u8],
+    labels: &mut [u8],
+)
+    requires { ⌜ CodesLevel l weight (now places) (now a) (now b) (now coded) (now labels) ⌝ }
     ensures { λ r. ⌜ now (labels .exit) ≡ added weight (stream l (now (a .entry)) (now (b .entry))) (now (labels .entry)) ⌝ }
     ensures { λ r. ⌜ now (coded .exit) ≡ codedOver l (now (a .entry)) (now (b .entry)) (now (coded .entry)) ⌝ }
 {
-    let coder = code_a(l, weight, a, coded, labels);
+    let coder = code_a(l, weight, places, a, coded, labels);
     let n = coder.at;
-    code_b(l, coder.register, weight, b, coded, &mut labels[n..]);
+    code_b(
+        l,
+        coder.register,
+        weight,
+        &places[n..],
+        b,
+        coded,
+        &mut labels[n..],
+    );
 }
 
 // Level l of a block coded and added to the labels with its weight.
-fn code_at(k: Block, l: usize, weight: u8, a: &[u8], b: &[u8], coded: &mut [u8], labels: &mut [u8])
-    requires { ⌜ CodesAt (k .levels) l weight (now a) (now b) (now coded) (now labels) ⌝ }
+fn code_at(
+    k: Block,
+    l: usize,
+    weight: u8,
+    places: &[u16],
+    a: &[u8],
+    b: &[u8],
+    coded: &mut [u8],
+    labels: &mut [u8],
+)
+    requires { ⌜ CodesAt (k .levels) l weight (now places) (now a) (now b) (now coded) (now labels) ⌝ }
     ensures { λ r. ⌜ now (labels .exit) ≡ added weight (streamAt (k .levels) (now (a .entry)) (now (b .entry)) l) (now (labels .entry)) ⌝ }
     ensures { λ r. ⌜ now (coded .exit) ≡ codedOverAt (k .levels) (now (a .entry)) (now (b .entry)) l (now (coded .entry)) ⌝ }
 {
@@ -76,7 +116,16 @@ fn code_at(k: Block, l: usize, weight: u8, a: &[u8], b: &[u8], coded: &mut [u8],
     let end = at + level.bitsa;
     let from = bits_before(k, true, l);
     let to = from + level.bitsb;
-    code_level(level, weight, &a[at..end], &b[from..to], coded, labels);
+    let n = labels.len();
+    code_level(
+        level,
+        weight,
+        &places[l * n..l * n + n],
+        &a[at..end],
+        &b[from..to],
+        coded,
+        labels,
+    );
 }
 
 fn clear(labels: &mut [u8])
@@ -95,11 +144,12 @@ pub fn code_levels(
     first: usize,
     step: usize,
     many: usize,
+    places: &[u16],
     a: &[u8],
     b: &[u8],
     labels: &mut [u8],
 )
-    requires { ⌜ CodesLevels (k .levels) first step many (now a) (now b) (now labels) ⌝ }
+    requires { ⌜ CodesLevels (k .levels) first step many (now places) (now a) (now b) (now labels) ⌝ }
     ensures { λ r. ⌜ now (labels .exit) ≡ table (labelAt (stepped (streamAt (k .levels) (now (a .entry))
         (now (b .entry))) first step many)) 0 (length (now (labels .entry))) ⌝ }
 {
@@ -109,7 +159,7 @@ pub fn code_levels(
     let mut weight: u8 = 1;
     let mut left = many;
     while 0 < left {
-        code_at(k, l, weight, a, b, &mut coded, labels);
+        code_at(k, l, weight, places, a, b, &mut coded, labels);
         l += step;
         weight = 2 * weight;
         left -= 1;

@@ -2,3 +2,4 @@
 pub mod code;
 pub mod places;
 pub mod read;
+pub mod tables;

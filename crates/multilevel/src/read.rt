@@ -23,22 +23,31 @@ fn read_part(
     register: u32,
     t: usize,
     weight: u8,
+    places: &[u16],
     labels: &[u8],
     coded: &mut [u8],
     out: &mut [u8],
 ) -> u32
-    requires { ⌜ ReadsPart pattern register t weight (now labels) (now coded) (now out) ⌝ }
+    requires { ⌜ ReadsPart pattern register t weight (now places) (now labels) (now coded) (now out) ⌝ }
     ensures { λ r. ⌜ PartRead pattern register t weight (now (labels .entry)) (length (now (out .entry))) r (now (out .exit)) ⌝ }
     ensures { λ r. ⌜ now (coded .exit) ≡ unmixed t (taken weight (now (labels .entry))) ⌝ }
 {
-    take_part(t, weight, labels, coded);
+    take_part(t, weight, places, labels, coded);
     let coder = decode(pattern, register, coded, 0, out);
     coder.register
 }
 
 // A level's input bits from the labels: those of part A from register 0, those of part B from the register behind.
-fn read_level(l: Level, weight: u8, labels: &[u8], coded: &mut [u8], a: &mut [u8], b: &mut [u8])
-    requires { ⌜ ReadsLevel l weight (now labels) (now coded) (now a) (now b) ⌝ }
+fn read_level(
+    l: Level,
+    weight: u8,
+    places: &[u16],
+    labels: &[u8],
+    coded: &mut [u8],
+    a: &mut [u8],
+    b: &mut [u8],
+)
+    requires { ⌜ ReadsLevel l weight (now places) (now labels) (now coded) (now a) (now b) ⌝ }
     ensures { λ r. ⌜ LevelRead l (taken weight (now (labels .entry))) (now (a .exit)) (now (b .exit)) ⌝ }
     ensures { λ r. ⌜ now (coded .exit) ≡ takenOver l (taken weight (now (labels .entry))) (now (coded .entry)) ⌝ }
 {
@@ -50,6 +59,7 @@ fn read_level(l: Level, weight: u8, labels: &[u8], coded: &mut [u8], a: &mut [u8
         0,
         l.t,
         weight,
+        &places[0..front],
         &labels[0..front],
         &mut coded[0..front],
         a,
@@ -60,6 +70,7 @@ fn read_level(l: Level, weight: u8, labels: &[u8], coded: &mut [u8], a: &mut [u8
         register,
         l.t,
         weight,
+        &places[front..],
         &labels[front..],
         &mut coded[0..n],
         b,
@@ -71,12 +82,13 @@ fn read_at(
     k: Block,
     l: usize,
     weight: u8,
+    places: &[u16],
     labels: &[u8],
     coded: &mut [u8],
     a: &mut [u8],
     b: &mut [u8],
 )
-    requires { ⌜ ReadsAt (k .levels) l weight (now labels) (now coded) (now a) (now b) ⌝ }
+    requires { ⌜ ReadsAt (k .levels) l weight (now places) (now labels) (now coded) (now a) (now b) ⌝ }
     ensures { λ r. ⌜ ReadAt (k .levels) l (taken weight (now (labels .entry))) (now (a .entry)) (now (b .entry)) (now (a .exit)) (now (b .exit)) ⌝ }
     ensures { λ r. ⌜ now (coded .exit) ≡ takenOver (levelAt (k .levels) l) (taken weight (now (labels .entry))) (now (coded .entry)) ⌝ }
 {
@@ -86,9 +98,11 @@ fn read_at(
     let end = at + level.bitsa;
     let from = bits_before(k, true, l);
     let to = from + level.bitsb;
+    let n = labels.len();
     read_level(
         level,
         weight,
+        &places[l * n..l * n + n],
         labels,
         coded,
         &mut a[at..end],
@@ -121,8 +135,16 @@ fn take_axis(a: usize, labels: &[u8], out: &mut [u8])
 }
 
 // Level l read from the labels, or from those of its axis where each level has one axis only.
-fn read_stream(k: Block, l: usize, labels: &[u8], coded: &mut [u8], a: &mut [u8], b: &mut [u8])
-    requires { ⌜ ReadsStream k l (now labels) (now coded) (now a) (now b) ⌝ }
+fn read_stream(
+    k: Block,
+    l: usize,
+    places: &[u16],
+    labels: &[u8],
+    coded: &mut [u8],
+    a: &mut [u8],
+    b: &mut [u8],
+)
+    requires { ⌜ ReadsStream k l (now places) (now labels) (now coded) (now a) (now b) ⌝ }
     ensures { λ r. ⌜ ReadAt (k .levels) l (streamIn (oneAxis k) (now (labels .entry)) l) (now (a .entry)) (now (b .entry)) (now (a .exit)) (now (b .exit)) ⌝ }
     ensures { λ r. ⌜ now (coded .exit) ≡ takenOver (levelAt (k .levels) l) (streamIn (oneAxis k) (now (labels .entry)) l) (now (coded .entry)) ⌝ }
 {
@@ -130,15 +152,15 @@ fn read_stream(k: Block, l: usize, labels: &[u8], coded: &mut [u8], a: &mut [u8]
         let mut axis = axis_buffer();
         let n = labels.len() / 2;
         take_axis(l % 2, labels, &mut axis[0..n]);
-        read_at(k, l, power(l / 2), &axis[0..n], coded, a, b);
+        read_at(k, l, power(l / 2), places, &axis[0..n], coded, a, b);
         return;
     }
-    read_at(k, l, power(l), labels, coded, a, b);
+    read_at(k, l, power(l), places, labels, coded, a, b);
 }
 
 // All levels of a block, from the labels of its coordinates.
-pub fn read_levels(k: Block, labels: &[u8], a: &mut [u8], b: &mut [u8])
-    requires { ⌜ ReadsLevels k (now labels) (now a) (now b) ⌝ }
+pub fn read_levels(k: Block, places: &[u16], labels: &[u8], a: &mut [u8], b: &mut [u8])
+    requires { ⌜ ReadsLevels k (now places) (now labels) (now a) (now b) ⌝ }
     ensures { λ r. ⌜ now (a .exit) ≡ inputsA (levelsOf k) (table (streamIn (oneAxis k) (now (labels .entry))) 0 (k .count)) ⌝ }
     ensures { λ r. ⌜ now (b .exit) ≡ inputsB (levelsOf k) (table (streamIn (oneAxis k) (now (labels .entry))) 0 (k .count)) ⌝ }
 {
@@ -146,7 +168,7 @@ pub fn read_levels(k: Block, labels: &[u8], a: &mut [u8], b: &mut [u8])
     let count = k.count;
     let mut l = 0;
     while l < count {
-        read_stream(k, l, labels, &mut coded, a, b);
+        read_stream(k, l, places, labels, &mut coded, a, b);
         l += 1;
     }
 }

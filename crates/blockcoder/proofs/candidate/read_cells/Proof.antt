@@ -9,27 +9,27 @@ use Rattle.blockcoder.proofs.candidate.read_cells.Statement.{statement}
 use Rattle.blockcoder.proofs.candidate.read_cells.Tie as tie
 
 unmap-cells-requires : tie.Need-unmap-cells-requires
-unmap-cells-requires c κs = let p = c .before .before .before .before .pre in unmaps p (length-start _ _ (omega (arith, cells-low p, c .before .cell-buffer .ensures .long)))
+unmap-cells-requires c κs = let p = c .before .before .before .before .before .pre .0 in unmaps p (length-start _ _ (omega (arith, cells-low p, c .before .cell-buffer .ensures .long)))
 
 part-end : tie.Need-part-read-levels-end
 part-end c =
     let u = c .before .before .unmap-cells in
-    part-room (c .before .before .before .before .cell-buffer .result) (u .last .1 .1 .0) _ (omega (arith, cells-low (c .before .before .before .before .before .before .before .pre), c .before .before .before .before .cell-buffer .ensures .long)) (u .kept .1 .1 .0)
+    part-room (c .before .before .before .before .cell-buffer .result) (u .last .1 .1 .0) _ (omega (arith, cells-low (c .before .before .before .before .before .before .before .before .pre .0), c .before .before .before .before .cell-buffer .ensures .long)) (u .kept .1 .1 .0)
 
 read-levels-requires : tie.Need-read-levels-requires
 read-levels-requires c κs =
-    let p = c .before .before .before .before .before .before .before .before .before .before .pre in
-    let n = length (c .before .before .before .before .before .before .before .before .before .before .args .cells .now) in
+    let p = c .before .before .before .before .before .before .before .before .before .before .before .pre .0 in
+    let n = length (c .before .before .before .before .before .before .before .before .before .before .before .args .cells .now) in
     let u = c .before .before .before .before .before .unmap-cells in
     let buffer = c .before .before .before .before .before .before .before .cell-buffer .result in
-    reads-both p
+    reads-both p (c .before .before .before .before .before .before .before .before .before .before .before .pre .1)
     (part-again buffer (u .last .1 .1 .0) n (omega (arith, cells-low p, c .before .before .before .before .before .before .before .cell-buffer .ensures .long)) (u .kept .1 .1 .0))
     (part-long buffer (u .last .1 .1 .0) n (omega (arith, cells-low p, c .before .before .before .before .before .before .before .cell-buffer .ensures .long)) (u .kept .1 .1 .0))
 
 returns : tie.Need-returns
 returns c =
-    let p = c .before .before .before .before .before .before .before .before .before .before .before .before .before .before .before .pre in
-    let n = length (c .before .before .before .before .before .before .before .before .before .before .before .before .before .before .before .args .cells .now) in
+    let p = c .before .before .before .before .before .before .before .before .before .before .before .before .before .before .before .before .pre .0 in
+    let n = length (c .before .before .before .before .before .before .before .before .before .before .before .before .before .before .before .before .args .cells .now) in
     let u = c .before .before .before .before .before .before .before .before .before .before .unmap-cells in
     read-both p
     (part-again (c .before .before .before .before .before .before .before .before .before .before .before .before .cell-buffer .result) (u .last .1 .1 .0) n (omega (arith, cells-low p, c .before .before .before .before .before .before .before .before .before .before .before .before .cell-buffer .ensures .long)) (u .kept .1 .1 .0) ∙ u .ensures)
@@ -37,6 +37,4 @@ returns c =
 
 pub read-cells-spec : {M : Type 1} → statement M
 read-cells-spec =
-    tie.close (tie.spec (λ c κs. search needs) (λ c. search needs) (λ c. search needs)
-    (λ c. omega (arith, cells-low (c .before .before .before .pre), c .cell-buffer .ensures .long)) unmap-cells-requires (λ c. search needs)
-    (λ c. search needs) part-end read-levels-requires (λ c. search needs) (λ c. search needs) returns)
+    tie.close (tie.spec (λ c κs. search needs) (λ c. search needs) (λ c. search needs) (λ c. omega (arith, cells-low (c .before .before .before .before .pre .0), c .cell-buffer .ensures .long)) unmap-cells-requires (λ c. search needs) (λ c. search needs) part-end read-levels-requires (λ c. search needs) (λ c. search needs) returns)

@@ -1,36 +1,17 @@
 -- `code_bits` meets its contract. Assumes nothing.
+use native.Mathlib.Omega.{arith}
 use borrow.Author.Needs.{needs}
-use borrow.Author.Tests.{eq-eqb, ne-eqb}
-use Rattle.block.specs.Block.{oneAxis}
-use Rattle.multilevel.proofs.Totals.{sums-front}
-use Rattle.blockcoder.proofs.Coding.{part-a, codes-parts, both-cells, axis-cells}
 use Rattle.blockcoder.proofs.code.code_bits.Statement.{statement}
 use Rattle.blockcoder.proofs.code.code_bits.Tie as tie
 
-code-axes-requires : tie.Need-code-axes-requires
-unfolding oneAxis
-code-axes-requires c κs = (codes-parts (c .before .before .before .before .before .before .before .pre) (c .before .before .before .before .before .bits-before .ensures), eq-eqb _ _ (c .before .before .before .if1 .taken))
+block-places-requires : tie.Need-block-places-requires
+block-places-requires c κs = record { fits = c .before .before .before .pre .fits; room = omega (arith, c .before .place-buffer .ensures .long) }
+
+code-streams-requires : tie.Need-code-streams-requires
+code-streams-requires c κs = (c .before .before .before .before .before .before .before .pre, c .before .before .before .block-places .ensures)
 
 returns : tie.Need-returns
-unfolding oneAxis
-returns c = axis-cells (c .before .before .before .before .before .before .before .before .before .pre) (c .before .before .before .before .before .before .before .bits-before .ensures) (eq-eqb _ _ (c .before .before .before .before .before .if1 .taken)) (c .before .code-axes .ensures)
-
-code-both-requires : tie.Need-code-both-requires
-unfolding oneAxis
-code-both-requires c κs = (codes-parts (c .before .before .before .before .before .before .before .pre) (c .before .before .before .before .before .bits-before .ensures), ne-eqb _ _ (c .before .before .before .if1 .left))
-
-returns-2 : tie.Need-returns-2
-unfolding oneAxis
-returns-2 c = both-cells (c .before .before .before .before .before .before .before .before .before .pre) (c .before .before .before .before .before .before .before .bits-before .ensures) (ne-eqb _ _ (c .before .before .before .before .before .if1 .left)) (c .before .code-both .ensures)
+returns c = c .before .code-streams .ensures
 
 pub code-bits-spec : {M : Type 1} → statement M
-code-bits-spec =
-    tie.close (tie.spec (λ c κs. sums-front (c .before .pre .fits)) (λ c. search needs) (λ c. search needs)
-    (λ c. part-a (c .before .before .before .before .pre) (c .before .before .bits-before .ensures))
-    (λ c. part-a (c .before .before .before .before .before .pre) (c .before .before .before .bits-before .ensures))
-    (λ c. part-a (c .before .before .before .before .before .pre) (c .before .before .before .bits-before .ensures)) (λ c. search needs)
-    code-axes-requires (λ c. search needs) returns (λ c. search needs) (λ c. search needs)
-    (λ c. part-a (c .before .before .before .before .pre) (c .before .before .bits-before .ensures))
-    (λ c. part-a (c .before .before .before .before .before .pre) (c .before .before .before .bits-before .ensures))
-    (λ c. part-a (c .before .before .before .before .before .pre) (c .before .before .before .bits-before .ensures)) (λ c. search needs)
-    code-both-requires (λ c. search needs) returns-2)
+code-bits-spec = tie.close (tie.spec (λ c κs. search needs) (λ c. search needs) block-places-requires (λ c. search needs) code-streams-requires (λ c. search needs) returns)

@@ -1,38 +1,17 @@
 -- `code_block` meets its contract. Assumes nothing.
 use native.Mathlib.Omega.{arith}
 use borrow.Author.Needs.{needs}
-use Rattle.blockcoder.proofs.Coding.{total-low, unpacks, codes-bits, block-cells, bits-room, bits-again}
 use Rattle.blockcoder.proofs.code.code_block.Statement.{statement}
 use Rattle.blockcoder.proofs.code.code_block.Tie as tie
 
-part-bits-end : tie.Need-part-bits-end
-part-bits-end c = let C = c .before .before .before .pre in omega (arith, total-low C (c .bit-count .ensures), c .before .bit-buffer .ensures .long)
+block-places-requires : tie.Need-block-places-requires
+block-places-requires c κs = record { fits = c .before .before .before .pre .fits; room = omega (arith, c .before .place-buffer .ensures .long) }
 
-unpack-parts-requires : tie.Need-unpack-parts-requires
-unpack-parts-requires c κs =
-    let C = c .before .before .before .before .pre in
-    let e = c .before .bit-count .ensures in
-    unpacks C (bits-room C e _ (c .before .before .bit-buffer .ensures .long))
-
-part-code-bits-end : tie.Need-part-code-bits-end
-part-code-bits-end c =
-    let C = c .before .before .before .before .before .before .before .pre in
-    let e = c .before .before .before .before .bit-count .ensures in
-    bits-again C e _ (c .before .before .before .before .before .bit-buffer .ensures .long) (c .before .before .unpack-parts .ensures) .0
-
-code-bits-requires : tie.Need-code-bits-requires
-code-bits-requires c κs =
-    let C = c .before .before .before .before .before .before .before .before .before .pre in
-    let e = c .before .before .before .before .before .before .bit-count .ensures in
-    codes-bits C e (bits-again C e _ (c .before .before .before .before .before .before .before .bit-buffer .ensures .long) (c .before .before .before .before .unpack-parts .ensures) .1)
+code-ordered-requires : tie.Need-code-ordered-requires
+code-ordered-requires c κs = (c .before .before .before .before .before .before .before .pre, c .before .before .before .block-places .ensures)
 
 returns : tie.Need-returns
-returns c =
-    let C = c .before .before .before .before .before .before .before .before .before .before .before .pre in
-    let e = c .before .before .before .before .before .before .before .before .bit-count .ensures in
-    block-cells C e (bits-again C e _ (c .before .before .before .before .before .before .before .before .before .bit-buffer .ensures .long) (c .before .before .before .before .before .before .unpack-parts .ensures) .1) (c .before .code-bits .ensures)
+returns c = c .before .code-ordered .ensures
 
 pub code-block-spec : {M : Type 1} → statement M
-code-block-spec =
-    tie.close (tie.spec (λ c κs. search needs) (λ c κs. c .before .before .pre .fits) (λ c. search needs) (λ c. search needs) part-bits-end
-    unpack-parts-requires (λ c. search needs) (λ c. search needs) part-code-bits-end code-bits-requires (λ c. search needs) returns)
+code-block-spec = tie.close (tie.spec (λ c κs. search needs) (λ c. search needs) block-places-requires (λ c. search needs) code-ordered-requires (λ c. search needs) returns)

@@ -1,76 +1,17 @@
 -- `read_block` meets its contract. Assumes nothing.
-use mathlib.Core.Path.{sym, _∙_}
+use native.Mathlib.Omega.{arith}
 use borrow.Author.Needs.{needs}
-use Rattle.lists.proofs.Parts.{length-start, part-room, part-again}
-use Rattle.blockcoder.proofs.Reading.{bits-in, bytes-in, cells-in, reads-candidate, packs, codes-again, block-read}
 use Rattle.blockcoder.proofs.read.read_block.Statement.{statement}
 use Rattle.blockcoder.proofs.read.read_block.Tie as tie
 
-part-bits-end : tie.Need-part-bits-end
-part-bits-end c = let C = c .before .before .before .before .before .pre in bits-in C (c .bit-count .ensures) (c .before .before .before .bit-buffer .ensures)
+block-places-requires : tie.Need-block-places-requires
+block-places-requires c κs = record { fits = c .before .before .before .pre .fits; room = omega (arith, c .before .place-buffer .ensures .long) }
 
-candidate-bits-requires : tie.Need-candidate-bits-requires
-candidate-bits-requires c κs =
-    let C = c .before .before .before .before .before .before .pre in
-    let e = c .before .bit-count .ensures in
-    reads-candidate C (length-start _ _ (bits-in C e (c .before .before .before .before .bit-buffer .ensures)) ∙ e)
-
-part-pack-end : tie.Need-part-pack-end
-part-pack-end c =
-    let C = c .before .before .before .before .before .before .before .before .before .pre in
-    let e = c .before .before .before .before .bit-count .ensures in
-    part-room (c .before .before .before .before .before .before .before .bit-buffer .result) (c .before .before .candidate-bits .last .1 .1 .0) _ (bits-in C e (c .before .before .before .before .before .before .before .bit-buffer .ensures)) (c .before .before .candidate-bits .kept .1 .1 .0)
-
-part-packed-end : tie.Need-part-packed-end
-part-packed-end c = bytes-in (c .before .before .before .before .before .before .before .before .before .before .pre) (c .before .before .before .before .before .before .before .byte-buffer .ensures)
-
-pack-requires : tie.Need-pack-requires
-pack-requires c κs =
-    let C = c .before .before .before .before .before .before .before .before .before .before .before .pre in
-    let e = c .before .before .before .before .before .before .bit-count .ensures in
-    packs C (part-again (c .before .before .before .before .before .before .before .before .before .bit-buffer .result) (c .before .before .before .before .candidate-bits .last .1 .1 .0) _ (bits-in C e (c .before .before .before .before .before .before .before .before .before .bit-buffer .ensures)) (c .before .before .before .before .candidate-bits .kept .1 .1 .0) ∙ c .before .before .before .before .candidate-bits .ensures)
-    (length-start _ _ (bytes-in C (c .before .before .before .before .before .before .before .before .byte-buffer .ensures)))
-
-part-code-block-end : tie.Need-part-code-block-end
-part-code-block-end c = part-room (c .before .before .before .before .before .before .before .before .before .before .before .byte-buffer .result) (c .before .before .pack .last .1 .0) _ (bytes-in (c .before .before .before .before .before .before .before .before .before .before .before .before .before .before .pre) (c .before .before .before .before .before .before .before .before .before .before .before .byte-buffer .ensures)) (c .before .before .pack .kept .1 .0)
-
-part-again-end : tie.Need-part-again-end
-part-again-end c = cells-in (c .before .before .before .before .before .before .before .before .before .before .before .before .before .before .before .pre) (c .before .before .before .before .before .before .before .before .before .before .before .coordinate-buffer .ensures)
-
-code-block-requires : tie.Need-code-block-requires
-code-block-requires c κs =
-    let C = c .before .before .before .before .before .before .before .before .before .before .before .before .before .before .before .before .pre in
-    codes-again C (length-start _ _ (part-room (c .before .before .before .before .before .before .before .before .before .before .before .before .before .byte-buffer .result) (c .before .before .before .before .pack .last .1 .0) _ (bytes-in C (c .before .before .before .before .before .before .before .before .before .before .before .before .before .byte-buffer .ensures)) (c .before .before .before .before .pack .kept .1 .0)))
-    (length-start _ _ (cells-in C (c .before .before .before .before .before .before .before .before .before .before .before .before .coordinate-buffer .ensures)))
-
-part-hand-out-end : tie.Need-part-hand-out-end
-part-hand-out-end c = part-room (c .before .before .before .before .before .before .before .before .before .before .before .before .before .before .before .before .byte-buffer .result) (c .before .before .before .before .before .before .before .pack .last .1 .0) _ (bytes-in (c .before .before .before .before .before .before .before .before .before .before .before .before .before .before .before .before .before .before .before .pre) (c .before .before .before .before .before .before .before .before .before .before .before .before .before .before .before .before .byte-buffer .ensures)) (c .before .before .before .before .before .before .before .pack .kept .1 .0)
-
-part-hand-out-end-2 : tie.Need-part-hand-out-end-2
-part-hand-out-end-2 c = part-room (c .before .before .before .before .before .before .before .before .before .before .before .before .before .before .before .before .before .coordinate-buffer .result) (c .before .before .before .before .code-block .last .1 .1 .0) _ (cells-in (c .before .before .before .before .before .before .before .before .before .before .before .before .before .before .before .before .before .before .before .before .before .pre) (c .before .before .before .before .before .before .before .before .before .before .before .before .before .before .before .before .before .coordinate-buffer .ensures)) (c .before .before .before .before .code-block .kept .1 .1 .0)
-
-hand-out-requires : tie.Need-hand-out-requires
-hand-out-requires c κs =
-    let C = c .before .before .before .before .before .before .before .before .before .before .before .before .before .before .before .before .before .before .before .before .before .before .before .pre in
-    record {
-      bytes-long = sym (length-start _ _ (part-room (c .before .before .before .before .before .before .before .before .before .before .before .before .before .before .before .before .before .before .before .before .byte-buffer .result) (c .before .before .before .before .before .before .before .before .before .before .before .pack .last .1 .0) _ (bytes-in C (c .before .before .before .before .before .before .before .before .before .before .before .before .before .before .before .before .before .before .before .before .byte-buffer .ensures)) (c .before .before .before .before .before .before .before .before .before .before .before .pack .kept .1 .0)));
-      cells-long = length-start _ _ (part-room (c .before .before .before .before .before .before .before .before .before .before .before .before .before .before .before .before .before .before .before .coordinate-buffer .result) (c .before .before .before .before .before .before .code-block .last .1 .1 .0) _ (cells-in C (c .before .before .before .before .before .before .before .before .before .before .before .before .before .before .before .before .before .before .before .coordinate-buffer .ensures)) (c .before .before .before .before .before .before .code-block .kept .1 .1 .0));
-    }
+read-ordered-requires : tie.Need-read-ordered-requires
+read-ordered-requires c κs = (c .before .before .before .before .before .before .before .pre, c .before .before .before .block-places .ensures)
 
 returns : tie.Need-returns
-returns c =
-    let C = c .before .before .before .before .before .before .before .before .before .before .before .before .before .before .before .before .before .before .before .before .before .before .before .before .before .before .pre in
-    let e = c .before .before .before .before .before .before .before .before .before .before .before .before .before .before .before .before .before .before .before .before .before .bit-count .ensures in
-    block-read C
-    (part-again (c .before .before .before .before .before .before .before .before .before .before .before .before .before .before .before .before .before .before .before .before .before .before .before .before .bit-buffer .result) (c .before .before .before .before .before .before .before .before .before .before .before .before .before .before .before .before .before .before .before .candidate-bits .last .1 .1 .0) _ (bits-in C e (c .before .before .before .before .before .before .before .before .before .before .before .before .before .before .before .before .before .before .before .before .before .before .before .before .bit-buffer .ensures)) (c .before .before .before .before .before .before .before .before .before .before .before .before .before .before .before .before .before .before .before .candidate-bits .kept .1 .1 .0) ∙ c .before .before .before .before .before .before .before .before .before .before .before .before .before .before .before .before .before .before .before .candidate-bits .ensures)
-    (part-again (c .before .before .before .before .before .before .before .before .before .before .before .before .before .before .before .before .before .before .before .before .before .before .before .byte-buffer .result) (c .before .before .before .before .before .before .before .before .before .before .before .before .before .before .pack .last .1 .0) _ (bytes-in C (c .before .before .before .before .before .before .before .before .before .before .before .before .before .before .before .before .before .before .before .before .before .before .before .byte-buffer .ensures)) (c .before .before .before .before .before .before .before .before .before .before .before .before .before .before .pack .kept .1 .0) ∙ c .before .before .before .before .before .before .before .before .before .before .before .before .before .before .pack .ensures)
-    (part-again (c .before .before .before .before .before .before .before .before .before .before .before .before .before .before .before .before .before .before .before .before .before .before .coordinate-buffer .result) (c .before .before .before .before .before .before .before .before .before .code-block .last .1 .1 .0) _ (cells-in C (c .before .before .before .before .before .before .before .before .before .before .before .before .before .before .before .before .before .before .before .before .before .before .coordinate-buffer .ensures)) (c .before .before .before .before .before .before .before .before .before .code-block .kept .1 .1 .0) ∙ c .before .before .before .before .before .before .before .before .before .code-block .ensures)
-    (c .before .before .hand-out .ensures)
+returns c = c .before .before .read-ordered .ensures
 
 pub read-block-spec : {M : Type 1} → statement M
-read-block-spec =
-    tie.close (tie.spec (λ c κs. search needs) (λ c κs. search needs) (λ c κs. search needs) (λ c κs. c .before .before .before .before .pre .fits)
-    (λ c. search needs) (λ c. search needs) part-bits-end candidate-bits-requires (λ c. search needs) (λ c. search needs) part-pack-end
-    (λ c. search needs) (λ c. search needs) part-packed-end pack-requires (λ c. search needs) (λ c. search needs) part-code-block-end
-    (λ c. search needs) (λ c. search needs) part-again-end code-block-requires (λ c. search needs) (λ c. search needs) part-hand-out-end
-    (λ c. search needs) (λ c. search needs) part-hand-out-end-2 hand-out-requires (λ c. search needs) returns)
+read-block-spec = tie.close (tie.spec (λ c κs. search needs) (λ c. search needs) block-places-requires (λ c. search needs) read-ordered-requires (λ c. search needs) returns)

@@ -4,6 +4,14 @@ use Rattle.codecall.proofs.CodeTurns.{frame-sends}
 use Rattle.codecall.proofs.blocks.code_frame.Statement.{statement}
 use Rattle.codecall.proofs.blocks.code_frame.Tie as tie
 
+store-frame-requires : tie.Need-store-frame-requires
+store-frame-requires c κs = ((c .before .before .before .before .pre .0 .lent .fits, c .before .before .before .before .pre .0 .input), c .before .before .before .before .pre .1)
+
+send-row-requires : tie.Need-send-row-requires
+send-row-requires c κs = frame-sends _ _ _ _ _ (c .before .before .before .before .before .before .before .before .before .pre .0) (c .before .before .before .before .store-frame .ensures)
+
+returns : tie.Need-returns
+returns c = record { held = c .before .before .before .before .before .before .store-frame .ensures; sent = c .before .send-row .ensures }
+
 pub code-frame-spec : {M : Type 1} → statement M
-code-frame-spec =
-    tie.close (tie.spec (λ c κs. (c .before .before .before .pre .lent .fits, c .before .before .before .pre .input)) (λ c κs. frame-sends _ _ _ _ _ (c .before .before .before .before .before .before .before .before .pre) (c .before .before .before .before .store-frame .ensures)) (λ c. search needs) (λ c. search needs) (λ c. record { held = c .before .before .before .before .before .before .store-frame .ensures; sent = c .before .send-row .ensures }))
+code-frame-spec = tie.close (tie.spec store-frame-requires send-row-requires (λ c. search needs) (λ c. search needs) returns)

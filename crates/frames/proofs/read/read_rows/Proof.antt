@@ -1,33 +1,41 @@
--- `places::read_rows` meets its contract. The loop's invariant: state, memory, marks and bytes are those after the first i rows. Assumes nothing.
+-- `read::read_rows` meets its contract. The loop's invariant: state, memory, marks and bytes are those after the first i rows. Assumes nothing.
 use Prim.Native.Nat.{_+_, _-_, _*_, _≤_}
 use mathlib.Core.Path.{refl}
+use native.Mathlib.Omega.{arith}
 use borrow.Author.Needs.{needs}
 use lib.ListN.{length}
-use Rattle.frames.proofs.FrameTurns.{RowsReading, reading-start, row-within, row-lent, row-finish, row-turn, rows-end}
+use Rattle.channels.proofs.Msc.{msc-fits}
+use Rattle.frames.proofs.FrameTurns.{RowsReading, reading-start, row-within, row-lent, row-order, row-finish, row-turn, rows-end}
 use Rattle.frames.proofs.read.read_rows.Statement.{statement}
 use Rattle.frames.proofs.read.read_rows.Tie as tie
 
 abbrev Inv-loop : tie.InvT-loop
-Inv-loop msc memory₀ out₀ n frames₀ i₀ memory out frames i =
+Inv-loop msc memory₀ out₀ n places frames₀ i₀ memory out frames i =
     RowsReading (frames₀ .after) msc memory₀ out₀ n memory out (frames .given) (frames .finished) (frames .after) i
 
 abbrev μ-loop : tie.MeasureT-loop
-μ-loop msc memory₀ out₀ n frames₀ i₀ memory out frames i = 3 - i
+μ-loop msc memory₀ out₀ n places frames₀ i₀ memory out frames i = 3 - i
 
 -- Row i lies within the cells.
 within : (c : tie.In-loop Inv-loop μ-loop)
-    → c .before .before .slot-size .result * c .before .loop .i + c .before .before .slot-size .result ≤ length (c .before .before .before .before .before .args .msc .now)
+    → c .before .before .before .before .before .before .before .slot-size .result * c .before .loop .i + c .before .before .before .before .before .before .before .slot-size .result ≤ length (c .before .before .before .before .before .before .before .before .before .before .args .msc .now)
 within c = row-within _ _ _ _ _ _ _ _ _ _ _ (c .before .loop .inv) (c .loop-test .taken)
 
+block-places-requires : tie.Need-block-places-requires Inv-loop μ-loop
+block-places-requires c κs =
+    rw (c .before .msc-block .ensures) (record { fits = msc-fits (c .before .before .before .before .before .before .pre .fits .allowed); room = omega (arith, c .before .before .place-buffer .ensures .long) })
+
 read-finished-requires : tie.Need-read-finished-requires Inv-loop μ-loop
-read-finished-requires c κs =
-    row-finish _ _ _ _ _ _ _ _ _ _ _ (c .before .before .before .before .before .before .before .before .loop .inv) (c .before .before .before .before .before .before .before .loop-test .taken) _ (c .before .before .before .before .take-row .ensures) (c .before .before .before .before .take-row .kept .1 .1 .0)
+read-finished-requires c κs = (
+  row-finish _ _ _ _ _ _ _ _ _ _ _ (c .before .before .before .before .before .before .before .before .before .loop .inv) (c .before .before .before .before .before .before .before .before .loop-test .taken) _ (c .before .before .before .before .before .take-row .ensures) (c .before .before .before .before .before .take-row .kept .1 .1 .0),
+  row-order _ _ _ _ _ _ _ _ _ _ _ (c .before .before .before .before .before .before .before .before .before .loop .inv) (rw (c .before .before .before .before .before .before .before .before .before .before .before .before .before .msc-block .ensures) at (c .before .before .before .before .before .before .before .before .before .before .before .block-places .ensures)),
+)
 
 loop-again : tie.Need-loop-again Inv-loop μ-loop
 loop-again c =
-    row-turn _ _ _ _ _ _ _ _ _ _ _ (c .before .before .before .before .before .before .before .before .before .before .before .loop .inv) (c .before .before .before .before .before .before .before .before .before .before .loop-test .taken) _ (c .before .before .before .before .before .before .before .take-row .ensures) (c .before .before .before .before .before .before .before .take-row .kept .1 .1 .0) _ _
-    (c .before .before .read-finished .ensures) (c .before .before .read-finished .kept .1 .1 .0)
+    row-turn _ _ _ _ _ _ _ _ _ _ _ (c .before .before .before .before .before .before .before .before .before .before .before .before .loop .inv) (c .before .before .before .before .before .before .before .before .before .before .before .loop-test .taken) _ (c .before .before .before .before .before .before .before .before .take-row .ensures) (c .before .before .before .before .before .before .before .before .take-row .kept .1 .1 .0) _ _
+    (c .before .before .read-finished .ensures) (c .before .before .read-finished .kept .1 .1 .1 .0)
 
 pub read-rows-spec : {M : Type 1} → statement M
 read-rows-spec =
-    tie.close (tie.spec Inv-loop μ-loop (λ c κs. c .before .before .pre .fits .allowed .settings) (λ c. reading-start _ _ _ _ _ _ (c .before .before .before .pre) (c .slot-size .ensures) refl) (λ c. let h = within c in search needs) (λ c. let h = within c in search needs) (λ c. let h = within c in search needs) (λ c. let h = within c in search needs) (λ c. let h = within c in search needs) (λ c. let h = within c in search needs) (λ c. let h = within c in search needs) (λ c κs. row-lent _ _ _ _ _ _ _ _ _ _ _ (c .before .before .before .loop .inv) (c .before .before .loop-test .taken)) read-finished-requires (λ c. search needs) (λ c. search needs) loop-again (λ c. search needs) (λ c. search needs) (λ c. rows-end _ _ _ _ _ _ _ _ _ _ _ (c .before .loop .inv) (c .loop-test .left)))
+    tie.close (tie.spec Inv-loop μ-loop (λ c κs. c .before .before .pre .fits .allowed .settings) (λ c κs. search needs) (λ c κs. c .before .before .before .before .pre .fits .allowed) (λ c. search needs) block-places-requires (λ c. reading-start _ _ _ _ _ _ (c .before .before .before .before .before .before .before .before .pre) (c .before .before .before .before .before .slot-size .ensures) refl) (λ c. let h = within c in search needs) (λ c. let h = within c in search needs) (λ c. let h = within c in search needs) (λ c. let h = within c in search needs) (λ c. let h = within c in search needs) (λ c. let h = within c in search needs) (λ c. let h = within c in search needs) (λ c κs. row-lent _ _ _ _ _ _ _ _ _ _ _ (c .before .before .before .loop .inv) (c .before .before .loop-test .taken)) (λ c. search needs) read-finished-requires (λ c. search needs) (λ c. search needs) loop-again (λ c. search needs) (λ c. search needs) (λ c. rows-end _ _ _ _ _ _ _ _ _ _ _ (c .before .loop .inv) (c .loop-test .left)))

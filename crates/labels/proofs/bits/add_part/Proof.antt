@@ -1,20 +1,26 @@
--- `code::add_part` meets its contract: bits as they are, no bits, and interleaved ones. Assumes nothing.
+-- `bits::add_part` meets its contract: bits as they are, no bits, and interleaved ones. Assumes nothing.
 use mathlib.Core.Path.{_∙_, sym}
 use borrow.Author.Needs.{needs}
-use Rattle.labels.proofs.Mixing.{adds, mixed-plain, mixed-cycle}
+use Rattle.labels.proofs.Mixing.{mixed-plain}
+use Rattle.labels.proofs.Ordering.{gathers-part, added-part}
 use Rattle.labels.proofs.Weights.{added-none}
 use Rattle.labels.proofs.bits.add_part.Statement.{statement}
 use Rattle.labels.proofs.bits.add_part.Tie as tie
 
+add-plain-requires : tie.Need-add-plain-requires
+add-plain-requires c κs = rw (c .before .if1 .taken) at (c .before .before .before .before .before .pre .0)
+
 returns : tie.Need-returns
 returns c = rw (mixed-plain _ _ (c .before .before .before .before .if1 .taken)) (c .before .before .add-plain .ensures)
 
+returns-2 : tie.Need-returns-2
+returns-2 c = added-none _ _ _ (sym (c .before .before .before .before .before .pre .0 .same) ∙ c .if2 .taken)
+
+gather-requires : tie.Need-gather-requires
+gather-requires c κs = gathers-part (c .before .before .before .before .before .before .pre .0) (c .before .before .before .before .before .before .pre .1) (c .before .before .if1 .left) (c .before .if2 .left)
+
 returns-3 : tie.Need-returns-3
-returns-3 c = rw (mixed-cycle _ _ (c .before .before .before .before .before .if1 .left)) (c .before .before .add-interleaved .ensures)
+returns-3 c = added-part (c .before .before .before .before .before .before .before .before .before .pre .0) (c .before .before .before .before .before .before .before .before .before .pre .1) (c .before .before .before .before .before .if1 .left) (c .before .before .gather .ensures)
 
 pub add-part-spec : {M : Type 1} → statement M
-add-part-spec =
-    tie.close (tie.spec (λ c κs. rw (c .before .if1 .taken) at (c .before .before .before .before .pre)) (λ c. search needs) returns
-    (λ c. added-none _ _ _ (sym (c .before .before .before .before .pre .same) ∙ c .if2 .taken))
-    (λ c κs. adds (c .before .before .before .before .before .pre) (c .before .before .if1 .left) (c .before .if2 .left)) (λ c. search needs)
-    returns-3)
+add-part-spec = tie.close (tie.spec add-plain-requires (λ c. search needs) returns returns-2 gather-requires (λ c. search needs) returns-3)

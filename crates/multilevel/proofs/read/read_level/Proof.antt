@@ -1,33 +1,52 @@
 -- `read::read_level` meets its contract: part A from the first labels, part B from those behind them. Assumes nothing.
+use native.Mathlib.Omega.{arith}
 use borrow.Author.Needs.{needs}
-use Rattle.multilevel.proofs.OneRead.{counts, first-labels, first-coded, reads-a, reads-b, over-parts, level-read}
+use Rattle.multilevel.proofs.OneRead.{counts, first-order, first-labels, first-coded, reads-a, reads-b, over-parts, level-read}
 use Rattle.multilevel.proofs.read.read_level.Statement.{statement}
 use Rattle.multilevel.proofs.read.read_level.Tie as tie
 
+coded-length-requires : tie.Need-coded-length-requires
+coded-length-requires c κs = counts (c .before .before .before .before .before .before .before .pre)
+
+part-read-part-end : tie.Need-part-read-part-end
+part-read-part-end c = first-order (c .before .before .before .before .before .before .before .before .pre) (c .coded-length .ensures)
+
+part-read-part-end-2 : tie.Need-part-read-part-end-2
+part-read-part-end-2 c = first-labels (c .before .before .before .before .before .before .before .before .before .pre) (c .before .coded-length .ensures)
+
+part-read-part-end-3 : tie.Need-part-read-part-end-3
+part-read-part-end-3 c = first-coded (c .before .before .before .before .before .before .before .before .before .before .pre) (c .before .before .coded-length .ensures)
+
+read-part-requires : tie.Need-read-part-requires
+read-part-requires c κs = reads-a (c .before .before .before .before .before .before .before .before .before .before .before .before .pre) (c .before .before .before .before .coded-length .ensures)
+
+sub-n : tie.Need-sub-n
+sub-n c = first-labels (c .before .before .before .before .before .before .before .before .before .before .before .before .before .before .before .before .before .pre) (c .before .before .before .before .before .before .before .before .before .coded-length .ensures)
+
+mul-read-part : tie.Need-mul-read-part
+mul-read-part c = omega (arith, first-labels (c .before .before .before .before .before .before .before .before .before .before .before .before .before .before .before .before .before .pre) (c .before .before .before .before .before .before .before .before .before .coded-length .ensures), c .before .before .before .before .before .before .before .before .before .before .before .before .before .before .before .before .before .pre .high)
+
+sub-read-part-4 : tie.Need-sub-read-part-4
+sub-read-part-4 c = first-order (c .before .before .before .before .before .before .before .before .before .before .before .before .before .before .before .before .before .pre) (c .before .before .before .before .before .before .before .before .before .coded-length .ensures)
+
+part-read-part-start-4 : tie.Need-part-read-part-start-4
+part-read-part-start-4 c = first-order (c .before .before .before .before .before .before .before .before .before .before .before .before .before .before .before .before .before .pre) (c .before .before .before .before .before .before .before .before .before .coded-length .ensures)
+
+sub-read-part-5 : tie.Need-sub-read-part-5
+sub-read-part-5 c = first-labels (c .before .before .before .before .before .before .before .before .before .before .before .before .before .before .before .before .before .before .pre) (c .before .before .before .before .before .before .before .before .before .before .coded-length .ensures)
+
+part-read-part-start-5 : tie.Need-part-read-part-start-5
+part-read-part-start-5 c = first-labels (c .before .before .before .before .before .before .before .before .before .before .before .before .before .before .before .before .before .before .pre) (c .before .before .before .before .before .before .before .before .before .before .coded-length .ensures)
+
 read-part-requires-2 : tie.Need-read-part-requires-2
-read-part-requires-2 c κs =
-    let p = c .before .before .before .before .before .before .before in
-    reads-b (c .before .before .before .before .before .before .before .before .before .before .before .before .before .before .before .before .before .before .pre) (c .before .before .before .before .before .before .before .before .before .before .before .coded-length .ensures) (p .read-part .ensures .0) (p .read-part .last .1 .1 .1 .1 .1 .0) (p .read-part .kept .1 .1 .1 .1 .1 .0)
+read-part-requires-2 c κs = reads-b (c .before .before .before .before .before .before .before .before .before .before .before .before .before .before .before .before .before .before .before .before .before .pre) (c .before .before .before .before .before .before .before .before .before .before .before .before .before .coded-length .ensures) (c .before .before .before .before .before .before .before .before .read-part .ensures .0) (c .before .before .before .before .before .before .before .before .read-part .last .1 .1 .1 .1 .1 .1 .0) (c .before .before .before .before .before .before .before .before .read-part .kept .1 .1 .1 .1 .1 .1 .0)
 
 returns : tie.Need-returns
-returns c =
-    let R = (c .before .before .before .before .before .before .before .before .before .before .before .before .before .before .before .before .before .before .before .before .before .before .before .pre) in
-    let e = (c .before .before .before .before .before .before .before .before .before .before .before .before .before .before .before .before .coded-length .ensures) in
-    let one = c .before .before .before .before .before .before .before .before .before .before .before .before in
-    let two = c .before .before .before .before in (
-      level-read R e (one .read-part .ensures .0) (two .read-part2 .ensures .0),
-      over-parts R e (one .read-part .ensures .0) (one .read-part .last .1 .1 .1 .1 .1 .0) (two .read-part2 .last .1 .1 .1 .1 .1 .0) (one .read-part .ensures .1) (two .read-part2 .ensures .1)
-          (one .read-part .kept .1 .1 .1 .1 .1 .0) (two .read-part2 .kept .1 .1 .1 .1 .1 .0),
-    )
+returns c = (
+  level-read (c .before .before .before .before .before .before .before .before .before .before .before .before .before .before .before .before .before .before .before .before .before .before .before .before .before .before .pre) (c .before .before .before .before .before .before .before .before .before .before .before .before .before .before .before .before .before .before .coded-length .ensures) (c .before .before .before .before .before .before .before .before .before .before .before .before .before .read-part .ensures .0) (c .before .before .before .before .read-part2 .ensures .0),
+  over-parts (c .before .before .before .before .before .before .before .before .before .before .before .before .before .before .before .before .before .before .before .before .before .before .before .before .before .before .pre) (c .before .before .before .before .before .before .before .before .before .before .before .before .before .before .before .before .before .before .coded-length .ensures) (c .before .before .before .before .before .before .before .before .before .before .before .before .before .read-part .ensures .0) (c .before .before .before .before .before .before .before .before .before .before .before .before .before .read-part .last .1 .1 .1 .1 .1 .1 .0) (c .before .before .before .before .read-part2 .last .1 .1 .1 .1 .1 .1 .0) (c .before .before .before .before .before .before .before .before .before .before .before .before .before .read-part .ensures .1) (c .before .before .before .before .read-part2 .ensures .1)
+      (c .before .before .before .before .before .before .before .before .before .before .before .before .before .read-part .kept .1 .1 .1 .1 .1 .1 .0) (c .before .before .before .before .read-part2 .kept .1 .1 .1 .1 .1 .1 .0),
+)
 
 pub read-level-spec : {M : Type 1} → statement M
-read-level-spec =
-    tie.close (tie.spec (λ c κs. counts (c .before .before .before .before .before .before .pre)) (λ c. search needs) (λ c. search needs)
-    (λ c. first-labels (c .before .before .before .before .before .before .before .pre) (c .coded-length .ensures)) (λ c. search needs)
-    (λ c. search needs) (λ c. first-coded (c .before .before .before .before .before .before .before .before .pre) (c .before .coded-length .ensures))
-    (λ c κs. reads-a (c .before .before .before .before .before .before .before .before .before .before .pre) (c .before .before .before .coded-length .ensures))
-    (λ c. first-labels (c .before .before .before .before .before .before .before .before .before .before .before .before .before .before .before .pre) (c .before .before .before .before .before .before .before .before .coded-length .ensures))
-    (λ c. first-labels (c .before .before .before .before .before .before .before .before .before .before .before .before .before .before .before .pre) (c .before .before .before .before .before .before .before .before .coded-length .ensures))
-    (λ c. first-labels (c .before .before .before .before .before .before .before .before .before .before .before .before .before .before .before .pre) (c .before .before .before .before .before .before .before .before .coded-length .ensures))
-    (λ c. search needs) (λ c. search needs) (λ c. search needs) (λ c. search needs) read-part-requires-2 (λ c. search needs) (λ c. search needs)
-    (λ c. search needs) returns)
+read-level-spec = tie.close (tie.spec coded-length-requires (λ c. search needs) (λ c. search needs) part-read-part-end (λ c. search needs) (λ c. search needs) part-read-part-end-2 (λ c. search needs) (λ c. search needs) part-read-part-end-3 read-part-requires sub-n mul-read-part sub-read-part-4 part-read-part-start-4 (λ c. search needs) sub-read-part-5 part-read-part-start-5 (λ c. search needs) (λ c. search needs) (λ c. search needs) (λ c. search needs) read-part-requires-2 (λ c. search needs) (λ c. search needs) (λ c. search needs) returns)

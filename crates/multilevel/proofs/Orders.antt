@@ -1,0 +1,195 @@
+-- The places of a block's bits made level by level, and part by part. Assumes nothing.
+use Prim.Native.Nat.{ℕ, suc, _+_, _*_, _-_, _≤_, _<_}
+use mathlib.Core.Path.{_≡_, refl, sym, _∙_}
+use mathlib.Core.Logic.{_⊎_, inl, inr}
+use mathlib.Core.Bool.{Bool, true, false, cond}
+use mathlib.Core.List.{List, [], _∷_, _++_, append-nil}
+use native.Mathlib.Nat.{suc-mul, mul-le-mul, eq-or-lt-of-le, le-of-suc-le-suc}
+use native.Mathlib.Numerals.{add-one}
+use native.Mathlib.Omega.{arith}
+use lib.ListN.{length, take, drop, length-take, length-drop, take-append-drop}
+use lib.Seq.{length-front, length-take-le, take-at, drop-at, take-append-le, take-append-add, drop-append-le, drop-length}
+use Rattle.lists.specs.Lists.{table}
+use Rattle.lists.proofs.Parts.{from-start, length-end, length-inside}
+use Rattle.patterns.specs.Contracts.{patternOf, Held}
+use Rattle.component.specs.Decoding.{codedLength}
+use Rattle.interleaver.specs.Tables.{places, Tabulates}
+use Rattle.block.specs.declared.Level.{Level}
+use Rattle.block.specs.declared.Block.{Block}
+use Rattle.block.specs.Block.{oneAxis}
+use Rattle.block.specs.Reading.{sizeA, sizeB}
+use Rattle.labels.specs.Contracts.{Ordered}
+use Rattle.labels.proofs.Mixing.{cycles}
+use Rattle.labels.proofs.Ordering.{places-length}
+use Rattle.multilevel.specs.Contracts.{levelAt, LevelOrder, BlockOrder, PartPlaces, LevelPlaces, BlockPlaces}
+use Rattle.multilevel.proofs.Totals.{count-is, three, fits-level}
+
+module _ {t n : ℕ} {out : List ℕ} (R : PartPlaces t n out) where
+  part-long : length (take n out) ≡ n
+  part-long = length-take-le n out (omega (arith, R .room))
+
+  -- a part that is not interleaved, and one without bits
+  pub plain-ordered : t ≡ 0 → Ordered t n (take n out)
+  plain-ordered e = record { long = part-long; order-is = λ p. absurd (p e) }
+
+  pub empty-ordered : n ≡ 0 → Ordered t n (take n out)
+  unfolding places table
+  empty-ordered e = rw e (record { long = refl; order-is = λ p. refl })
+
+  -- what making any other's table requires
+  pub part-tabulates : (t ≡ 0 → ⊥) → (n ≡ 0 → ⊥) → Tabulates t n out
+  part-tabulates p q = record { fits = record { cycles = cycles (R .mixes) p q; high = omega (arith, R .high); small = R .small }; room = R .room }
+
+-- and then its places stand in their order
+pub made-ordered : {t n : ℕ} {out : List ℕ} → out ≡ places t n ++ (0 ∷ []) → Ordered t n (take n out)
+made-ordered {t} {n} {out} e =
+    let f : take n out ≡ places t n = rw e (take-at (places t n) (0 ∷ []) n (places-length t n)) in
+    record { long = rw f (places-length t n); order-is = λ p. f }
+
+-- a buffer with the first front + 1 numbers written
+abbrev written : ℕ → List ℕ → List ℕ → List ℕ
+written front part out = part ++ drop (front + 1 - 0) out
+
+module _ {n : ℕ} {l : Level} {out : List ℕ} (R : LevelPlaces n l out) {front : ℕ} (e : front ≡ codedLength (patternOf (l .patterna)) 0 (l .bitsa)) where
+  front-is : front ≡ sizeA l
+  unfolding sizeA
+  front-is = e
+
+  rest-is : n - front ≡ sizeB l
+  rest-is = omega (arith, R .fits .size, front-is)
+
+  pub front-low : front ≤ n
+  front-low = omega (arith, R .fits .size, front-is)
+
+  -- what making part A's places requires
+  pub places-a : PartPlaces (l .t) front (take (front + 1 - 0) out)
+  places-a =
+      record {
+        mixes = rw front-is (R .fits .mixesA);
+        small = R .fits .small;
+        high = omega (arith, front-low, R .high);
+        room = rw (from-start (front + 1)) (length-take-le (front + 1) out (omega (arith, front-low, R .room)));
+      }
+
+  module _ (part : List ℕ) (h : length part ≡ length (take (front + 1 - 0) out)) where
+    long-part : length part ≡ front + 1
+    long-part = h ∙ places-a .room
+
+    long-written : length (written front part out) ≡ n + 1
+    long-written = length-front out part (front + 1 - 0) h ∙ R .room
+
+    -- and part B's
+    pub behind-written : front ≤ length (written front part out)
+    behind-written = omega (arith, long-written, front-low)
+
+    pub places-b : PartPlaces (l .t) (n - front) (take (length (written front part out) - front) (drop front (written front part out)))
+    places-b =
+        record {
+          mixes = rw rest-is (R .fits .mixesB);
+          small = R .fits .small;
+          high = omega (arith, R .high);
+          room = rw (length-end front (written front part out), long-written) (omega (arith, front-low));
+        }
+
+    -- and then they are the level's order
+    pub level-ordered : (rest : List ℕ) → length rest ≡ length (take (length (written front part out) - front) (drop front (written front part out)))
+        → Ordered (l .t) front (take front part) → Ordered (l .t) (n - front) (take (n - front) rest)
+        → LevelOrder l (take n (take front (written front part out) ++ (rest ++ drop (length (written front part out) - front) (drop front (written front part out)))))
+    level-ordered rest g A B =
+        let w : List ℕ = written front part out in
+        let none : drop (length w - front) (drop front w) ≡ [] = rw (← length-drop front w) (drop-length (drop front w)) in
+        let first : take front w ≡ take front part = take-append-le front part (drop (front + 1 - 0) out) (omega (arith, long-part)) in
+        let long : length (take front part) ≡ front = length-take-le front part (omega (arith, long-part)) in
+        let sum : length (take front part) + (n - front) ≡ n = omega (arith, long, front-low) in
+        let whole : take n (take front w ++ (rest ++ drop (length w - front) (drop front w))) ≡ take front part ++ take (n - front) rest =
+        rw (none, append-nil rest, first) (rw sum at (take-append-add (take front part) rest (n - front))) in
+        rw whole
+        (record {
+          front = rw (← front-is, take-at (take front part) (take (n - front) rest) front long) A;
+          rest = rw (← front-is, ← rest-is, drop-at (take front part) (take (n - front) rest) front long) B;
+        })
+
+-- In turn l the levels before it have their places in order.
+pub record Tabled (ls : List Level) (n : ℕ) (d out : List ℕ) (l : ℕ) : Type 0 where
+  pub long : length out ≡ length d
+  pub done : (j : ℕ) → j < l → LevelOrder (levelAt ls j) (take n (drop (j * n) out))
+
+pub tabled-start : (ls : List Level) (n : ℕ) (d : List ℕ) → Tabled ls n d d 0
+tabled-start ls n d = record { long = refl; done = λ j h. absurd (omega arith) }
+
+-- what stands before place m is as it was
+kept-before : (m i n : ℕ) (v w : List ℕ) → i + n ≤ m → m ≤ length v → take n (drop i (take m v ++ w)) ≡ take n (drop i v)
+kept-before m i n v w h k =
+    let long : length (take m v) ≡ m = length-take-le m v k in
+    let room : n ≤ length (drop i (take m v)) = rw (length-drop, long) (omega arith) in
+    let one : (u : List ℕ) → take n (drop i (take m v ++ u)) ≡ take n (drop i (take m v)) =
+    λ u. rw (drop-append-le i (take m v) u (omega (arith, long))) (take-append-le n (drop i (take m v)) u room) in
+    one w ∙ sym (rw (take-append-drop m v) at (one (drop m v)))
+
+pub tabled-turn : {ls : List Level} {n : ℕ} {d out : List ℕ} {l : ℕ} → Tabled ls n d out l → l * n + n < length out
+    → (part : List ℕ) → length part ≡ length (take (l * n + n + 1 - l * n) (drop (l * n) out)) → LevelOrder (levelAt ls l) (take n part)
+    → Tabled ls n d (take (l * n) out ++ (part ++ drop (l * n + n + 1 - l * n) (drop (l * n) out))) (l + 1)
+tabled-turn {ls} {n} {d} {out} {l} T room part h O =
+    record {
+      long = length-inside out part (l * n) (l * n + n + 1 - l * n) h ∙ T .long;
+      done = λ j k. each j (eq-or-lt-of-le (le-of-suc-le-suc (rw add-one at k)));
+    }
+  where
+    rest : List ℕ
+    rest = part ++ drop (l * n + n + 1 - l * n) (drop (l * n) out)
+
+    long-part : length part ≡ n + 1
+    long-part = h ∙ rw (length-take, length-drop) (omega (arith, room))
+
+    each : (j : ℕ) → (j ≡ l) ⊎ (j < l) → LevelOrder (levelAt ls j) (take n (drop (j * n) (take (l * n) out ++ rest)))
+    each j (inl e) =
+        rw (e, drop-at (take (l * n) out) rest (l * n) (length-take-le (l * n) out (omega arith)), take-append-le n part (drop (l * n + n + 1 - l * n) (drop (l * n) out)) (omega (arith, long-part))) O
+    each j (inr k) =
+        let below : suc j * n ≤ l * n = mul-le-mul {n₂ = l} {m₂ = n} k (omega arith) in
+        let low : j * n + n ≤ l * n = omega (arith, below, suc-mul j n) in
+        rw (kept-before (l * n) (j * n) n out rest low (omega arith)) (T .done j k)
+
+-- part A's coded bits can be counted
+pub counts-front : {n : ℕ} {l : Level} {out : List ℕ} → LevelPlaces n l out → Held (l .patterna) × (codedLength (patternOf (l .patterna)) 0 (l .bitsa) ≤ 65536)
+unfolding sizeA
+counts-front R = (R .fits .heldA, omega (arith, R .fits .size, R .high))
+
+module _ {k : Block} {d : List ℕ} (R : BlockPlaces k d) {n : ℕ} (e : n ≡ cond (oneAxis k) (k .cells) (2 * k .cells)) where
+  -- every level's places have room
+  pub places-low : (l : ℕ) → l < k .count → (l * n + n ≤ 36708) × (n ≤ 12236)
+  places-low l h = go (oneAxis k) refl
+    where
+      many : (b : Bool) → oneAxis k ≡ b → k .count ≡ cond b (2 * R .fits .streams) (R .fits .streams)
+      many b o = sym (count-is (R .fits)) ∙ rw o at (R .fits .levels)
+
+      go : (b : Bool) → oneAxis k ≡ b → (l * n + n ≤ 36708) × (n ≤ 12236)
+      go true o =
+          let f : n ≡ k .cells = rw o at e in
+          let m : suc l * n ≤ 6 * 6118 = mul-le-mul {n₂ = 6} {m₂ = 6118} (omega (arith, many true o, three (R .fits))) (omega (arith, f, R .fits .most)) in
+          (omega (arith, m, suc-mul l n), omega (arith, f, R .fits .most))
+      go false o =
+          let f : n ≡ 2 * k .cells = rw o at e in
+          let m : suc l * n ≤ 3 * 12236 = mul-le-mul {n₂ = 3} {m₂ = 12236} (omega (arith, many false o, three (R .fits))) (omega (arith, f, R .fits .most)) in
+          (omega (arith, m, suc-mul l n), omega (arith, f, R .fits .most))
+
+  module _ {out : List ℕ} {l : ℕ} (T : Tabled (k .levels) n d out l) where
+    -- what making the next level's requires
+    pub next-room : l < k .count → l * n + n < length out
+    next-room h = omega (arith, places-low l h .0, T .long, R .room)
+
+    pub level-places : l < k .count → LevelPlaces n (levelAt (k .levels) l) (take (l * n + n + 1 - l * n) (drop (l * n) out))
+    level-places h =
+        record {
+          fits = rw e (fits-level (R .fits) l h);
+          high = places-low l h .1;
+          room = rw (length-take, length-drop) (omega (arith, next-room h));
+        }
+
+    -- and when all are made they are the block's order
+    pub block-ordered : k .count ≤ l → BlockOrder k out
+    block-ordered h =
+        record {
+          each = λ j m s f.
+              let g : s ≡ n = f ∙ sym e in
+              rw g (omega (arith, places-low j m .0, T .long, R .room), T .done j (omega arith));
+        }

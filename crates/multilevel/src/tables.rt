@@ -1,0 +1,77 @@
+// The places of a block's coded bits: for each level a table of part A's places and then of part B's, the levels' tables one after the other.
+use block::Block;
+use block::HMMIX;
+use block::Level;
+use block::buffers::MOST_BITS;
+use component::code::coded_length;
+use interleaver::table::make_places;
+ghost use mathlib.Core.Path.{_≡_};
+ghost use mathlib.Core.Bool.{cond};
+ghost use Prim.Native.Nat.{_*_};
+ghost use lib.ListN.{take};
+ghost use Rattle.lists.specs.Buffers.{Long};
+ghost use Rattle.block.specs.Block.{oneAxis};
+ghost use Rattle.block.specs.Fits.{BlockFits};
+ghost use Rattle.labels.specs.Contracts.{Ordered};
+ghost use Rattle.multilevel.specs.Contracts.{LevelOrder, BlockOrder, PartPlaces, LevelPlaces, BlockPlaces};
+
+// A place for each coded bit of the largest block, and one number more.
+pub const MOST_PLACES: usize = MOST_BITS + 1;
+
+// Room for them, from a function of its own: proofs then take its length and do not write it out.
+pub fn place_buffer() -> [u16; MOST_PLACES]
+    ensures { λ r. ⌜ Long 36709 r ⌝ }
+{
+    [0u16; MOST_PLACES]
+}
+
+// A part's places and a 0 after them, if it is interleaved.
+fn part_places(t: usize, n: usize, out: &mut [u16])
+    requires { ⌜ PartPlaces t n (now out) ⌝ }
+    ensures { λ r. ⌜ Ordered t n (take n (now (out .exit))) ⌝ }
+{
+    if t == 0 {
+        return;
+    }
+    if n == 0 {
+        return;
+    }
+    make_places(t, n, out);
+}
+
+// A level's places: part A's, and then part B's. The first of these stands where the 0 stood.
+fn level_places(l: Level, n: usize, out: &mut [u16])
+    requires { ⌜ LevelPlaces n l (now out) ⌝ }
+    ensures { λ r. ⌜ LevelOrder l (take n (now (out .exit))) ⌝ }
+{
+    let patterna = l.patterna;
+    let front = coded_length(patterna, l.bitsa);
+    part_places(l.t, front, &mut out[0..front + 1]);
+    part_places(l.t, n - front, &mut out[front..]);
+}
+
+// The coded bits of each level.
+fn level_bits(k: Block) -> usize
+    requires { ⌜ BlockFits k ⌝ }
+    ensures { λ r. ⌜ r ≡ cond (oneAxis k) (k .cells) (2 * k .cells) ⌝ }
+{
+    if k.constellation == HMMIX {
+        return k.cells;
+    }
+    2 * k.cells
+}
+
+// The places of all levels.
+pub fn block_places(k: Block, out: &mut [u16])
+    requires { ⌜ BlockPlaces k (now out) ⌝ }
+    ensures { λ r. ⌜ BlockOrder k (now (out .exit)) ⌝ }
+{
+    let levels = k.levels;
+    let n = level_bits(k);
+    let count = k.count;
+    let mut l = 0;
+    while l < count {
+        level_places(levels[l], n, &mut out[l * n..l * n + n + 1]);
+        l += 1;
+    }
+}
