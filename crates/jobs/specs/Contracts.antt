@@ -11,23 +11,23 @@ use Rattle.superframe.specs.declared.State.{State}
 use Rattle.console.specs.declared.Job.{Job}
 use Rattle.jobs.specs.declared.sizes.Space.{Space}
 use Rattle.deskcells.specs.Cells.{bytesCells}
-use Rattle.jobs.specs.SuperFrame.{gridLength, inputLength, outputLength}
+use Rattle.jobs.specs.SuperFrame.{facLength, facCellsLength, gridLength, inputLength, outputLength}
 
 -- Room for the cells of a super frame, and for their bytes.
 pub record CodeRoom (at : ℕ) (bytes : List ℕ) (fac sdc msc : List ℤ) (out : List ℕ) : Type 0 where
-  pub first : 27 ≤ at
+  pub first : facLength ≤ at
   pub last : at ≤ length bytes
   pub room : 2 * length fac + 2 * length sdc + 2 * length msc ≤ length out
 
 -- Room for the blocks of a super frame, and for bytes that tell what is lost.
 pub record ReadRoom (lost at : ℕ) (cells : List ℤ) (fac sdc msc out : List ℕ) : Type 0 where
-  pub first : 390 ≤ at
+  pub first : facCellsLength ≤ at
   pub last : at ≤ length cells
   pub room : lost + length fac + length sdc + 1 + length msc ≤ length out
 
 -- The cells of a super frame, of which those of the MSC start at a place, and room for the bytes of a grid.
 pub record GridRoom (at : ℕ) (cells grid : List ℤ) (out : List ℕ) : Type 0 where
-  pub first : 390 ≤ at
+  pub first : facCellsLength ≤ at
   pub last : at ≤ length cells
   pub room : 2 * length grid ≤ length out
 
@@ -42,7 +42,7 @@ pub record CellsLent (state : State) (z : Sizes) (cells : List ℤ) (out : List 
   pub sizes : z ≡ sizesOf (state .scheme .settings)
   pub accepted : z .refusal ≡ 0
   pub input : length cells ≡ z .facnumbers + (z .sdcnumbers + z .mscnumbers)
-  pub output : 27 + (z .sdcbytes + z .mscbytes) + 1 ≤ length out
+  pub output : facLength + (z .sdcbytes + z .mscbytes) + 1 ≤ length out
 
 -- The numbers of bytes at the start of a buffer.
 pub record Numbers (bytes : List ℕ) (buffer : List ℤ) : Type 0 where
@@ -53,7 +53,7 @@ pub record Numbers (bytes : List ℕ) (buffer : List ℤ) : Type 0 where
 pub record Enough (z : Sizes) : Type 0 where
   pub sdcbytes : z .sdcbytes ≤ 210
   pub mscbytes : z .mscbytes ≤ 13767
-  pub facnumbers : z .facnumbers ≡ 390
+  pub facnumbers : z .facnumbers ≡ facCellsLength
   pub sdcnumbers : z .sdcnumbers ≤ 1692
   pub mscnumbers : z .mscnumbers ≤ 36712
   pub memory : z .memory ≤ 30590

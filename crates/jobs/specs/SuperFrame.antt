@@ -12,6 +12,7 @@ use Rattle.channels.specs.Scheme.{schemeRefusal}
 use Rattle.superframe.specs.declared.State.{State}
 use Rattle.superframe.specs.declared.Answer.{Answer}
 use Rattle.superframe.specs.declared.Answer.the-variants.{Finished, Refused as Answer·Refused}
+use Rattle.superframe.specs.Call.{facBytes, facNumbers}
 use Rattle.superframe.specs.Code.{CodeCall, CodeYield, codeOf}
 use Rattle.superframe.specs.Read.{ReadCall, ReadYield, readOf}
 use Rattle.superframe.specs.ReadOn.{ReadOnCall, ReadOnYield, lostBytes, readOnOf}
@@ -45,9 +46,16 @@ unfoldable pub refused : ℕ → ℕ → State → List ℕ → List ℕ → Job
 refused number block state memory out =
     jobYield (record { outcome = Refused number block; state = state; length = 0 }) memory out
 
+-- Three FAC blocks of a super frame: their bytes, and the numbers of their cells.
+abbrev pub facLength : ℕ
+facLength = 3 * facBytes
+
+abbrev pub facCellsLength : ℕ
+facCellsLength = 3 * facNumbers
+
 -- The bytes of a super frame's blocks, and those of its cells.
 unfoldable pub blocksLength : Sizes → ℕ
-blocksLength z = 27 + (z .sdcbytes + z .mscbytes)
+blocksLength z = facLength + (z .sdcbytes + z .mscbytes)
 
 unfoldable pub cellsLength : Sizes → ℕ
 cellsLength z = 2 * (z .facnumbers + (z .sdcnumbers + z .mscnumbers))
@@ -75,10 +83,10 @@ outputLength Ungrid z grid = cellsLength z
 unfoldable pub codeLent : Sizes → List ℕ → CodeCall
 codeLent z bytes =
     record {
-      fac = take 27 bytes;
-      sdc = take (z .sdcbytes) (drop 27 bytes);
-      msc = drop (27 + z .sdcbytes) bytes;
-      faccells = replicate 390 (pos 0);
+      fac = take facLength bytes;
+      sdc = take (z .sdcbytes) (drop facLength bytes);
+      msc = drop (facLength + z .sdcbytes) bytes;
+      faccells = replicate facCellsLength (pos 0);
       sdccells = replicate (z .sdcnumbers) (pos 0);
       msccells = replicate (z .mscnumbers) (pos 0);
     }
@@ -95,10 +103,10 @@ codeWritten y out =
 unfoldable pub readLent : Sizes → List ℤ → ReadCall
 readLent z cells =
     record {
-      faccells = take 390 cells;
-      sdccells = take (z .sdcnumbers) (drop 390 cells);
-      msccells = drop (390 + z .sdcnumbers) cells;
-      fac = replicate 27 0;
+      faccells = take facCellsLength cells;
+      sdccells = take (z .sdcnumbers) (drop facCellsLength cells);
+      msccells = drop (facCellsLength + z .sdcnumbers) cells;
+      fac = replicate facLength 0;
       sdc = replicate (z .sdcbytes) 0;
       msc = replicate (z .mscbytes) 0;
     }
@@ -121,12 +129,12 @@ readOnAnswered y out = readWritten (y .yield .reading .answer) (y .lost) (y .yie
 -- `grid`: the same cells, and a grid that is placed; `ungrid`: a grid, and the cells that are taken off it. State and memory stay as they were. 02, S-4.
 unfoldable pub cellsIn : Sizes → List ℤ → Cells
 cellsIn z cells =
-    record { fac = take 390 cells; sdc = take (z .sdcnumbers) (drop 390 cells); msc = drop (390 + z .sdcnumbers) cells }
+    record { fac = take facCellsLength cells; sdc = take (z .sdcnumbers) (drop facCellsLength cells); msc = drop (facCellsLength + z .sdcnumbers) cells }
 
 unfoldable pub blankCells : Sizes → Cells
 blankCells z =
     record {
-      fac = replicate 390 (pos 0);
+      fac = replicate facCellsLength (pos 0);
       sdc = replicate (z .sdcnumbers) (pos 0);
       msc = replicate (z .mscnumbers) (pos 0);
     }

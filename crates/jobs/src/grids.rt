@@ -2,6 +2,7 @@
 use crate::Step;
 use crate::buffers;
 use crate::buffers::numbers_in;
+use crate::sizes::FAC_CELLS_LENGTH;
 use crate::sizes::grid_length;
 use crate::superframes::refused;
 use crate::superframes::write_cells;
@@ -20,7 +21,7 @@ ghost use Rattle.grid.specs.Calls.{placeOf, takeOf};
 ghost use Rattle.placing.specs.Contracts.{cellsFrom};
 ghost use Rattle.deskcells.specs.Cells.{cellBytes};
 ghost use Rattle.jobs.specs.Contracts.{GridRoom, Lent};
-ghost use Rattle.jobs.specs.SuperFrame.{jobYield, answered, gridWritten, cellsWritten, jobCall};
+ghost use Rattle.jobs.specs.SuperFrame.{facCellsLength, jobYield, answered, gridWritten, cellsWritten, jobCall};
 
 // What the output is after placing: the bytes of the grid, or nothing where the call was refused.
 fn write_grid(number: u8, state: State, grid: &[i16], out: &mut [u8]) -> Step
@@ -46,15 +47,15 @@ fn place_with(state: State, cells: &[i16], at: usize, grid: &mut [i16], out: &mu
     ensures { λ r. ⌜ ((memory : List ℕ) → jobYield r memory (now (out .exit))
         ≡ gridWritten
         (placeOf (state .scheme .settings)
-        (cellsFrom (List·take 390 (now (cells .entry))) (List·take (at - 390) (drop 390 (now (cells .entry)))) (drop at (now (cells .entry))))
+        (cellsFrom (List·take facCellsLength (now (cells .entry))) (List·take (at - facCellsLength) (drop facCellsLength (now (cells .entry)))) (drop at (now (cells .entry))))
         (now (grid .entry)))
         state memory (now (out .entry))) ⌝ }
     ensures { λ r. ⌜ r .length ≤ length (now (out .entry)) ⌝ }
 {
     let number = place(
         state.scheme.settings,
-        &cells[0..390],
-        &cells[390..at],
+        &cells[0..FAC_CELLS_LENGTH],
+        &cells[FAC_CELLS_LENGTH..at],
         &cells[at..],
         grid,
     );
@@ -70,7 +71,7 @@ pub fn place_bytes(state: State, z: Sizes, bytes: &[u8], out: &mut [u8]) -> Step
     let cells = numbers_in(bytes);
     let end = bytes.len() / 2;
     let mut grid = buffers::numbers();
-    let at = 390 + z.sdcnumbers as usize;
+    let at = FAC_CELLS_LENGTH + z.sdcnumbers as usize;
     let n = grid_length(state.scheme.settings) / 2;
     place_with(state, &cells[0..end], at, &mut grid[0..n], out)
 }

@@ -2,6 +2,7 @@
 use crate::Step;
 use crate::buffers;
 use crate::buffers::numbers_in;
+use crate::sizes::FAC_CELLS_LENGTH;
 use crate::superframes::write_read;
 use console::Job;
 use readoncall::read::read_on;
@@ -13,7 +14,7 @@ ghost use lib.ListN.{length, take, drop, replicate};
 ghost use Rattle.superframe.specs.ReadOn.{readOnOf};
 ghost use Rattle.readoncall.specs.Contracts.{readOnCall};
 ghost use Rattle.jobs.specs.Contracts.{ReadRoom, Lent};
-ghost use Rattle.jobs.specs.SuperFrame.{jobYield, readsOn, readOnAnswered, jobCall};
+ghost use Rattle.jobs.specs.SuperFrame.{facCellsLength, jobYield, readsOn, readOnAnswered, jobCall};
 
 // Whether a job counts what is lost.
 pub fn reads_on(job: Job) -> bool
@@ -43,7 +44,7 @@ fn read_on_with(
     ensures { λ r. ⌜ jobYield r (now (memory .exit)) (now (out .exit))
         ≡ readOnAnswered
         (readOnOf state (now (memory .entry))
-        (readOnCall (take 390 (now (cells .entry))) (take (at - 390) (drop 390 (now (cells .entry)))) (drop at (now (cells .entry)))
+        (readOnCall (take facCellsLength (now (cells .entry))) (take (at - facCellsLength) (drop facCellsLength (now (cells .entry)))) (drop at (now (cells .entry)))
         (now (fac .entry)) (now (sdc .entry)) (now (msc .entry)) (replicate 7 0)))
         (now (out .entry)) ⌝ }
     ensures { λ r. ⌜ r .length ≤ length (now (out .entry)) ⌝ }
@@ -51,8 +52,8 @@ fn read_on_with(
     let mut lost = [0u8; 7];
     let reading = read_on(
         state,
-        &cells[0..390],
-        &cells[390..at],
+        &cells[0..FAC_CELLS_LENGTH],
+        &cells[FAC_CELLS_LENGTH..at],
         &cells[at..],
         memory,
         fac,
@@ -81,7 +82,7 @@ pub fn read_on_bytes(
     let mut fac = buffers::fac_bytes();
     let mut sdc = buffers::sdc_bytes();
     let mut msc = buffers::msc_bytes();
-    let at = 390 + z.sdcnumbers as usize;
+    let at = FAC_CELLS_LENGTH + z.sdcnumbers as usize;
     let n = z.sdcbytes as usize;
     let m = z.mscbytes as usize;
     read_on_with(

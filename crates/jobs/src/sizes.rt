@@ -3,9 +3,16 @@ use console::Job;
 use settings::Settings;
 use settings::Sizes;
 use settings::answers;
+use settings::tables::FAC_BYTES;
+use settings::tables::FAC_NUMBERS;
 ghost use mathlib.Core.Path.{_≡_};
 ghost use Rattle.jobs.specs.SuperFrame.{blocksLength, cellsLength, gridLength, inputLength, outputLength};
 ghost use Rattle.jobs.specs.Contracts.{Rooms};
+
+// Three FAC blocks of a super frame: their bytes, and the numbers of their cells.
+pub const FAC_LENGTH: usize = 3 * FAC_BYTES;
+
+pub const FAC_CELLS_LENGTH: usize = 3 * FAC_NUMBERS;
 
 // What `read-on` writes before each super frame: a byte for each block or finished frame.
 const LOST_BYTES: usize = 7;
@@ -20,7 +27,7 @@ pub struct Space {
 fn blocks_length(z: Sizes) -> usize
     ensures { λ r. ⌜ r ≡ blocksLength z ⌝ }
 {
-    27 + (z.sdcbytes as usize + z.mscbytes as usize)
+    FAC_LENGTH + (z.sdcbytes as usize + z.mscbytes as usize)
 }
 
 // The bytes of its cells.

@@ -7,6 +7,8 @@ use crate::grids::take_bytes;
 use crate::output::join_blocks;
 use crate::output::join_cells;
 use crate::readon::read_on_bytes;
+use crate::sizes::FAC_CELLS_LENGTH;
+use crate::sizes::FAC_LENGTH;
 use crate::sizes::grid_length;
 use crate::sizes::input_length;
 use crate::sizes::output_length;
@@ -31,7 +33,7 @@ ghost use Rattle.codecall.specs.Contracts.{codeCall};
 ghost use Rattle.readcall.specs.Contracts.{readCall};
 ghost use Rattle.readcall.specs.Contracts.{readYield};
 ghost use Rattle.jobs.specs.Contracts.{CodeRoom, ReadRoom, Lent};
-ghost use Rattle.jobs.specs.SuperFrame.{jobYield, answered, refused as SuperFrame·refused, codeWritten, readWritten, readAnswered, jobCall, jobOf};
+ghost use Rattle.jobs.specs.SuperFrame.{facCellsLength, facLength, jobYield, answered, refused as SuperFrame·refused, codeWritten, readWritten, readAnswered, jobCall, jobOf};
 ghost use Rattle.jobs.specs.Output.{cellOutput};
 
 // Nothing is written where a call was refused.
@@ -86,15 +88,15 @@ fn code_with(
     ensures { λ r. ⌜ jobYield r (now (memory .exit)) (now (out .exit))
         ≡ codeWritten
         (codeOf state (now (memory .entry))
-        (codeCall (take 27 (now (bytes .entry))) (take (at - 27) (drop 27 (now (bytes .entry)))) (drop at (now (bytes .entry)))
+        (codeCall (take facLength (now (bytes .entry))) (take (at - facLength) (drop facLength (now (bytes .entry)))) (drop at (now (bytes .entry)))
         (now (fac .entry)) (now (sdc .entry)) (now (msc .entry))))
         (now (out .entry)) ⌝ }
     ensures { λ r. ⌜ r .length ≤ length (now (out .entry)) ⌝ }
 {
     let done = code(
         state,
-        &bytes[0..27],
-        &bytes[27..at],
+        &bytes[0..FAC_LENGTH],
+        &bytes[FAC_LENGTH..at],
         &bytes[at..],
         memory,
         fac,
@@ -115,7 +117,7 @@ fn code_bytes(state: State, z: Sizes, bytes: &[u8], memory: &mut [u8], out: &mut
     let mut fac = buffers::fac_cells();
     let mut sdc = buffers::sdc_cells();
     let mut msc = buffers::msc_cells();
-    let at = 27 + z.sdcbytes as usize;
+    let at = FAC_LENGTH + z.sdcbytes as usize;
     let n = z.sdcnumbers as usize;
     let m = z.mscnumbers as usize;
     code_with(
@@ -179,15 +181,15 @@ fn read_with(
     ensures { λ r. ⌜ jobYield r (now (memory .exit)) (now (out .exit))
         ≡ readAnswered
         (readOf state (now (memory .entry))
-        (readCall (take 390 (now (cells .entry))) (take (at - 390) (drop 390 (now (cells .entry)))) (drop at (now (cells .entry)))
+        (readCall (take facCellsLength (now (cells .entry))) (take (at - facCellsLength) (drop facCellsLength (now (cells .entry)))) (drop at (now (cells .entry)))
         (now (fac .entry)) (now (sdc .entry)) (now (msc .entry))))
         (now (out .entry)) ⌝ }
     ensures { λ r. ⌜ r .length ≤ length (now (out .entry)) ⌝ }
 {
     let reading = read(
         state,
-        &cells[0..390],
-        &cells[390..at],
+        &cells[0..FAC_CELLS_LENGTH],
+        &cells[FAC_CELLS_LENGTH..at],
         &cells[at..],
         memory,
         fac,
@@ -209,7 +211,7 @@ fn read_bytes(state: State, z: Sizes, bytes: &[u8], memory: &mut [u8], out: &mut
     let mut fac = buffers::fac_bytes();
     let mut sdc = buffers::sdc_bytes();
     let mut msc = buffers::msc_bytes();
-    let at = 390 + z.sdcnumbers as usize;
+    let at = FAC_CELLS_LENGTH + z.sdcnumbers as usize;
     let n = z.sdcbytes as usize;
     let m = z.mscbytes as usize;
     read_with(
