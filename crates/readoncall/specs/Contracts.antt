@@ -1,9 +1,18 @@
 -- What the functions of this crate require and promise, and the records of the call from their parts: nothing of 02 is stated here.
 use Prim.Native.Nat.{ℕ}
+use mathlib.Core.Bool.{true, not}
 use mathlib.Core.List.{List}
+use lib.ListN.{length}
 use lib.IntN.{ℤ}
+use lib.Dec.{eqb, ltb}
+use Rattle.settings.specs.Refusal.{first}
+use Rattle.superframe.specs.declared.State.{State}
 use Rattle.superframe.specs.declared.Reading.{Reading}
-use Rattle.superframe.specs.ReadOn.{ReadOnCall, ReadOnYield}
+use Rattle.superframe.specs.Call.{inOrder}
+use Rattle.superframe.specs.Read.{ReadCall}
+use Rattle.superframe.specs.ReadOn.{lostBytes, ReadOnCall, ReadOnYield}
+use Rattle.superframe.specs.Contracts.{BytesFit, CellsFit}
+use Rattle.cellmemory.specs.Contracts.{StateFits}
 use Rattle.readcall.specs.Contracts.{readCall, readYield}
 
 -- What a call that reads on is lent, and what it yields.
@@ -13,3 +22,14 @@ readOnCall faccells sdccells msccells fac sdc msc lost =
 
 abbrev pub readOnYield : Reading → List ℕ → List ℕ → List ℕ → List ℕ → List ℕ → ReadOnYield
 readOnYield reading memory fac sdc msc lost = record { yield = readYield reading memory fac sdc msc; lost = lost }
+
+-- The number that the lengths give, and what follows it: 10 for the bytes that tell what is lost, and 12.
+unfoldable pub refusalAfter : ℕ → State → List ℕ → List ℕ → ℕ
+refusalAfter lengths state memory lost =
+    first (ltb 0 lengths) lengths (first (not (eqb (length lost) lostBytes)) 10 (first (not (inOrder true state memory)) 12 0))
+
+-- State, memory and buffers of a call that no number refuses.
+pub record KeptLent (state : State) (memory : List ℕ) (c : ReadCall) : Type 0 where
+  pub fits : StateFits state memory
+  pub cells : CellsFit (state .scheme .settings) (c .faccells) (c .sdccells) (c .msccells)
+  pub bytes : BytesFit (state .scheme .settings) (c .fac) (c .sdc) (c .msc)

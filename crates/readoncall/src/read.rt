@@ -4,6 +4,7 @@ use cellmemory::refusal::in_order;
 use keptcells::kept::keep_cells;
 use keptcells::kept::mark_lost;
 use lists::bytes::clear;
+use readcall::Blocks;
 use readcall::places::read_blocks;
 use readcall::read::read_lengths;
 use superframe::Answer;
@@ -11,10 +12,10 @@ use superframe::Reading;
 use superframe::State;
 ghost use mathlib.Core.Path.{_≡_};
 ghost use Rattle.lists.specs.Buffers.{Long};
-ghost use Rattle.superframe.specs.ReadOn.{readOnRefusal, readOnAccepted, readOnOf};
-ghost use Rattle.superframe.specs.Contracts.{ReadOnFits};
-ghost use Rattle.readcall.specs.Contracts.{readCall};
-ghost use Rattle.readoncall.specs.Contracts.{readOnCall, readOnYield};
+ghost use Rattle.superframe.specs.ReadOn.{keptCells, readOnOf};
+ghost use Rattle.superframe.specs.Contracts.{Fits};
+ghost use Rattle.readcall.specs.Contracts.{readCall, BlocksRead};
+ghost use Rattle.readoncall.specs.Contracts.{readOnCall, readOnYield, refusalAfter, KeptLent};
 
 // A byte for each of three FAC blocks, the SDC block and three frames.
 const LOST_BYTES: usize = 7;
@@ -22,34 +23,13 @@ const LOST_BYTES: usize = 7;
 // The most MSC cells of a super frame: three frames and two fillers.
 const MOST_MSC_NUMBERS: usize = 3 * MOST_NUMBERS + 4;
 
-// 1 to 7, 23, 8 to 10, and 12, which lets (0, 0) pass.
-fn read_on_refusal(
-    state: State,
-    faccells: &[i16],
-    sdccells: &[i16],
-    msccells: &[i16],
-    memory: &[u8],
-    fac: &[u8],
-    sdc: &[u8],
-    msc: &[u8],
-    lost: &[u8],
-) -> u8
-    ensures { λ r. ⌜ r ≡ readOnRefusal state (now (memory .entry))
-        (readOnCall (now (faccells .entry)) (now (sdccells .entry)) (now (msccells .entry))
-        (now (fac .entry)) (now (sdc .entry)) (now (msc .entry)) (now (lost .entry))) ⌝ }
+// After the number of the lengths: 10 for the bytes that tell what is lost, and 12, which lets (0, 0) pass.
+fn read_on_refusal(lengths: u8, state: State, memory: &[u8], lost: &[u8]) -> u8
+    requires { ⌜ (lengths ≡ 0 → Fits (state .scheme) (now memory)) ⌝ }
+    ensures { λ r. ⌜ r ≡ refusalAfter lengths state (now (memory .entry)) (now (lost .entry)) ⌝ }
 {
-    let number = read_lengths(
-        state.scheme,
-        faccells,
-        sdccells,
-        msccells,
-        memory,
-        fac,
-        sdc,
-        msc,
-    );
-    if number != 0 {
-        return number;
+    if lengths != 0 {
+        return lengths;
     }
     if lost.len() != LOST_BYTES {
         return 10;
@@ -67,8 +47,8 @@ fn cell_buffer() -> [i16; MOST_MSC_NUMBERS]
     [0i16; MOST_MSC_NUMBERS]
 }
 
-// A call that no number refuses: every block is read into its place, over the cells that are kept; a lost one leaves its bytes zero.
-fn read_accepted(
+// Every block of a call that no number refuses into its place, over the cells that are kept; a lost one leaves its bytes zero.
+fn read_kept(
     state: State,
     faccells: &[i16],
     sdccells: &[i16],
@@ -77,13 +57,12 @@ fn read_accepted(
     fac: &mut [u8],
     sdc: &mut [u8],
     msc: &mut [u8],
-    lost: &mut [u8],
-) -> Reading
-    requires { ⌜ ReadOnFits state (now memory)
-        (readOnCall (now faccells) (now sdccells) (now msccells) (now fac) (now sdc) (now msc) (now lost)) ⌝ }
-    ensures { λ r. ⌜ readOnYield r (now (memory .exit)) (now (fac .exit)) (now (sdc .exit)) (now (msc .exit)) (now (lost .exit))
-        ≡ readOnAccepted state (now (memory .entry))
-        (readCall (now (faccells .entry)) (now (sdccells .entry)) (now (msccells .entry)) (now (fac .entry)) (now (sdc .entry)) (now (msc .entry))) ⌝ }
+) -> Blocks
+    requires { ⌜ KeptLent state (now memory) (readCall (now faccells) (now sdccells) (now msccells) (now fac) (now sdc) (now msc)) ⌝ }
+    ensures { λ r. ⌜ BlocksRead state (now (memory .entry))
+        (readCall (now (faccells .entry)) (now (sdccells .entry)) (keptCells (state .scheme) (now (msccells .entry)))
+        (now (fac .entry)) (now (sdc .entry)) (now (msc .entry)))
+        r (now (memory .exit)) (now (fac .exit)) (now (sdc .exit)) (now (msc .exit)) ⌝ }
 {
     let mut kept = cell_buffer();
     let n = msccells.len();
@@ -91,7 +70,7 @@ fn read_accepted(
     clear(fac);
     clear(sdc);
     clear(msc);
-    let blocks = read_blocks(
+    read_blocks(
         state,
         faccells,
         sdccells,
@@ -100,15 +79,7 @@ fn read_accepted(
         fac,
         sdc,
         msc,
-    );
-    let given = blocks.given;
-    mark_lost(given, lost);
-    let answer = Answer::Finished(blocks.finished);
-    let after = blocks.after;
-    Reading {
-        answer,
-        state: after,
-    }
+    )
 }
 
 // The cells of a super frame to its blocks and the multiplex frames that it finishes, each with its bits or lost; a refusal leaves everything as it was.
@@ -128,32 +99,22 @@ pub fn read_on(
         (readOnCall (now (faccells .entry)) (now (sdccells .entry)) (now (msccells .entry))
         (now (fac .entry)) (now (sdc .entry)) (now (msc .entry)) (now (lost .entry))) ⌝ }
 {
-    let number = read_on_refusal(
-        state,
-        faccells,
-        sdccells,
-        msccells,
-        memory,
-        fac,
-        sdc,
-        msc,
-        lost,
-    );
+    let s = state.scheme;
+    let lengths = read_lengths(s, faccells, sdccells, msccells, memory, fac, sdc, msc);
+    let number = read_on_refusal(lengths, state, memory, lost);
     if number != 0 {
         return Reading {
             answer: Answer::Refused(number, 0),
             state,
         };
     }
-    read_accepted(
-        state,
-        faccells,
-        sdccells,
-        msccells,
-        memory,
-        fac,
-        sdc,
-        msc,
-        lost,
-    )
+    let blocks = read_kept(state, faccells, sdccells, msccells, memory, fac, sdc, msc);
+    let given = blocks.given;
+    mark_lost(given, lost);
+    let answer = Answer::Finished(blocks.finished);
+    let after = blocks.after;
+    Reading {
+        answer,
+        state: after,
+    }
 }

@@ -1,0 +1,37 @@
+-- `read::read_kept` meets its contract. Assumes nothing.
+use mathlib.Core.Path.{ap, _∙_}
+use native.Mathlib.Omega.{arith}
+use borrow.Author.Needs.{needs}
+use lib.ListN.{length}
+use Rattle.lists.proofs.Parts.{length-start}
+use Rattle.readcall.proofs.ReadParts.{front-in, front-is}
+use Rattle.readoncall.proofs.OnParts.{kept-long, cells-most, cells-kept, blocks-lent, blocks-kept}
+use Rattle.readoncall.proofs.read.read_kept.Statement.{statement}
+use Rattle.readoncall.proofs.read.read_kept.Tie as tie
+
+part-kept-end : tie.Need-part-kept-end
+part-kept-end c = let h = cells-most _ _ _ _ _ _ _ _ (c .before .before .before .before .before .pre) in search needs
+
+keep-cells-requires : tie.Need-keep-cells-requires
+keep-cells-requires c κs =
+    let p = c .before .before .before .before .before .before .pre in
+    cells-kept _ _ _ _ _ _ _ _ p _ (length-start _ _ (omega (arith, cells-most _ _ _ _ _ _ _ _ p, c .before .cell-buffer .ensures .long)))
+
+part-read-blocks-end : tie.Need-part-read-blocks-end
+part-read-blocks-end c = front-in _ (c .before .before .before .before .before .before .before .before .before .before .before .before .before .before .keep-cells .last .1 .1 .0) _ (ap length (c .before .before .before .before .before .before .before .before .before .before .before .before .before .before .keep-cells .ensures) ∙ kept-long _ _)
+
+read-blocks-requires : tie.Need-read-blocks-requires
+read-blocks-requires c κs =
+    blocks-lent _ _ _ _ _ _ _ _ (c .before .before .before .before .before .before .before .before .before .before .before .before .before .before .before .before .before .before .before .before .before .before .before .before .before .before .pre) _ _ _ _ (front-is _ _ _ (ap length (c .before .before .before .before .before .before .before .before .before .before .before .before .before .before .before .before .before .before .before .keep-cells .ensures) ∙ kept-long _ _) ∙ c .before .before .before .before .before .before .before .before .before .before .before .before .before .before .before .before .before .before .before .keep-cells .ensures)
+    (c .before .before .before .before .before .before .before .before .before .before .before .before .before .before .before .before .clear .ensures) (c .before .before .before .before .before .before .before .before .before .before .before .before .clear2 .ensures) (c .before .before .before .before .before .before .before .before .clear3 .ensures)
+
+returns : tie.Need-returns
+returns c =
+    blocks-kept _ _ _ _ _ _ _ _ _ _ _ _ (front-is _ _ _ (ap length (c .before .before .before .before .before .before .before .before .before .before .before .before .before .before .before .before .before .before .before .before .before .before .before .before .before .before .before .before .keep-cells .ensures) ∙ kept-long _ _) ∙ c .before .before .before .before .before .before .before .before .before .before .before .before .before .before .before .before .before .before .before .before .before .before .before .before .before .before .before .before .keep-cells .ensures) _ _ _ _ _
+    (c .before .before .before .before .before .before .before .before .read-blocks .ensures)
+
+pub read-kept-spec : {M : Type 1} → statement M
+read-kept-spec =
+    tie.close (tie.spec (λ c κs. search needs) (λ c. search needs) (λ c. search needs) part-kept-end keep-cells-requires (λ c κs. search needs)
+    (λ c κs. search needs) (λ c κs. search needs) (λ c. search needs) (λ c. search needs) part-read-blocks-end read-blocks-requires
+    (λ c. search needs) (λ c. search needs) (λ c. search needs) (λ c. search needs) returns)
