@@ -7,15 +7,7 @@ use Rattle.console.proofs.names.asked_named.Tie as tie
 
 returns : tie.Need-returns
 unfolding askedNamed bytesIn table
-returns c =
-    rw (
-      c .has2 .ensures,
-      c .before .same-bytes3 .ensures,
-      c .before .before .before .either .ensures,
-      c .before .before .before .before .same-bytes2 .ensures,
-      c .before .before .before .before .before .before .has .ensures,
-      c .before .before .before .before .before .before .before .same-bytes .ensures,
-    )
+returns c = rw (c .has2 .ensures, c .before .before .either .ensures, c .before .before .before .before .has .ensures)
 
 pub asked-named-spec : {M : Type 1} → statement M
-asked-named-spec = tie.close (tie.spec (λ c. search needs) (λ c κs. search needs) (λ c κs. search needs) (λ c. search needs) (λ c κs. search needs) (λ c κs. search needs) (λ c. search needs) (λ c κs. search needs) (λ c κs. search needs) returns)
+asked-named-spec = tie.close (tie.spec (λ c. search needs) (λ c κs. search needs) (λ c. search needs) (λ c κs. search needs) (λ c. search needs) (λ c κs. search needs) returns)

@@ -7,19 +7,7 @@ use Rattle.console.proofs.names.frames_named.Tie as tie
 
 returns : tie.Need-returns
 unfolding framesNamed bytesIn table
-returns c =
-    rw (
-      c .has5 .ensures,
-      c .before .same-bytes5 .ensures,
-      c .before .before .before .has4 .ensures,
-      c .before .before .before .before .same-bytes4 .ensures,
-      c .before .before .before .before .before .before .has3 .ensures,
-      c .before .before .before .before .before .before .before .same-bytes3 .ensures,
-      c .before .before .before .before .before .before .before .before .before .has2 .ensures,
-      c .before .before .before .before .before .before .before .before .before .before .same-bytes2 .ensures,
-      c .before .before .before .before .before .before .before .before .before .before .before .before .has .ensures,
-      c .before .before .before .before .before .before .before .before .before .before .before .before .before .same-bytes .ensures,
-    )
+returns c = rw (c .has5 .ensures, c .before .before .has4 .ensures, c .before .before .before .before .has3 .ensures, c .before .before .before .before .before .before .has2 .ensures, c .before .before .before .before .before .before .before .before .has .ensures)
 
 pub frames-named-spec : {M : Type 1} → statement M
-frames-named-spec = tie.close (tie.spec (λ c. search needs) (λ c κs. search needs) (λ c κs. search needs) (λ c. search needs) (λ c κs. search needs) (λ c κs. search needs) (λ c. search needs) (λ c κs. search needs) (λ c κs. search needs) (λ c. search needs) (λ c κs. search needs) (λ c κs. search needs) (λ c. search needs) (λ c κs. search needs) (λ c κs. search needs) returns)
+frames-named-spec = tie.close (tie.spec (λ c. search needs) (λ c κs. search needs) (λ c. search needs) (λ c κs. search needs) (λ c. search needs) (λ c κs. search needs) (λ c. search needs) (λ c κs. search needs) (λ c. search needs) (λ c κs. search needs) returns)

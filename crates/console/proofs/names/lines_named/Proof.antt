@@ -7,15 +7,7 @@ use Rattle.console.proofs.names.lines_named.Tie as tie
 
 returns : tie.Need-returns
 unfolding linesNamed bytesIn table
-returns c =
-    rw (
-      c .has2 .ensures,
-      c .before .same-bytes3 .ensures,
-      c .before .before .before .has .ensures,
-      c .before .before .before .before .same-bytes2 .ensures,
-      c .before .before .before .before .before .before .either .ensures,
-      c .before .before .before .before .before .before .before .same-bytes .ensures,
-    )
+returns c = rw (c .has2 .ensures, c .before .before .has .ensures, c .before .before .before .before .either .ensures)
 
 pub lines-named-spec : {M : Type 1} → statement M
-lines-named-spec = tie.close (tie.spec (λ c. search needs) (λ c κs. search needs) (λ c κs. search needs) (λ c. search needs) (λ c κs. search needs) (λ c κs. search needs) (λ c. search needs) (λ c κs. search needs) (λ c κs. search needs) returns)
+lines-named-spec = tie.close (tie.spec (λ c. search needs) (λ c κs. search needs) (λ c. search needs) (λ c κs. search needs) (λ c. search needs) (λ c κs. search needs) returns)

@@ -7,13 +7,7 @@ use Rattle.console.proofs.names.multiplex_named.Tie as tie
 
 returns : tie.Need-returns
 unfolding multiplexNamed bytesIn table
-returns c =
-    rw (
-      c .has2 .ensures,
-      c .before .same-bytes2 .ensures,
-      c .before .before .before .has .ensures,
-      c .before .before .before .before .same-bytes .ensures,
-    )
+returns c = rw (c .has2 .ensures, c .before .before .has .ensures)
 
 pub multiplex-named-spec : {M : Type 1} → statement M
-multiplex-named-spec = tie.close (tie.spec (λ c. search needs) (λ c κs. search needs) (λ c κs. search needs) (λ c. search needs) (λ c κs. search needs) (λ c κs. search needs) returns)
+multiplex-named-spec = tie.close (tie.spec (λ c. search needs) (λ c κs. search needs) (λ c. search needs) (λ c κs. search needs) returns)
