@@ -1,6 +1,6 @@
 pub mod Stores
 pub mod Tests
 pub mod Answers
-pub mod Placed
+pub mod SettingsGiven
 pub mod Planned
 pub mod Restored

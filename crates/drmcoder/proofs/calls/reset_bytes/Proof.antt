@@ -5,14 +5,6 @@ use Rattle.drmcoder.proofs.Answers.{reset-right}
 use Rattle.drmcoder.proofs.calls.reset_bytes.Statement.{statement}
 use Rattle.drmcoder.proofs.calls.reset_bytes.Tie as tie
 
-returns : tie.Need-returns
-unfolding resetBytes
-returns c = first-wrong _ _ _ _ _ (c .if1 .taken)
-
-returns-2 : tie.Need-returns-2
-unfolding resetBytes
-returns-2 c = second-wrong _ _ _ _ _ _ (c .before .if1 .left) (c .if2 .taken)
-
 returns-3 : tie.Need-returns-3
 returns-3 c =
     let f = c .before .before in
@@ -22,4 +14,7 @@ returns-3 c =
     (b .reset-table .ensures) (f .finish .ensures .0) (f .finish .ensures .1)
 
 pub reset-bytes-spec : {M : Type 1} → statement M
-reset-bytes-spec = tie.close (tie.spec returns returns-2 (λ c κs. search needs) (λ c κs. search needs) (λ c κs. search needs) (λ c κs. search needs) (λ c. search needs) (λ c. search needs) returns-3)
+unfolding resetBytes
+reset-bytes-spec =
+    tie.close (tie.spec (λ c. first-wrong _ _ _ _ _ (c .if1 .taken)) (λ c. second-wrong _ _ _ _ _ _ (c .before .if1 .left) (c .if2 .taken)) (λ c κs. search needs)
+    (λ c κs. search needs) (λ c κs. search needs) (λ c κs. search needs) (λ c. search needs) (λ c. search needs) returns-3)

@@ -1,20 +1,19 @@
 -- `decide_cells` meets its contract. Assumes nothing.
 use borrow.Author.Needs.{needs}
 use borrow.Author.Tests.{ne-eqb}
+use Rattle.measured.specs.Calls.{decideOf}
 use Rattle.drmcoder.specs.Decide.{decideBytes}
-use Rattle.drmcoder.proofs.Placed.{decide-right}
+use Rattle.drmcoder.proofs.SettingsGiven.{with-settings}
 use Rattle.drmcoder.proofs.decide.decide_cells.Statement.{statement}
 use Rattle.drmcoder.proofs.decide.decide_cells.Tie as tie
 
-returns : tie.Need-returns
-unfolding decideBytes
-returns c = rw (ne-eqb _ _ (c .if1 .taken))
-
 returns-2 : tie.Need-returns-2
+unfolding decideBytes
 returns-2 c =
-    let p = c .before .before .before in
-    let t = p .before .before .before in
-    decide-right _ _ _ _ _ _ _ _ (t .before .if1 .left) (t .settings-of .ensures) (p .decide .ensures)
+    let a = c .before .before .before .before .before .before .before .before .before .before .before .before .args in
+    with-settings (λ s. decideOf (a .channel) s (a .kinds .now) (a .values .now) (a .points .now) (a .bits .now)) _ _ _ _ (c .before .before .before .before .before .before .before .if1 .left) (c .before .before .before .before .before .before .settings-of .ensures) (c .before .before .before .decide .ensures)
 
 pub decide-cells-spec : {M : Type 1} → statement M
-decide-cells-spec = tie.close (tie.spec returns (λ c κs. search needs) (λ c κs. search needs) (λ c. search needs) (λ c. search needs) returns-2)
+unfolding decideBytes
+decide-cells-spec =
+    tie.close (tie.spec (λ c. rw (ne-eqb _ _ (c .if1 .taken))) (λ c κs. search needs) (λ c κs. search needs) (λ c. search needs) (λ c. search needs) returns-2)

@@ -5,18 +5,13 @@ use Rattle.drmcoder.proofs.Planned.{plan-right}
 use Rattle.drmcoder.proofs.plans.drm_plan.Statement.{statement}
 use Rattle.drmcoder.proofs.plans.drm_plan.Tie as tie
 
-returns : tie.Need-returns
-unfolding planBytes
-returns c = first-wrong _ _ _ _ _ (c .if1 .taken)
-
-returns-2 : tie.Need-returns-2
-unfolding planBytes
-returns-2 c = second-wrong _ _ _ _ _ _ (c .before .if1 .left) (c .if2 .taken)
-
 returns-3 : tie.Need-returns-3
 returns-3 c =
     let b = c .before .before .before .before in
     plan-right _ _ _ _ _ (b .before .before .if1 .left) (b .before .if2 .left) (b .answer .ensures) (c .before .before .put-answer .ensures)
 
 pub drm-plan-spec : {M : Type 1} → statement M
-drm-plan-spec = tie.close (tie.spec returns returns-2 (λ c κs. search needs) (λ c κs. search needs) (λ c. search needs) returns-3)
+unfolding planBytes
+drm-plan-spec =
+    tie.close (tie.spec (λ c. first-wrong _ _ _ _ _ (c .if1 .taken)) (λ c. second-wrong _ _ _ _ _ _ (c .before .if1 .left) (c .if2 .taken)) (λ c κs. search needs)
+    (λ c κs. search needs) (λ c. search needs) returns-3)

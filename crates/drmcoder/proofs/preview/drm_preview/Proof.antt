@@ -7,14 +7,6 @@ use Rattle.drmcoder.proofs.Answers.{preview-right}
 use Rattle.drmcoder.proofs.preview.drm_preview.Statement.{statement}
 use Rattle.drmcoder.proofs.preview.drm_preview.Tie as tie
 
-returns : tie.Need-returns
-unfolding previewBytes
-returns c = first-wrong _ _ _ _ _ (c .if1 .taken)
-
-returns-2 : tie.Need-returns-2
-unfolding previewBytes
-returns-2 c = second-wrong _ _ _ _ _ _ (c .before .if1 .left) (c .if2 .taken)
-
 returns-3 : tie.Need-returns-3
 returns-3 c =
     let f = c .before .before in
@@ -25,6 +17,7 @@ returns-3 c =
     preview-right _ _ _ _ _ _ _ _ hs hn (b .before .before .before .before .state-of .ensures) (b .preview .ensures) (f .finish .ensures .0) (f .finish .ensures .1)
 
 pub drm-preview-spec : {M : Type 1} → statement M
+unfolding previewBytes
 drm-preview-spec =
-    tie.close (tie.spec returns returns-2 (λ c κs. search needs) (λ c κs. search needs) (λ c κs. search needs) (λ c. search needs) (λ c. search needs)
-    (λ c. search needs) (λ c. search needs) returns-3)
+    tie.close (tie.spec (λ c. first-wrong _ _ _ _ _ (c .if1 .taken)) (λ c. second-wrong _ _ _ _ _ _ (c .before .if1 .left) (c .if2 .taken)) (λ c κs. search needs)
+    (λ c κs. search needs) (λ c κs. search needs) (λ c. search needs) (λ c. search needs) (λ c. search needs) (λ c. search needs) returns-3)

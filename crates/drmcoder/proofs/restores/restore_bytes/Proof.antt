@@ -5,14 +5,6 @@ use Rattle.drmcoder.proofs.Restored.{restore-right}
 use Rattle.drmcoder.proofs.restores.restore_bytes.Statement.{statement}
 use Rattle.drmcoder.proofs.restores.restore_bytes.Tie as tie
 
-returns : tie.Need-returns
-unfolding restoreBytes
-returns c = first-wrong _ _ _ _ _ (c .if1 .taken)
-
-returns-2 : tie.Need-returns-2
-unfolding restoreBytes
-returns-2 c = second-wrong _ _ _ _ _ _ (c .before .if1 .left) (c .if2 .taken)
-
 returns-3 : tie.Need-returns-3
 returns-3 c =
     let f = c .before .before in
@@ -22,5 +14,7 @@ returns-3 c =
     (b .restore-table .ensures) (f .finish .ensures .0) (f .finish .ensures .1)
 
 pub restore-bytes-spec : {M : Type 1} → statement M
+unfolding restoreBytes
 restore-bytes-spec =
-    tie.close (tie.spec returns returns-2 (λ c κs. search needs) (λ c κs. search needs) (λ c κs. search needs) (λ c κs. search needs) (λ c. search needs) (λ c. search needs) returns-3)
+    tie.close (tie.spec (λ c. first-wrong _ _ _ _ _ (c .if1 .taken)) (λ c. second-wrong _ _ _ _ _ _ (c .before .if1 .left) (c .if2 .taken)) (λ c κs. search needs)
+    (λ c κs. search needs) (λ c κs. search needs) (λ c κs. search needs) (λ c. search needs) (λ c. search needs) returns-3)
