@@ -28,8 +28,9 @@ use Rattle.multilevel.proofs.Totals.{total-A, all-bits, streams-are, count-is, 
 use Rattle.block.proofs.Lists.{bits-take}
 use Rattle.block.proofs.Packing.{length-unpacked}
 use Rattle.block.proofs.Dispersal.{length-dispersedParts, bits-dispersedParts, from-first}
-use Rattle.dispersal.specs.Contracts.{Unpacks}
-use Rattle.blockcoder.specs.Contracts.{cellsBy, MapsParts, MapsAxesParts, CodesParts, CodesBits}
+use Rattle.packing.specs.Contracts.{Unpacks}
+use Rattle.blockcoder.specs.Contracts.{cellsBy, CodesParts, CodesBits}
+use Rattle.mappedparts.specs.Contracts.{MapsParts, MapsAxesParts}
 use Rattle.block.specs.Fits.{BlockLent}
 use Rattle.blockcoder.proofs.Woven.{mapped-labels, labels-woven}
 

@@ -1,5 +1,5 @@
 -- What the functions that code and read a block require and promise: nothing of 01 is stated here.
-use Prim.Native.Nat.{ℕ, _*_, _%_, _≤_, _<_}
+use Prim.Native.Nat.{ℕ, _*_}
 use mathlib.Core.Path.{_≡_}
 use mathlib.Core.List.{List}
 use lib.ListN.{length}
@@ -8,32 +8,12 @@ use Rattle.component.specs.Bits.{Bits}
 use Rattle.block.specs.declared.Block.{Block}
 use Rattle.block.specs.Block.{bitCount, pointsOf, oneAxis, streamsOf, levelsOf}
 use Rattle.block.specs.Fits.{BlockFits}
-use Rattle.mapping.specs.Contracts.{ThreeBits}
 use Rattle.multilevel.specs.Contracts.{PartsOf}
-use mathlib.Core.Bool.{cond, Bool}
+use mathlib.Core.Bool.{cond}
 use Rattle.block.specs.Mapping.{mapped, woven}
-use Rattle.blockcoder.specs.declared.Found.{Found}
-use Rattle.blockcoder.specs.declared.Found.the-variants.{Given, NoBits}
+use Rattle.comparison.specs.declared.Found.{Found}
 use Rattle.block.specs.Reading.{unmapped, inputsA, inputsB, given, bytesRead}
-
--- ThreeBits of whole cells, the first n1 cells of which are part A's.
-pub record MapsParts (c n1 : ℕ) (labels : List ℕ) (out : List ℤ) : Type 0 where
-  pub known : c < 5
-  pub same : length out ≡ length labels
-  pub whole : length labels % 2 ≡ 0
-  pub part : 2 * n1 ≤ length labels
-  pub high : length labels ≤ 16384
-  pub low : ThreeBits labels
-
--- ThreeBits of both axes, a number a cell, the first n1 of which are part A's.
-pub record MapsAxesParts (c n1 : ℕ) (re im : List ℕ) (out : List ℤ) : Type 0 where
-  pub known : c < 5
-  pub same : length out ≡ 2 * length re
-  pub both : length im ≡ length re
-  pub part : n1 ≤ length re
-  pub high : length re ≤ 16384
-  pub lowReal : ThreeBits re
-  pub lowImaginary : ThreeBits im
+use Rattle.comparison.specs.Contracts.{foundOf}
 
 -- A block that fits, and the bits of its parts A and B.
 pub record CodesParts (k : Block) (a b : List ℕ) (out : List ℤ) : Type 0 where
@@ -71,16 +51,7 @@ pub record ReadsCandidate (k : Block) (cells : List ℤ) (bits : List ℕ) : Typ
   pub whole : length cells ≡ 2 * k .cells
   pub long : length bits ≡ bitCount k
 
--- What reading a block finds: bits that give the cells, or that no bits do.
-unfoldable pub foundOf : Bool → Found
-foundOf b = cond b Given NoBits
-
 -- A block is read: where some bits give the cells the bytes are those bits packed, else they are as they were.
 pub record BlockRead (k : Block) (cells : List ℤ) (bytes : List ℕ) (answer : Found) (bytes' : List ℕ) : Type 0 where
   pub answered : answer ≡ foundOf (given k cells)
   pub written : bytes' ≡ cond (given k cells) (bytesRead k cells) bytes
-
--- What handing the candidate's bytes out requires: as many bytes, and as many coordinates of the candidate as of the cells.
-pub record HandsOut (candidate : List ℕ) (given cells : List ℤ) (bytes : List ℕ) : Type 0 where
-  pub bytes-long : length bytes ≡ length candidate
-  pub cells-long : length given ≡ length cells

@@ -2,6 +2,5 @@ pub mod Ring
 pub mod Turns
 pub mod Points
 pub mod Laid
-pub mod Chains
 pub mod Progress
 pub mod FillerTurns

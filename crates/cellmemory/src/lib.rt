@@ -1,5 +1,4 @@
-// Rows of MSC cells, the fillers after them, a working buffer for memory, and the refusals that the calls share.
+// Rows of MSC cells, the fillers after them, and a working buffer for memory.
 pub mod buffers;
 pub mod fillers;
-pub mod refusal;
 pub mod rows;

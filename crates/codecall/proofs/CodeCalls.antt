@@ -12,10 +12,10 @@ use Rattle.channels.specs.Sdc.{sdcBlock}
 use Rattle.superframe.specs.declared.State.{State}
 use Rattle.superframe.specs.Call.{parts, joined, inOrder}
 use Rattle.superframe.specs.Code.{CodeCall, CodeYield, byteLengths, cellLengths, sparesZero, codeRefusal, codeAccepted, codeRefused, codeOf}
-use Rattle.cellmemory.specs.Contracts.{refusalThen, Packed}
-use Rattle.cellmemory.proofs.Chains.{then-stops, then-nine, then-settings, then-goes-on}
+use Rattle.callrefusals.specs.Contracts.{refusalThen, Packed}
+use Rattle.callrefusals.proofs.Chains.{then-stops, then-nine, then-settings, then-goes-on}
 use Rattle.codecall.specs.Contracts.{codeCall, codeYield}
-use Rattle.codecall.specs.Contracts.{MscCoded}
+use Rattle.codeblocks.specs.Contracts.{MscCoded}
 use Rattle.superframe.proofs.Calls.{bytes-fit, code-fits, code-accepts, code-refuses}
 use Rattle.superframe.specs.Contracts.{CodeFits}
 

@@ -1,3 +1,1 @@
 pub mod CodeCalls
-pub mod CodeTurns
-pub mod ResetCalls

@@ -1,18 +1,18 @@
 // The call Code. 01 "Buffers and state" and "Operations".
-use crate::blocks::code_fac;
-use crate::blocks::code_msc;
 use blockcoder::code::code_block;
-use cellmemory::refusal;
+use callrefusals::refusal;
 use channels::Scheme;
 use channels::blocks::sdc_block;
 use channels::tables::scheme_refusal;
+use codeblocks::blocks::code_fac;
+use codeblocks::blocks::code_msc;
 use settings::answers;
 use superframe::Done;
 use superframe::State;
 ghost use mathlib.Core.Path.{_≡_};
 ghost use Rattle.superframe.specs.Code.{byteLengths, cellLengths, codeRefusal, codeAccepted, codeOf};
 ghost use Rattle.superframe.specs.Contracts.{CodeFits};
-ghost use Rattle.cellmemory.specs.Contracts.{refusalThen};
+ghost use Rattle.callrefusals.specs.Contracts.{refusalThen};
 ghost use Rattle.codecall.specs.Contracts.{codeCall, codeYield};
 
 // 1 to 10.

@@ -1,4 +1,2 @@
-// The calls Reset and Code.
-mod blocks;
+// The call Code.
 pub mod code;
-pub mod reset;

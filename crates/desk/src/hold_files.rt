@@ -2,14 +2,14 @@
 use crate::output::say_file;
 use crate::reading::take_all;
 use channels::tables::standard_scheme;
-use codecall::reset::reset;
 use console::TurnJob;
 use holdcalls::restore::restore;
-use holdfile::Form;
 use holdjobs::asked;
 use holdjobs::files;
+use holdlines::Form;
 use libc::STDIN_FILENO;
 use libc::STDOUT_FILENO;
+use resetcall::reset::reset;
 use settings::Settings;
 use superframe::State;
 use turns::End;

@@ -3,8 +3,6 @@ use Prim.Native.Nat.{ℕ, zero, suc, _+_, _*_, _/_, _%_, _≤_}
 use mathlib.Core.Path.{_≡_}
 use mathlib.Core.List.{List}
 use lib.ListN.{length}
-use Rattle.component.specs.Bits.{Bits}
-use Rattle.lists.specs.Bytes.{bytesFor}
 use Rattle.lists.specs.Lists.{table}
 use Rattle.block.specs.Dispersal.{p}
 
@@ -19,30 +17,7 @@ unfoldable pub registerAt : ℕ → ℕ
 registerAt zero = 511
 registerAt (suc n) = shifted (registerAt n)
 
--- The bits from place `from` on that fill out stand in the bytes, of which there are few enough to count their bits.
-pub record Unpacks (bytes : List ℕ) (from : ℕ) (out : List ℕ) : Type 0 where
-  pub few : length bytes ≤ 65536
-  pub there : from + length out ≤ 8 * length bytes
-
--- As many bytes' bits as out is long, and no others.
-pub record UnpacksWhole (bytes out : List ℕ) : Type 0 where
-  pub whole : length out ≡ length out / 8 * 8
-  pub few : length bytes ≤ 65536
-  pub there : length out ≤ 8 * length bytes
-
 -- One period of the sequence, and bits that stand within it from place `at` on.
 pub record Adds (sequence : List ℕ) (at : ℕ) (bits : List ℕ) : Type 0 where
   pub known : sequence ≡ table p 0 511
   pub there : at + length bits ≤ 511
-
--- Bits, and as many bytes as they take.
-pub record Packs (bits out : List ℕ) : Type 0 where
-  pub input : Bits bits
-  pub few : length bits ≤ 524288
-  pub same : length out ≡ bytesFor (length bits)
-
--- n bits, at most so many: as many bytes as they take, and as many of the output.
-pub record Disperses (most n : ℕ) (bytes out : List ℕ) : Type 0 where
-  pub small : n ≤ most
-  pub long : length bytes ≡ bytesFor n
-  pub same : length out ≡ bytesFor n

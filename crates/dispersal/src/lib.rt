@@ -1,5 +1,4 @@
-// Packed bytes to bits and back, and dispersal. 01 "From bits to cells".
+// Dispersal: the sequence, bits dispersed by it, and the parts of a frame. 01 "From bits to cells".
 pub mod bits;
-pub mod calls;
 pub mod parts;
 pub mod sequence;

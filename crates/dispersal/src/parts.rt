@@ -1,12 +1,12 @@
 // The very strongly protected part of a frame and the remainder, each with a sequence of its own. 01 "Dispersal"; 02, S-6.
 use crate::bits::disperse;
-use crate::bits::unpack;
+use packing::bits::unpack;
 ghost use mathlib.Core.Path.{_≡_};
 ghost use Prim.Native.Nat.{_-_};
 ghost use lib.ListN.{length};
 ghost use Rattle.block.specs.Packing.{unpacked};
 ghost use Rattle.block.specs.Dispersal.{dispersedFrom};
-ghost use Rattle.dispersal.specs.Contracts.{Unpacks};
+ghost use Rattle.packing.specs.Contracts.{Unpacks};
 
 // a less b, 0 where b is above a.
 fn less(a: usize, b: usize) -> usize

@@ -8,7 +8,7 @@ use Rattle.settings.specs.declared.Settings.{Settings}
 use Rattle.channels.specs.Scheme.{schemeOf}
 use Rattle.superframe.specs.declared.State.{State}
 use Rattle.superframe.specs.Reset.{ResetYield}
-use Rattle.holdfile.specs.declared.Form.{Form}
+use Rattle.holdlines.specs.declared.Form.{Form}
 use Rattle.holdfile.specs.Convert.{ConvertYield}
 use Rattle.holdcalls.specs.Store.{storeOf}
 use Rattle.holdcalls.specs.Restore.{restoreOf}

@@ -4,7 +4,7 @@ use mathlib.Core.Bool.{cond, _&&_}
 use mathlib.Core.List.{List, [], _∷_}
 use lib.ListN.{length}
 use lib.Dec.{eqb}
-use Rattle.holdfile.specs.declared.Form.{Form}
+use Rattle.holdlines.specs.declared.Form.{Form}
 use Rattle.holdfile.specs.declared.FileSizes.{FileSizes}
 use Rattle.holdfile.specs.Convert.{ConvertYield, convertYield, convertOf, fileSizesOf}
 use Rattle.drmcoder.specs.Bytes.{settingsOf}

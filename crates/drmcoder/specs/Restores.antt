@@ -5,7 +5,7 @@ use mathlib.Core.List.{List}
 use lib.ListN.{length}
 use lib.Dec.{eqb}
 use Rattle.channels.specs.Scheme.{schemeOf}
-use Rattle.holdfile.specs.declared.Form.{Form}
+use Rattle.holdlines.specs.declared.Form.{Form}
 use Rattle.holdfile.specs.Convert.{ConvertYield, convertYield}
 use Rattle.holdcalls.specs.Store.{storeOf}
 use Rattle.holdcalls.specs.Restore.{restoreOf}

@@ -2,9 +2,9 @@
 use crate::bytes::settings_of;
 use crate::bytes::state_of;
 use codecall::code::code;
-use codecall::reset::reset_table;
 use patterns::table::standard_table;
 use readcall::read::read;
+use resetcall::reset::reset_table;
 pub use statebytes::answers::finish;
 pub use statebytes::answers::finish_read;
 ghost use mathlib.Core.Path.{_≡_};

@@ -1,11 +1,11 @@
 // The calls on hold files: drm_hold_sizes, drm_to_new and drm_to_old. 02, S-7.
 use crate::bytes::settings_of;
 use holdfile::FileSizes;
-use holdfile::Form;
 use holdfile::convert;
+use holdlines::Form;
 ghost use mathlib.Core.Path.{_≡_};
 ghost use lib.ListN.{length};
-ghost use Rattle.holdfile.specs.declared.Form.the-variants.{Old, New};
+ghost use Rattle.holdlines.specs.declared.Form.the-variants.{Old, New};
 ghost use Rattle.holdfile.specs.Convert.{convertYield};
 ghost use Rattle.drmcoder.specs.Numbers.{yielded};
 ghost use Rattle.drmcoder.specs.Holds.{fileSizesInto, holdSizesBytes, convertBytes};

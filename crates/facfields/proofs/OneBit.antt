@@ -15,11 +15,11 @@ use Rattle.lists.proofs.Rules.{at}
 use Rattle.block.specs.Packing.{bitAt, unpacked, digits}
 use Rattle.block.proofs.Lists.{bits-table}
 use Rattle.crc.specs.Crc.{g8, tapped, shifted, register, crcBits}
-use Rattle.facfields.specs.Block.{crcRight}
+use Rattle.facblocks.specs.Block.{crcRight}
 use Rattle.facfields.specs.Theorems.{OneBit, SeesOneBit}
 use Rattle.crc.proofs.Linear.{added, register-added, length-register}
 use Rattle.crc.proofs.Register.{bits-register}
-use Rattle.facfields.proofs.Block.{crc-carried}
+use Rattle.facblocks.proofs.Block.{crc-carried}
 use Rattle.facfields.proofs.Refusals.{read-zero}
 
 -- a one at place i alone

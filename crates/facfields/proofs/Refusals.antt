@@ -11,8 +11,8 @@ use Rattle.lists.proofs.Bools.{and-left, and-right}
 use Rattle.settings.specs.declared.Settings.{Settings}
 use Rattle.settings.specs.Refusal.{first, refusal}
 use Rattle.settings.proofs.Chain.{passes, own-next, first-passes, first-next}
-use Rattle.facfields.specs.Fields.{fieldCount, fieldsOf, numbersOf, within, agrees}
-use Rattle.facfields.specs.Block.{blockBytes, blockOf, fieldsIn, crcRight}
+use Rattle.facblocks.specs.Fields.{fieldCount, fieldsOf, numbersOf, within, agrees}
+use Rattle.facblocks.specs.Block.{blockBytes, blockOf, fieldsIn, crcRight}
 use Rattle.facfields.specs.Build.{buildYield, buildRefusal, buildOf}
 use Rattle.facfields.specs.Read.{readYield, readRefusal, readOf}
 

@@ -13,17 +13,17 @@ use Rattle.component.proofs.Bits.{bits-append}
 use Rattle.block.specs.Packing.{unpacked, packed, spareZero}
 use Rattle.block.specs.Fits.{Bytes}
 use Rattle.block.proofs.Packing.{unpacked-packed, packed-unpacked, length-packed, bits-unpacked, length-unpacked}
-use Rattle.facfields.specs.declared.Fields.{Fields}
+use Rattle.facblocks.specs.declared.Fields.{Fields}
 use Rattle.crc.specs.Bits.{laid, fit, numbersIn}
-use Rattle.facfields.specs.Fields.{widths, parameters, fieldPlaces, fieldsAmong, fieldCount, fieldsOf, numbersOf, within, agrees}
+use Rattle.facblocks.specs.Fields.{widths, parameters, fieldPlaces, fieldsAmong, fieldCount, fieldsOf, numbersOf, within, agrees}
 use Rattle.crc.specs.Crc.{crcBits}
-use Rattle.facfields.specs.Block.{parameterBits, blockBytes, withCrc, blockOf, fieldsIn, crcRight}
+use Rattle.facblocks.specs.Block.{parameterBits, blockBytes, withCrc, blockOf, fieldsIn, crcRight}
 use Rattle.facfields.specs.Build.{buildYield, buildOf}
 use Rattle.facfields.specs.Read.{readYield, readOf}
 use Rattle.facfields.specs.Theorems.{ReservedZero, ReadsBack, Rebuilt}
-use Rattle.facfields.proofs.Laid.{numbers-laid, laid-numbers, fit-numbers, bits-laid, length-laid, length-numbers, number-at}
+use Rattle.facblocks.proofs.Laid.{numbers-laid, laid-numbers, fit-numbers, bits-laid, length-laid, length-numbers, number-at}
 use Rattle.crc.proofs.Register.{length-crc, bits-crc}
-use Rattle.facfields.proofs.Block.{unpacked-more, crcIn, crc-carried, carried-crc}
+use Rattle.facblocks.proofs.Block.{unpacked-more, crcIn, crc-carried, carried-crc}
 use Rattle.facfields.proofs.Refusals.{build-zero, build-yields, read-zero, read-yields}
 
 -- fourteen numbers are those of their fields

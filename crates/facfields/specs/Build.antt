@@ -6,8 +6,8 @@ use lib.ListN.{length}
 use lib.Dec.{eqb, ltb}
 use Rattle.settings.specs.declared.Settings.{Settings}
 use Rattle.settings.specs.Refusal.{first, refusal}
-use Rattle.facfields.specs.Fields.{fieldCount, fieldsOf, within, agrees}
-use Rattle.facfields.specs.Block.{blockBytes, blockOf}
+use Rattle.facblocks.specs.Fields.{fieldCount, fieldsOf, within, agrees}
+use Rattle.facblocks.specs.Block.{blockBytes, blockOf}
 
 -- All that the call yields: its answer, and the lent block as it leaves it.
 pub record BuildYield : Type 0 where

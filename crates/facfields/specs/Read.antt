@@ -6,8 +6,8 @@ use lib.ListN.{length}
 use lib.Dec.{eqb, ltb}
 use Rattle.settings.specs.declared.Settings.{Settings}
 use Rattle.settings.specs.Refusal.{first, refusal}
-use Rattle.facfields.specs.Fields.{fieldCount, numbersOf, agrees}
-use Rattle.facfields.specs.Block.{blockBytes, fieldsIn, crcRight}
+use Rattle.facblocks.specs.Fields.{fieldCount, numbersOf, agrees}
+use Rattle.facblocks.specs.Block.{blockBytes, fieldsIn, crcRight}
 
 -- All that the call yields: its answer, and the lent numbers as it leaves them.
 pub record ReadYield : Type 0 where

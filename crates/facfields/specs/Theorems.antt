@@ -6,9 +6,9 @@ use lib.ListN.{length}
 use Rattle.settings.specs.declared.Settings.{Settings}
 use Rattle.block.specs.Packing.{bitAt, unpacked, digits}
 use Rattle.block.specs.Fits.{Bytes}
-use Rattle.facfields.specs.Fields.{fieldCount}
+use Rattle.facblocks.specs.Fields.{fieldCount}
 use Rattle.crc.specs.Crc.{crcBits}
-use Rattle.facfields.specs.Block.{parameterBits, blockBytes}
+use Rattle.facblocks.specs.Block.{parameterBits, blockBytes}
 use Rattle.facfields.specs.Build.{buildYield, buildOf}
 use Rattle.facfields.specs.Read.{readYield, readOf}
 

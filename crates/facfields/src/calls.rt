@@ -1,13 +1,13 @@
 // The calls that build and read an FAC block. 02, S-1.
-use crate::blocks::crc_right;
-use crate::blocks::fields_in;
-use crate::blocks::put_block;
-use crate::blocks::within;
-use crate::layout::FIELDS;
-use crate::layout::agrees;
-use crate::layout::fields_of;
-use crate::layout::put_fields;
-use crate::word::BLOCK_BYTES;
+use facblocks::blocks::crc_right;
+use facblocks::blocks::fields_in;
+use facblocks::blocks::put_block;
+use facblocks::blocks::within;
+use facblocks::layout::FIELDS;
+use facblocks::layout::agrees;
+use facblocks::layout::fields_of;
+use facblocks::layout::put_fields;
+use facblocks::word::BLOCK_BYTES;
 use settings::Settings;
 use settings::refusals::refusal;
 ghost use mathlib.Core.Path.{_≡_};

@@ -27,9 +27,10 @@ use Rattle.block.specs.Reading.{given, bytesRead}
 use Rattle.block.specs.Fits.{BlockLent}
 use Rattle.channels.proofs.Lent.{msc-lent}
 use Rattle.multilevel.specs.Contracts.{BlockOrder}
-use Rattle.blockcoder.specs.declared.Found.{Found}
-use Rattle.blockcoder.specs.declared.Found.the-variants.{Given, NoBits}
-use Rattle.blockcoder.specs.Contracts.{BlockRead, foundOf}
+use Rattle.comparison.specs.declared.Found.{Found}
+use Rattle.comparison.specs.declared.Found.the-variants.{Given, NoBits}
+use Rattle.blockcoder.specs.Contracts.{BlockRead}
+use Rattle.comparison.specs.Contracts.{foundOf}
 use Rattle.frames.specs.Contracts.{GivenRead}
 use Rattle.channels.specs.Msc.{mscBlock}
 use Rattle.channels.specs.declared.Scheme.{Scheme}

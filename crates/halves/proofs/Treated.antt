@@ -17,7 +17,7 @@ use Rattle.block.specs.Dispersal.{dispersedParts, dispersedFrom}
 use Rattle.block.specs.Block.{cellsOf}
 use Rattle.block.proofs.Packing.{length-unpacked}
 use Rattle.block.proofs.Dispersal.{length-dispersedParts, bits-dispersedParts, length-dispersedFrom, from-first, from-append}
-use Rattle.dispersal.specs.Contracts.{Unpacks}
+use Rattle.packing.specs.Contracts.{Unpacks}
 use Rattle.channels.specs.Msc.{mscBlock}
 use Rattle.channels.proofs.Msc.{msc-bits, msc-fits}
 use Rattle.blockcoder.specs.Contracts.{cellsBy}

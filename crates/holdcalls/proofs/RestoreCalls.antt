@@ -19,12 +19,14 @@ use Rattle.channels.proofs.Schemes.{scheme-accepted}
 use Rattle.superframe.specs.declared.State.{State}
 use Rattle.superframe.specs.Call.{memoryLength}
 use Rattle.superframe.specs.Reset.{resetRefusal}
-use Rattle.cellmemory.specs.Contracts.{refusalThen}
-use Rattle.cellmemory.proofs.Chains.{then-stops, then-goes-on}
-use Rattle.holdfile.specs.declared.Form.{Form}
-use Rattle.holdfile.specs.Files.{heldIn, valid}
-use Rattle.holdfile.specs.Contracts.{digitOr, heldFrom, FileTaken}
-use Rattle.holdfile.proofs.Valid.{valid-long, three-bytes}
+use Rattle.callrefusals.specs.Contracts.{refusalThen}
+use Rattle.callrefusals.proofs.Chains.{then-stops, then-goes-on}
+use Rattle.holdlines.specs.declared.Form.{Form}
+use Rattle.holdlines.specs.Files.{heldIn, valid}
+use Rattle.holdreading.specs.Contracts.{FileTaken}
+use Rattle.holdwriting.specs.Contracts.{heldFrom}
+use Rattle.holdlines.specs.Contracts.{digitOr}
+use Rattle.holdreading.proofs.Valid.{valid-long, three-bytes}
 use Rattle.holdfile.proofs.Turning.{held-memory}
 use Rattle.holdcalls.specs.Restore.{restoreRefusal, heldState, restoreYield, restoreOf}
 use Rattle.holdcalls.specs.Contracts.{MemoryTaken}

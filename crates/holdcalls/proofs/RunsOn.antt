@@ -16,8 +16,8 @@ use Rattle.superframe.proofs.CodeRuns.{Standing}
 use Rattle.superframe.proofs.Runs.{run-stands}
 use Rattle.superframe.proofs.Accepted.{coding}
 use Rattle.superframe.proofs.Moments.{state-on, memory-on, refusals-on, sent-on}
-use Rattle.holdfile.specs.declared.Form.{Form}
-use Rattle.holdfile.specs.Files.{fileLength}
+use Rattle.holdlines.specs.declared.Form.{Form}
+use Rattle.holdlines.specs.Files.{fileLength}
 use Rattle.holdfile.specs.Convert.{convertYield}
 use Rattle.holdcalls.specs.Store.{storeOf}
 use Rattle.holdcalls.specs.Restore.{restoreYield, restoreOf}

@@ -17,13 +17,13 @@ use Rattle.superframe.specs.Call.{memoryLength, inOrder}
 use Rattle.superframe.specs.Reset.{resetRefusal}
 use Rattle.superframe.specs.Contracts.{Fits, Ordered}
 use Rattle.superframe.proofs.Calls.{first-own, first-zero, ordered, in-order}
-use Rattle.cellmemory.specs.Contracts.{refusalThen}
-use Rattle.cellmemory.proofs.Chains.{then-stops, then-fits, then-goes-on}
-use Rattle.holdfile.specs.declared.Form.{Form}
-use Rattle.holdfile.specs.Files.{fileOf, fileLength}
+use Rattle.callrefusals.specs.Contracts.{refusalThen}
+use Rattle.callrefusals.proofs.Chains.{then-stops, then-fits, then-goes-on}
+use Rattle.holdlines.specs.declared.Form.{Form}
+use Rattle.holdlines.specs.Files.{fileOf, fileLength}
 use Rattle.holdfile.specs.Convert.{convertYield}
-use Rattle.holdfile.specs.Contracts.{heldFrom, FileRoom}
-use Rattle.holdfile.proofs.FilePut.{depth-few}
+use Rattle.holdwriting.specs.Contracts.{heldFrom, FileRoom}
+use Rattle.holdlines.proofs.LineLengths.{depth-few}
 use Rattle.holdcalls.specs.Store.{heldOf, storeRefusal, storeOf}
 
 -- Reset's refusals are the chain that other calls go on with.

@@ -14,7 +14,7 @@ use Rattle.block.specs.Mapping.{constellation}
 use Rattle.block.specs.Points.{arePoints}
 use Rattle.cellbytes.specs.CellBytes.{numbers, bytes}
 use Rattle.cellbytes.proofs.CellBytes.{length-bytes, numbers-bytes}
-use Rattle.mapping.proofs.PointTests.{points-only}
+use Rattle.pointtests.proofs.PointTests.{points-only}
 use Rattle.channels.specs.declared.Scheme.{Scheme}
 use Rattle.channels.specs.Scheme.{schemeRefusal}
 use Rattle.channels.specs.Msc.{mscConstellation}
@@ -23,11 +23,11 @@ use Rattle.superframe.specs.Call.{memoryLength}
 use Rattle.superframe.specs.Contracts.{Fits, Ordered}
 use Rattle.superframe.proofs.Calls.{first-own, first-zero}
 use Rattle.cellmemory.proofs.Points.{memory-points}
-use Rattle.holdfile.specs.declared.Form.{Form}
-use Rattle.holdfile.specs.Files.{Held, fileOf, heldIn, fileLength, valid}
+use Rattle.holdlines.specs.declared.Form.{Form}
+use Rattle.holdlines.specs.Files.{Held, fileOf, heldIn, fileLength, valid}
 use Rattle.holdfile.specs.Convert.{convertYield}
-use Rattle.holdfile.proofs.Lining.{halved}
-use Rattle.holdfile.proofs.Valid.{twice-even}
+use Rattle.holdlines.proofs.LineLengths.{halved}
+use Rattle.holdreading.proofs.Valid.{twice-even}
 use Rattle.holdfile.proofs.Turning.{Sound, sound-small, valid-sound, file-held}
 use Rattle.holdcalls.specs.Store.{heldOf, storeOf}
 use Rattle.holdcalls.specs.Restore.{restoreRefusal, heldState, restoreOf}

@@ -17,16 +17,16 @@ use Rattle.block.specs.Points.{arePoints}
 use Rattle.cellbytes.specs.CellBytes.{numbers, bytes}
 use Rattle.cellbytes.specs.Contracts.{AllBytes}
 use Rattle.cellbytes.proofs.CellBytes.{length-numbers, bytes-numbers}
-use Rattle.mapping.proofs.PointTests.{points-only}
+use Rattle.pointtests.proofs.PointTests.{points-only}
 use Rattle.channels.specs.Msc.{mscConstellation}
 use Rattle.superframe.specs.declared.State.{State}
 use Rattle.superframe.specs.Call.{memoryLength}
 use Rattle.superframe.specs.Contracts.{Fits, Ordered}
 use Rattle.superframe.proofs.Calls.{in-order}
 use Rattle.cellmemory.proofs.Points.{memory-points}
-use Rattle.cellmemory.proofs.Chains.{scheme-settings}
-use Rattle.holdfile.specs.declared.Form.{Form}
-use Rattle.holdfile.specs.Files.{fileOf, fileLength}
+use Rattle.callrefusals.proofs.Chains.{scheme-settings}
+use Rattle.holdlines.specs.declared.Form.{Form}
+use Rattle.holdlines.specs.Files.{fileOf, fileLength}
 use Rattle.holdfile.specs.Convert.{other, convertYield, convertRefusal, convertOf}
 use Rattle.holdfile.proofs.Turning.{Sound, held-file, file-valid}
 use Rattle.holdcalls.specs.Store.{heldOf, storeRefusal, storeOf}

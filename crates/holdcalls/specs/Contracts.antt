@@ -9,8 +9,8 @@ use Rattle.settings.specs.Accepted.{Accepted}
 use Rattle.settings.specs.Lengths.{nMux}
 use Rattle.settings.specs.Sizes.{depth}
 use Rattle.cellbytes.specs.CellBytes.{bytes}
-use Rattle.holdfile.specs.declared.Form.{Form}
-use Rattle.holdfile.specs.Files.{heldIn, valid}
+use Rattle.holdlines.specs.declared.Form.{Form}
+use Rattle.holdlines.specs.Files.{heldIn, valid}
 
 -- Settings that are allowed, and two memories of their length.
 pub record MemoryRoom (s : Settings) (work memory : List ℕ) : Type 0 where

@@ -7,8 +7,8 @@ use Rattle.cellbytes.specs.Contracts.{AllBytes}
 use Rattle.channels.specs.declared.Scheme.{Scheme}
 use Rattle.superframe.specs.declared.State.{State}
 use Rattle.superframe.specs.Call.{memoryLength}
-use Rattle.holdfile.specs.declared.Form.{Form}
-use Rattle.holdfile.specs.Files.{fileLength}
+use Rattle.holdlines.specs.declared.Form.{Form}
+use Rattle.holdlines.specs.Files.{fileLength}
 use Rattle.holdfile.specs.Convert.{other, convertYield, convertOf}
 use Rattle.holdcalls.specs.Store.{storeOf}
 use Rattle.holdcalls.specs.Restore.{restoreYield, restoreOf}

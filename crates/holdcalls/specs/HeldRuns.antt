@@ -11,8 +11,8 @@ use Rattle.superframe.specs.Code.{CodeCall}
 use Rattle.superframe.specs.Reset.{ResetYield}
 use Rattle.superframe.specs.Runs.{stateAt, memoryAt, sent, refusals, stateAfter, memoryAfter, Run, cells, stateNow, memoryNow}
 use Rattle.superframe.specs.RunsWithPreviews.{callYields}
-use Rattle.holdfile.specs.declared.Form.{Form}
-use Rattle.holdfile.specs.Files.{fileLength}
+use Rattle.holdlines.specs.declared.Form.{Form}
+use Rattle.holdlines.specs.Files.{fileLength}
 use Rattle.holdcalls.specs.Store.{storeOf}
 use Rattle.holdcalls.specs.Restore.{restoreYield, restoreOf}
 

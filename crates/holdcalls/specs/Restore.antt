@@ -12,8 +12,8 @@ use Rattle.superframe.specs.declared.State.{State}
 use Rattle.superframe.specs.declared.Done.{Done}
 use Rattle.superframe.specs.Call.{memoryLength}
 use Rattle.superframe.specs.Reset.{ResetYield}
-use Rattle.holdfile.specs.declared.Form.{Form}
-use Rattle.holdfile.specs.Files.{Held, heldIn, valid}
+use Rattle.holdlines.specs.declared.Form.{Form}
+use Rattle.holdlines.specs.Files.{Held, heldIn, valid}
 
 -- 1 to 7; 23 a table that fails the test; 8 memory of the wrong length; 18 a file that isn't valid, its length included.
 unfoldable pub restoreRefusal : Form → Scheme → List ℕ → List ℕ → ℕ

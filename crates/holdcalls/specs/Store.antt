@@ -9,8 +9,8 @@ use Rattle.channels.specs.Scheme.{schemeRefusal}
 use Rattle.cellbytes.specs.CellBytes.{numbers}
 use Rattle.superframe.specs.declared.State.{State}
 use Rattle.superframe.specs.Call.{memoryLength, inOrder}
-use Rattle.holdfile.specs.declared.Form.{Form}
-use Rattle.holdfile.specs.Files.{Held, fileOf, fileLength}
+use Rattle.holdlines.specs.declared.Form.{Form}
+use Rattle.holdlines.specs.Files.{Held, fileOf, fileLength}
 use Rattle.holdfile.specs.Convert.{ConvertYield, convertYield}
 
 -- What state and memory hold: position, count, and the numbers of memory's cells. The settings come from the caller again, and so does the table.

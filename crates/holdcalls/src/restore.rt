@@ -1,10 +1,10 @@
 // State and memory restored from a file. 02, S-7 and S-11.
+use callrefusals::refusal::reset_refusal;
 use cellmemory::buffers::memory_buffer;
-use cellmemory::refusal::reset_refusal;
 use channels::tables::scheme_of;
-use holdfile::Form;
-use holdfile::digits::digit_or;
-use holdfile::reading::take_file;
+use holdlines::Form;
+use holdlines::digits::digit_or;
+use holdreading::reading::take_file;
 use lists::bytes::copy;
 use patterns::table::standard_table;
 use settings::Settings;

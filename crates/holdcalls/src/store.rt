@@ -1,9 +1,9 @@
 // State and memory stored in a file. 02, S-7.
-use cellmemory::refusal::in_order;
-use cellmemory::refusal::reset_refusal;
-use holdfile::Form;
-use holdfile::reading::file_bytes;
-use holdfile::writing::put_file;
+use callrefusals::refusal::in_order;
+use callrefusals::refusal::reset_refusal;
+use holdlines::Form;
+use holdlines::lengths::file_bytes;
+use holdwriting::writing::put_file;
 use superframe::State;
 ghost use mathlib.Core.Path.{_≡_};
 ghost use Rattle.holdfile.specs.Convert.{convertYield};

@@ -1,14 +1,2 @@
-pub mod Bytes
-pub mod Hexadecimal
-pub mod Numbers
-pub mod Lines
-pub mod Found
-pub mod Taking
-pub mod Lining
-pub mod Putting
-pub mod LinesPut
-pub mod FilePut
-pub mod Valid
-pub mod SmallPoints
 pub mod Turning
 pub mod Undone

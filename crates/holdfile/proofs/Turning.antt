@@ -20,18 +20,20 @@ use Rattle.channels.specs.Msc.{mscConstellation}
 use Rattle.cellbytes.specs.CellBytes.{numbers, bytes}
 use Rattle.cellbytes.specs.Contracts.{AllSmall}
 use Rattle.cellbytes.proofs.CellBytes.{length-bytes, numbers-bytes}
-use Rattle.holdfile.specs.declared.Form.{Form}
-use Rattle.holdfile.specs.declared.Form.the-variants.{Old, New}
-use Rattle.holdfile.specs.Hexadecimal.{digit, digitValue, isDigit}
-use Rattle.holdfile.specs.Files.{numberDigits, LINE_FEED, ended, Held, fileOf, heldIn, fileLength, isLine, areLines, holds, valid}
+use Rattle.holdlines.specs.declared.Form.{Form}
+use Rattle.holdlines.specs.declared.Form.the-variants.{Old, New}
+use Rattle.holdlines.specs.Hexadecimal.{digit, digitValue, isDigit}
+use Rattle.holdlines.specs.Files.{numberDigits, LINE_FEED, ended, Held, fileOf, heldIn, fileLength, isLine, areLines, holds, valid}
 use Rattle.holdfile.specs.Convert.{other, convertYield, convertRefusal, convertOf, fileSizesOf}
-use Rattle.holdfile.specs.Contracts.{digitOr, heldFrom, FileRoom, FileTaken, TurnRoom, Turned, Turnable}
-use Rattle.holdfile.proofs.Hexadecimal.{digit-is, value-is}
-use Rattle.holdfile.proofs.Lines.{length-held, lines-are, held-lines, lines-held}
-use Rattle.holdfile.proofs.Lining.{halved}
-use Rattle.holdfile.proofs.FilePut.{depth-few}
-use Rattle.holdfile.proofs.SmallPoints.{points-small}
-use Rattle.holdfile.proofs.Valid.{valid-long, three-bytes, twice-even}
+use Rattle.holdfile.specs.Contracts.{TurnRoom, Turned, Turnable}
+use Rattle.holdreading.specs.Contracts.{FileTaken}
+use Rattle.holdwriting.specs.Contracts.{heldFrom, FileRoom}
+use Rattle.holdlines.specs.Contracts.{digitOr}
+use Rattle.holdlines.proofs.Hexadecimal.{digit-is, value-is}
+use Rattle.holdlines.proofs.Lines.{length-held, lines-are, held-lines, lines-held}
+use Rattle.holdlines.proofs.LineLengths.{halved, depth-few}
+use Rattle.holdreading.proofs.SmallPoints.{points-small}
+use Rattle.holdreading.proofs.Valid.{valid-long, three-bytes, twice-even}
 
 pub old-other : (form : Form) → form ≡ Old → New ≡ other form
 unfolding other

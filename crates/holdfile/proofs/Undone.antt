@@ -11,10 +11,10 @@ use Rattle.settings.specs.Refusal.{first, refusal}
 use Rattle.cellbytes.specs.TwosComplement.{modulo}
 use Rattle.cellbytes.specs.CellBytes.{fourBits, cellByte}
 use Rattle.cellbytes.proofs.CellBytes.{four-low}
-use Rattle.holdfile.specs.declared.Form.{Form}
-use Rattle.holdfile.specs.declared.Form.the-variants.{Old, New}
-use Rattle.holdfile.specs.Hexadecimal.{digit, digits}
-use Rattle.holdfile.specs.Files.{numberDigits, written, allWritten, ended, fileOf, heldIn, fileLength, valid}
+use Rattle.holdlines.specs.declared.Form.{Form}
+use Rattle.holdlines.specs.declared.Form.the-variants.{Old, New}
+use Rattle.holdlines.specs.Hexadecimal.{digit, digits}
+use Rattle.holdlines.specs.Files.{numberDigits, written, allWritten, ended, fileOf, heldIn, fileLength, valid}
 use Rattle.holdfile.specs.Convert.{other, convertYield, convertRefusal, convertOf}
 use Rattle.holdfile.specs.Theorems.{turned, Undone, CallsUndo, Exact, DigitsOfByte, ByHand, HoldFiles}
 use Rattle.holdfile.proofs.Turning.{valid-sound, holds-sound, file-held, held-file, file-valid}

@@ -6,10 +6,10 @@ use lib.ListN.{length}
 use lib.Dec.{eqb, ltb}
 use Rattle.settings.specs.declared.Settings.{Settings}
 use Rattle.settings.specs.Refusal.{first, refusal}
-use Rattle.holdfile.specs.declared.Form.{Form}
-use Rattle.holdfile.specs.declared.Form.the-variants.{Old, New}
+use Rattle.holdlines.specs.declared.Form.{Form}
+use Rattle.holdlines.specs.declared.Form.the-variants.{Old, New}
 use Rattle.holdfile.specs.declared.FileSizes.{FileSizes}
-use Rattle.holdfile.specs.Files.{fileOf, heldIn, fileLength, valid}
+use Rattle.holdlines.specs.Files.{fileOf, heldIn, fileLength, valid}
 
 -- The other form.
 unfoldable pub other : Form → Form

@@ -10,10 +10,10 @@ use Rattle.settings.specs.Refusal.{refusal}
 use Rattle.settings.specs.Lengths.{nMux}
 use Rattle.settings.specs.Sizes.{depth}
 use Rattle.cellbytes.specs.CellBytes.{cellByte}
-use Rattle.holdfile.specs.declared.Form.{Form}
-use Rattle.holdfile.specs.declared.Form.the-variants.{Old, New}
-use Rattle.holdfile.specs.Hexadecimal.{digits}
-use Rattle.holdfile.specs.Files.{allWritten, Held, fileOf, heldIn, fileLength, holds, valid}
+use Rattle.holdlines.specs.declared.Form.{Form}
+use Rattle.holdlines.specs.declared.Form.the-variants.{Old, New}
+use Rattle.holdlines.specs.Hexadecimal.{digits}
+use Rattle.holdlines.specs.Files.{allWritten, Held, fileOf, heldIn, fileLength, holds, valid}
 use Rattle.holdfile.specs.Convert.{other, convertYield, convertOf}
 
 -- The other form of a file: that of what it holds.

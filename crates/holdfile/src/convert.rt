@@ -1,11 +1,11 @@
 // The calls that turn a file into the other form, and the bytes of files. 02, S-7.
 use crate::FileSizes;
-use crate::Form;
-use crate::digits::digit_or;
-use crate::reading::file_bytes;
-use crate::reading::take_file;
-use crate::writing::put_file;
 use block::buffers::MOST_CELLS;
+use holdlines::Form;
+use holdlines::digits::digit_or;
+use holdlines::lengths::file_bytes;
+use holdreading::reading::take_file;
+use holdwriting::writing::put_file;
 use settings::Settings;
 use settings::answers;
 use settings::refusals::refusal;
@@ -13,7 +13,7 @@ ghost use mathlib.Core.Path.{_≡_};
 ghost use lib.ListN.{length};
 ghost use Rattle.lists.specs.Buffers.{Long};
 ghost use Rattle.settings.specs.Accepted.{Accepted};
-ghost use Rattle.holdfile.specs.Files.{fileOf, heldIn, fileLength};
+ghost use Rattle.holdlines.specs.Files.{fileOf, heldIn, fileLength};
 ghost use Rattle.holdfile.specs.Convert.{other, convertYield, convertOf, fileSizesOf};
 ghost use Rattle.holdfile.specs.Contracts.{Turnable, TurnRoom, Turned};
 

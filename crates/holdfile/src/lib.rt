@@ -1,15 +1,6 @@
-// Hold files: the interleaving memory as lines of hexadecimal, in the old and in the new form. 02, S-7.
+// Hold files turned into their other form. 02, S-7.
 pub mod convert;
-pub mod digits;
-pub mod reading;
 pub mod theorems;
-pub mod writing;
-
-// The form of a file: eight digits a cell, or two.
-pub enum Form {
-    Old,
-    New,
-}
 
 // The bytes of an old and of a new file, with the refusal of the settings.
 pub struct FileSizes {

@@ -15,10 +15,10 @@ use Rattle.lists.proofs.Parts.{length-start}
 use Rattle.settings.specs.declared.Settings.{Settings}
 use Rattle.superframe.specs.declared.State.{State}
 use Rattle.holdfile.specs.declared.FileSizes.{FileSizes}
-use Rattle.holdfile.specs.declared.Form.{Form}
-use Rattle.holdfile.specs.declared.Form.the-variants.{New}
+use Rattle.holdlines.specs.declared.Form.{Form}
+use Rattle.holdlines.specs.declared.Form.the-variants.{New}
 use Rattle.holdfile.specs.Convert.{ConvertYield, convertYield, other, convertRefusal, convertOf, fileSizesOf}
-use Rattle.holdfile.specs.Files.{fileOf, heldIn}
+use Rattle.holdlines.specs.Files.{fileOf, heldIn}
 use Rattle.holdcalls.specs.Store.{heldOf, storeRefusal, storeOf}
 use Rattle.turns.specs.declared.Made.{Made}
 use Rattle.turns.specs.Yield.{madeYield, madeThrough, madeRefused, through, refused, answered}

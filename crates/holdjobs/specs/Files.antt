@@ -7,8 +7,8 @@ use lib.Dec.{eqb}
 use Rattle.settings.specs.declared.Settings.{Settings}
 use Rattle.superframe.specs.declared.State.{State}
 use Rattle.holdfile.specs.declared.FileSizes.{FileSizes}
-use Rattle.holdfile.specs.declared.Form.{Form}
-use Rattle.holdfile.specs.declared.Form.the-variants.{Old, New}
+use Rattle.holdlines.specs.declared.Form.{Form}
+use Rattle.holdlines.specs.declared.Form.the-variants.{Old, New}
 use Rattle.holdfile.specs.Convert.{ConvertYield, convertOf, fileSizesOf}
 use Rattle.holdcalls.specs.Store.{storeOf}
 use Rattle.console.specs.declared.TurnJob.{TurnJob}

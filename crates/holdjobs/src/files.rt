@@ -2,9 +2,9 @@
 use console::TurnJob;
 use holdcalls::store::store;
 use holdfile::FileSizes;
-use holdfile::Form;
 use holdfile::convert::convert;
 use holdfile::convert::sizes;
+use holdlines::Form;
 use settings::Settings;
 use superframe::State;
 use turns::Made;

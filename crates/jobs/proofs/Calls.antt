@@ -24,8 +24,8 @@ use Rattle.readcall.specs.Contracts.{readCall}
 use Rattle.settings.specs.Refusal.{first, refusal}
 use Rattle.settings.proofs.Buffers.{sizes-accepts}
 use Rattle.superframe.proofs.Calls.{first-zero, first-own}
-use Rattle.cellmemory.specs.Contracts.{lengthRefusal}
-use Rattle.cellmemory.proofs.Chains.{scheme-settings}
+use Rattle.callrefusals.specs.Contracts.{lengthRefusal}
+use Rattle.callrefusals.proofs.Chains.{scheme-settings}
 use Rattle.cellmemory.proofs.Laid.{take-sets}
 use Rattle.console.specs.declared.Job.{Job}
 use Rattle.console.specs.declared.Job.the-variants.{Code, Read, ReadOn, Grid, Ungrid}

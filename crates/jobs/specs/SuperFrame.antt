@@ -16,7 +16,7 @@ use Rattle.superframe.specs.Call.{facBytes, facNumbers}
 use Rattle.superframe.specs.Code.{CodeCall, CodeYield, codeOf}
 use Rattle.superframe.specs.Read.{ReadCall, ReadYield, readOf}
 use Rattle.superframe.specs.ReadOn.{ReadOnCall, ReadOnYield, lostBytes, readOnOf}
-use Rattle.cellmemory.specs.Contracts.{lengthRefusal}
+use Rattle.callrefusals.specs.Contracts.{lengthRefusal}
 use Rattle.console.specs.declared.Job.{Job}
 use Rattle.settings.specs.declared.Settings.{Settings}
 use Rattle.placing.specs.Cells.{Cells}

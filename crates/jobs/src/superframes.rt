@@ -12,7 +12,7 @@ use crate::sizes::FAC_LENGTH;
 use crate::sizes::grid_length;
 use crate::sizes::input_length;
 use crate::sizes::output_length;
-use cellmemory::refusal::length_refusal;
+use callrefusals::refusal::length_refusal;
 use channels::tables::scheme_refusal;
 use codecall::code::code;
 use console::Job;

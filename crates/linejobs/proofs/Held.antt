@@ -11,8 +11,8 @@ use lib.Dec.{ltb}
 use Rattle.lists.proofs.Bools.{and-left, and-right, never-both}
 use Rattle.settings.specs.declared.Settings.{Settings}
 use Rattle.crc.specs.Bits.{fit}
-use Rattle.facfields.specs.Fields.{widths, fieldsOf, numbersOf, parameters, fieldPlaces, fieldsAmong, within, agrees}
-use Rattle.facfields.specs.declared.Fields.{Fields}
+use Rattle.facblocks.specs.Fields.{widths, fieldsOf, numbersOf, parameters, fieldPlaces, fieldsAmong, within, agrees}
+use Rattle.facblocks.specs.declared.Fields.{Fields}
 use Rattle.facfields.specs.Build.{buildRefusal, buildOf}
 use Rattle.facfields.proofs.Refusals.{build-accepted, build-refused}
 use Rattle.numerals.specs.Contracts.{held}

@@ -1,5 +1,3 @@
 pub mod Coordinates
 pub mod Labels
 pub mod Signed
-pub mod PointTests
-pub mod ByteTests

@@ -19,10 +19,10 @@ use Rattle.settings.proofs.Bounds.{accepted-of}
 use Rattle.block.specs.Mapping.{constellation}
 use Rattle.channels.specs.Sdc.{sdcConstellation}
 use Rattle.channels.specs.Msc.{mscConstellation}
-use Rattle.measured.specs.declared.MeasuredCell.{MeasuredCell}
+use Rattle.decision.specs.declared.MeasuredCell.{MeasuredCell}
 use Rattle.measured.specs.declared.Channel.{Channel}
 use Rattle.measured.specs.declared.Channel.the-variants.{Fac, Sdc, Msc}
-use Rattle.measured.specs.Cells.{refusedCell, pointOn}
+use Rattle.decision.specs.Cells.{refusedCell, pointOn}
 use Rattle.measured.specs.Calls.{axisBits, cellAt, passAt, pass, pointAt, pointsOf, bitAt, bitsOf, constellationOf, DecideYield, decideYield, decideRefusal, decideBy, decideOf}
 use Rattle.measured.specs.Contracts.{Lent, PointsFit, BitFits, BitsFit}
 use Rattle.lists.proofs.Bools.{table-every}

@@ -18,13 +18,14 @@ use Rattle.lists.proofs.Same.{sameNumber-true, sameNumber-refl}
 use Rattle.lists.proofs.Tables.{length-table, getD-table, table-is, table-ext, replicate-table}
 use Rattle.block.specs.Mapping.{qam4, qam16, standard64, symmetric64, constellation, axis}
 use Rattle.block.specs.Reading.{placeOf}
-use Rattle.measured.specs.declared.Measured.{Measured}
-use Rattle.measured.specs.Distance.{decision}
-use Rattle.measured.specs.Cells.{valueOn, pointOn, bitOn}
+use Rattle.decision.specs.declared.Measured.{Measured}
+use Rattle.decision.specs.Distance.{decision}
+use Rattle.decision.specs.Cells.{valueOn, pointOn, bitOn}
 use Rattle.measured.specs.Calls.{axisBits, cellAt, pointAt, pointsOf, bitAt, bitsOf}
-use Rattle.measured.specs.Theorems.{Among, weighed, numberBits}
-use Rattle.measured.proofs.Nearness.{decision-among}
-use Rattle.measured.proofs.Axes.{on-both}
+use Rattle.measured.specs.Theorems.{weighed, numberBits}
+use Rattle.decision.specs.Distance.{Among}
+use Rattle.decision.proofs.Nearness.{decision-among}
+use Rattle.decision.proofs.Axes.{on-both}
 use Rattle.measured.proofs.Accepts.{bits-some, bits-most}
 
 -- an axis has a coordinate for each number of its level bits

@@ -41,16 +41,16 @@ use Rattle.nearest.specs.Fac.{allValues, nearestRefusalBy, nearestRefusal, near
 use Rattle.nearest.proofs.Blocks.{length-coded}
 use Rattle.nearest.proofs.Sent.{fac-mapped}
 use Rattle.nearest.proofs.Undamaged.{agrees-same, sent-bits, found-again}
-use Rattle.measured.specs.declared.Measured.{Measured}
-use Rattle.measured.specs.declared.MeasuredCell.the-variants.{Pair}
+use Rattle.decision.specs.declared.Measured.{Measured}
+use Rattle.decision.specs.declared.MeasuredCell.the-variants.{Pair}
 use Rattle.measured.specs.declared.Channel.{Channel}
 use Rattle.measured.specs.declared.Channel.the-variants.{Fac, Sdc, Msc}
-use Rattle.measured.specs.Distance.{decision}
-use Rattle.measured.specs.Cells.{isFinite, refusedCell, valueOn, pointOn, bitOn}
+use Rattle.decision.specs.Distance.{decision}
+use Rattle.decision.specs.Cells.{isFinite, refusedCell, valueOn, pointOn, bitOn}
 use Rattle.measured.specs.Calls.{constellationOf, axisBits, cellAt, passAt, pass, pointAt, pointsOf, bitAt, bitsOf, decideYield, decideRefusal, decideOf}
 use Rattle.measured.specs.Theorems.{channelBlock, asFloats}
 use Rattle.lists.proofs.Bools.{every-table, table-every}
-use Rattle.measured.proofs.Axes.{on-both}
+use Rattle.decision.proofs.Axes.{on-both}
 use Rattle.measured.proofs.Integers.{decides-itself, coordinate-finite}
 use Rattle.measured.proofs.Accepts.{known, by-accepted, of-accepted}
 

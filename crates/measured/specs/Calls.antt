@@ -13,11 +13,11 @@ use Rattle.block.specs.Mapping.{QAM4, constellation}
 use Rattle.lists.specs.Bools.{every}
 use Rattle.channels.specs.Sdc.{sdcConstellation}
 use Rattle.channels.specs.Msc.{mscConstellation}
-use Rattle.measured.specs.declared.MeasuredCell.{MeasuredCell}
-use Rattle.measured.specs.declared.MeasuredCell.the-variants.{Pair, Fade}
+use Rattle.decision.specs.declared.MeasuredCell.{MeasuredCell}
+use Rattle.decision.specs.declared.MeasuredCell.the-variants.{Pair, Fade}
 use Rattle.measured.specs.declared.Channel.{Channel}
 use Rattle.measured.specs.declared.Channel.the-variants.{Fac, Sdc, Msc}
-use Rattle.measured.specs.Cells.{refusedCell, pointOn, bitOn}
+use Rattle.decision.specs.Cells.{refusedCell, pointOn, bitOn}
 
 -- The FAC's constellation is 4-QAM; the SDC's goes by the SDC mode and the MSC's by the MSC mode.
 unfoldable pub constellationOf : Channel → Settings → ℕ

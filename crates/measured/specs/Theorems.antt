@@ -25,14 +25,8 @@ use Rattle.channels.specs.Msc.{mscBlock}
 use Rattle.nearest.specs.Fac.{nearestYield, nearestOf}
 use Rattle.measured.specs.declared.Channel.{Channel}
 use Rattle.measured.specs.declared.Channel.the-variants.{Fac, Sdc, Msc}
-use Rattle.measured.specs.Distance.{distance, above, decision}
+use Rattle.decision.specs.Distance.{distance, above, decision, Among}
 use Rattle.measured.specs.Calls.{constellationOf, axisBits, pointsOf, bitsOf, decideYield, decideOf}
-
--- An integer is one of a list.
-pub record Among (l : List ℤ) (v : ℤ) : Type 0 where
-  pub index : ℕ
-  pub low : index < length l
-  pub value : getD l index (pos 0) ≡ v
 
 -- 1. For every float and every list of coordinates, so every labelling: the decision is one of them, no other is nearer, and none that is as near is larger.
 pub record Decisions : Type 0 where

@@ -1,13 +1,13 @@
 // The call: cells as kinds and values to points and bits. 02, S-10.
 use crate::Channel;
-use crate::Measured;
-use crate::MeasuredCell;
-use crate::cells::bit;
-use crate::cells::point;
-use crate::cells::refused;
 use block::QAM4;
 use channels::blocks::msc_constellation;
 use channels::blocks::sdc_constellation;
+use decision::Measured;
+use decision::MeasuredCell;
+use decision::cells::bit;
+use decision::cells::point;
+use decision::cells::refused;
 use settings::Settings;
 use settings::refusals;
 ghost use mathlib.Core.Path.{_≡_};

@@ -1,20 +1,6 @@
-// Measured cells decided to points and bits. 02, S-10.
-pub mod axis;
+// Measured cells of a channel decided to points and bits. 02, S-10.
 pub mod calls;
-pub mod cells;
 pub mod theorems;
-
-// A measured pair: a real and an imaginary float.
-pub struct Measured {
-    pub real: f32,
-    pub imaginary: f32,
-}
-
-// A measured cell: either a pair, or a fade that carries only its gain.
-pub enum MeasuredCell {
-    Pair(Measured),
-    Fade(f32),
-}
 
 // Whose cells they are.
 pub enum Channel {

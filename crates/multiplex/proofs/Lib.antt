@@ -1,5 +1,3 @@
-pub mod Octets
-pub mod FrameBits
 pub mod Layouts
 pub mod Refusals
 pub mod RoundTrip

@@ -6,7 +6,7 @@ use native.Mathlib.Omega.{arith}
 use lib.ListN.{length, replicate}
 use lib.Dec.{lit<}
 use Rattle.lists.specs.Bytes.{bytesFor}
-use Rattle.dispersal.specs.Contracts.{Packs}
+use Rattle.packing.specs.Contracts.{Packs}
 use Rattle.lists.specs.Lists.{table}
 use Rattle.lists.proofs.Tables.{length-table}
 use Rattle.component.specs.Bits.{Bits}

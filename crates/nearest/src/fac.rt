@@ -1,8 +1,8 @@
 // The nearest FAC block. 02, S-9.
 use crate::search::search_with;
 use dispersal::bits::disperse;
-use dispersal::bits::pack;
 use interleaver::order::deinterleave;
+use packing::bits::pack;
 use patterns::table::pattern;
 use patterns::table::standard_table;
 use settings::tables::FAC_BYTES;

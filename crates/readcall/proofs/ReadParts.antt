@@ -32,8 +32,9 @@ use Rattle.superframe.specs.Read.{ReadCall, pointTests, givenTests, orderRefusa
 use Rattle.superframe.specs.Blocks.{keptBytes, placedBytes, placedTests}
 use Rattle.superframe.specs.Contracts.{ReadFits}
 use Rattle.superframe.proofs.Calls.{read-fits, answer-order, answer-points, answer-blocks, read-accepts, read-refuses}
-use Rattle.cellmemory.specs.Contracts.{StateFits, refusalThen}
-use Rattle.cellmemory.proofs.Chains.{then-stops, then-goes-on}
+use Rattle.cellmemory.specs.Contracts.{StateFits}
+use Rattle.callrefusals.specs.Contracts.{refusalThen}
+use Rattle.callrefusals.proofs.Chains.{then-stops, then-goes-on}
 use Rattle.cellmemory.proofs.Progress.{memory-most}
 use Rattle.readcall.specs.declared.Blocks.{Blocks}
 use Rattle.faults.specs.declared.Fault.{Fault}

@@ -2,8 +2,8 @@
 use crate::places::read_blocks;
 use block::buffers::MOST_MSC_BYTES;
 use block::buffers::MOST_SDC_BYTES;
+use callrefusals::refusal;
 use cellmemory::buffers::memory_buffer;
-use cellmemory::refusal;
 use channels::Scheme;
 use channels::tables::scheme_refusal;
 use faults::Fault;
@@ -21,7 +21,7 @@ ghost use lib.ListN.{replicate};
 ghost use Rattle.superframe.specs.Call.{facBytes};
 ghost use Rattle.superframe.specs.Code.{byteLengths, cellLengths};
 ghost use Rattle.superframe.specs.Read.{orderRefusal, readOf};
-ghost use Rattle.cellmemory.specs.Contracts.{refusalThen};
+ghost use Rattle.callrefusals.specs.Contracts.{refusalThen};
 ghost use Rattle.readcall.specs.Contracts.{readCall, readYield, ReadPasses};
 
 // 1 to 10: the cells come in, and bytes go out.

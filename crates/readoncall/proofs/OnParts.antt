@@ -22,8 +22,8 @@ use Rattle.superframe.specs.ReadOn.{ReadOnCall, lostBytes, readOnRefusal, keptC
 use Rattle.superframe.specs.Contracts.{ReadOnFits}
 use Rattle.superframe.proofs.Calls.{first-own-pass}
 use Rattle.superframe.proofs.ReadOnCalls.{on-fits, on-accepts, on-refuses}
-use Rattle.cellmemory.specs.Contracts.{refusalThen}
-use Rattle.cellmemory.proofs.Chains.{first-own-hold, then-stops, then-goes-on}
+use Rattle.callrefusals.specs.Contracts.{refusalThen}
+use Rattle.callrefusals.proofs.Chains.{first-own-hold, then-stops, then-goes-on}
 use Rattle.readcall.specs.declared.Blocks.{Blocks}
 use Rattle.readcall.specs.Contracts.{readCall, blocksOf, BlocksLent, BlocksRead}
 use Rattle.keptcells.specs.Contracts.{CellsKept}

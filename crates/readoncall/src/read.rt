@@ -1,6 +1,6 @@
 // The call that reads on. 02, S-13.
 use block::buffers::MOST_NUMBERS;
-use cellmemory::refusal::in_order;
+use callrefusals::refusal::in_order;
 use keptcells::kept::keep_cells;
 use keptcells::kept::mark_lost;
 use lists::bytes::clear;

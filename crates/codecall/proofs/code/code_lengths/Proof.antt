@@ -1,7 +1,7 @@
 -- `code::code_lengths` meets its contract. Assumes nothing.
 use mathlib.Core.Path.{_∙_}
 use borrow.Author.Needs.{needs}
-use Rattle.cellmemory.proofs.Chains.{refusal-is, bytes-are, cells-are}
+use Rattle.callrefusals.proofs.Chains.{refusal-is, bytes-are, cells-are}
 use Rattle.codecall.proofs.code.code_lengths.Statement.{statement}
 use Rattle.codecall.proofs.code.code_lengths.Tie as tie
 

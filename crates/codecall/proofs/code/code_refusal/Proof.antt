@@ -1,6 +1,6 @@
 -- `code::code_refusal` meets its contract. Assumes nothing.
 use borrow.Author.Needs.{needs}
-use Rattle.cellmemory.proofs.Chains.{then-fits}
+use Rattle.callrefusals.proofs.Chains.{then-fits}
 use Rattle.codecall.proofs.CodeCalls.{code-early, code-packed, code-eleven, code-twelve, code-none}
 use Rattle.codecall.proofs.code.code_refusal.Statement.{statement}
 use Rattle.codecall.proofs.code.code_refusal.Tie as tie

@@ -1,8 +1,8 @@
 -- `build` meets its contract. Assumes nothing.
 use mathlib.Core.Path.{sym, ap, _∙_}
 use borrow.Author.Needs.{needs}
-use Rattle.facfields.specs.Fields.{within}
-use Rattle.facfields.specs.Block.{blockOf}
+use Rattle.facblocks.specs.Fields.{within}
+use Rattle.facblocks.specs.Block.{blockOf}
 use Rattle.facfields.specs.Build.{buildYield}
 use Rattle.facfields.proofs.Refusals.{build-accepted, build-yields, build-refused}
 use Rattle.facfields.proofs.calls.build.Statement.{statement}

@@ -3,7 +3,7 @@ use mathlib.Core.Path.{_≡_, sym, ap, ap₂, _∙_}
 use mathlib.Core.Bool.{not, _&&_}
 use borrow.Author.Needs.{needs}
 use Rattle.settings.specs.Refusal.{first}
-use Rattle.facfields.specs.Fields.{within, agrees}
+use Rattle.facblocks.specs.Fields.{within, agrees}
 use Rattle.facfields.specs.Build.{buildRefusal}
 use Rattle.settings.proofs.Chain.{hold, pass}
 use Rattle.facfields.proofs.Refusals.{build-settings, build-fields, build-bytes, build-test}

@@ -1,7 +1,7 @@
 -- `read` meets its contract. Assumes nothing.
 use mathlib.Core.Path.{sym, ap, _∙_}
 use borrow.Author.Needs.{needs}
-use Rattle.facfields.specs.Fields.{numbersOf}
+use Rattle.facblocks.specs.Fields.{numbersOf}
 use Rattle.facfields.specs.Read.{readYield}
 use Rattle.facfields.proofs.Refusals.{read-accepted, read-yields, read-refused}
 use Rattle.facfields.proofs.calls.read.Statement.{statement}

@@ -3,7 +3,7 @@ use mathlib.Core.Path.{_≡_, sym, ap, _∙_}
 use mathlib.Core.Bool.{not}
 use borrow.Author.Needs.{needs}
 use Rattle.settings.specs.Refusal.{first}
-use Rattle.facfields.specs.Fields.{agrees}
+use Rattle.facblocks.specs.Fields.{agrees}
 use Rattle.facfields.specs.Read.{readRefusal}
 use Rattle.settings.proofs.Chain.{hold, pass}
 use Rattle.facfields.proofs.Refusals.{read-settings, read-bytes, read-fields, read-test}

@@ -3,7 +3,7 @@ use mathlib.Core.Path.{_∙_, ap, sym}
 use borrow.Author.Needs.{needs}
 use borrow.Author.Tests.{not-true, not-false}
 use Rattle.settings.proofs.Bounds.{accepted-of}
-use Rattle.holdfile.specs.Files.{fileLength}
+use Rattle.holdlines.specs.Files.{fileLength}
 use Rattle.holdfile.proofs.Turning.{refused-settings, refused-room, refused-file, file-turned}
 use Rattle.holdfile.proofs.convert.convert.Statement.{statement}
 use Rattle.holdfile.proofs.convert.convert.Tie as tie

@@ -1,7 +1,7 @@
 -- `put_other` meets its contract. Assumes nothing.
 use native.Mathlib.Omega.{arith}
 use borrow.Author.Needs.{needs}
-use Rattle.holdfile.proofs.Valid.{valid-long, three-bytes}
+use Rattle.holdreading.proofs.Valid.{valid-long, three-bytes}
 use Rattle.holdfile.proofs.Turning.{other-room, other-put}
 use Rattle.holdfile.proofs.convert.put_other.Statement.{statement}
 use Rattle.holdfile.proofs.convert.put_other.Tie as tie

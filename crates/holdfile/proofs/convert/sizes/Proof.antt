@@ -3,8 +3,8 @@ use mathlib.Core.Path.{sym, _∙_}
 use native.Mathlib.Omega.{arith}
 use borrow.Author.Needs.{needs}
 use Rattle.settings.proofs.Bounds.{accepted-of}
-use Rattle.holdfile.specs.declared.Form.the-variants.{Old, New}
-use Rattle.holdfile.proofs.FilePut.{file-few}
+use Rattle.holdlines.specs.declared.Form.the-variants.{Old, New}
+use Rattle.holdlines.proofs.LineLengths.{file-few}
 use Rattle.holdfile.proofs.Turning.{sizes-refused, sizes-found}
 use Rattle.holdfile.proofs.convert.sizes.Statement.{statement}
 use Rattle.holdfile.proofs.convert.sizes.Tie as tie

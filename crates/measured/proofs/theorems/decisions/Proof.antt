@@ -1,5 +1,5 @@
 -- `decisions` meets its contract. Assumes nothing.
-use Rattle.measured.proofs.Nearness.{decision-nearest, decision-among, not-above}
+use Rattle.decision.proofs.Nearness.{decision-nearest, decision-among, not-above}
 use Rattle.measured.proofs.theorems.decisions.Statement.{statement}
 use Rattle.measured.proofs.theorems.decisions.Tie as tie
 

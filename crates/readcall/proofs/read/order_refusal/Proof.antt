@@ -1,6 +1,6 @@
 -- `read::order_refusal` meets its contract. Assumes nothing.
 use borrow.Author.Needs.{needs}
-use Rattle.cellmemory.proofs.Chains.{then-fits}
+use Rattle.callrefusals.proofs.Chains.{then-fits}
 use Rattle.readcall.proofs.ReadParts.{order-early, order-twelve, order-none}
 use Rattle.readcall.proofs.read.order_refusal.Statement.{statement}
 use Rattle.readcall.proofs.read.order_refusal.Tie as tie

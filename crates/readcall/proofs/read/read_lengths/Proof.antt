@@ -1,7 +1,7 @@
 -- `read::read_lengths` meets its contract. Assumes nothing.
 use mathlib.Core.Path.{_∙_}
 use borrow.Author.Needs.{needs}
-use Rattle.cellmemory.proofs.Chains.{refusal-is, bytes-are, cells-are}
+use Rattle.callrefusals.proofs.Chains.{refusal-is, bytes-are, cells-are}
 use Rattle.readcall.proofs.read.read_lengths.Statement.{statement}
 use Rattle.readcall.proofs.read.read_lengths.Tie as tie
 

@@ -1,0 +1,4 @@
+pub mod Nearness
+pub mod Places
+pub mod Axes
+pub mod Finite

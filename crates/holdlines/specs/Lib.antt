@@ -1,0 +1,3 @@
+pub mod Hexadecimal
+pub mod Files
+pub mod Contracts

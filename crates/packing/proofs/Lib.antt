@@ -1,0 +1,4 @@
+pub mod Unpacking
+pub mod Pieces
+pub mod Bytes
+pub mod Spare

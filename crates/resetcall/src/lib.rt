@@ -1,0 +1,2 @@
+// The call Reset. 01 "Operations".
+pub mod reset;
