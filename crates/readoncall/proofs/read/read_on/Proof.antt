@@ -1,6 +1,6 @@
 -- `read::read_on` meets its contract. Assumes nothing.
 use borrow.Author.Needs.{needs}
-use Rattle.cellmemory.proofs.Chains.{then-fits}
+use Rattle.callrefusals.proofs.Chains.{then-fits}
 use Rattle.readoncall.proofs.OnParts.{refused-is, accepted-lent, accepted-seven, accepted-is}
 use Rattle.readoncall.proofs.read.read_on.Statement.{statement}
 use Rattle.readoncall.proofs.read.read_on.Tie as tie
