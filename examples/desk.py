@@ -597,12 +597,15 @@ def plans(program):
     one, two = EXAMPLES[0][0], EXAMPLES[1][0]
     good = f"0 600 {one}\n600 10080 {two}\n"
     week = b"0 0 29998\n30000 1 503998\n"
+    cuts = [157 * k for k in range(64)] + [10080]
+    most = list(zip(range(64), cuts, cuts[1:], [one, two] * 32))
     with tempfile.TemporaryDirectory() as place:
         name = os.path.join(place, "plan")
         missing = os.path.join(place, "none")
         for what, text, words, out, said in [
             ("a week", good, [], week, ""),
             ("one rule", f"0 10080 {one}\n", [], b"0 0 -\n", ""),
+            ("64 rules", "".join(f"{a} {b} {s}\n" for _, a, b, s in most), [], "".join(f"{50 * a} {k} {50 * b - 2}\n" for k, a, b, _ in most).encode(), ""),
             ("a first super frame", good, ["0"], b"0 2\n", ""),
             ("a super frame", good, ["29997"], b"0 0\n", ""),
             ("a closing", good, ["29998"], b"0 1\n", ""),
@@ -734,6 +737,20 @@ def arguments(program):
             both(program, [job, bad] + more, b"", "settings refused", b"", f"settings: refused: {number}, {words}\n", False)
 
 
+def unkept(settings):
+    """Where the command cannot keep what is said, it does not end with 0 after a run that failed; where nothing is said, there is nothing to keep."""
+
+    def limited():
+        signal.signal(signal.SIGXFSZ, signal.SIG_IGN)
+        resource.setrlimit(resource.RLIMIT_FSIZE, (0, 0))
+
+    status, _, said = run([COMMAND, "code", settings], b"\0", preexec_fn=limited)
+    must(status == 2 and said.startswith(INSIDE.splitlines()[0]), f"what is said cannot be kept: {status}, {said!r}")
+    status, _, said = run([COMMAND, "fit", FITS[0][0], "1"], b"", preexec_fn=limited)
+    must(status == 0 and said == "", f"nothing is said, and nothing kept: {status}, {said!r}")
+    print("  what is said cannot be kept: status 2")
+
+
 def main():
     must(len(sys.argv) == 2, "usage: desk.py DIRECTORY")
     program = os.path.join(sys.argv[1], "desk")
@@ -747,6 +764,7 @@ def main():
     multiplex(program)
     plans(program)
     fits(program)
+    unkept(EXAMPLES[0][0])
     arguments(program)
     print("all as it must be")
 
