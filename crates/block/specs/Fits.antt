@@ -56,12 +56,22 @@ pub data LevelsFit (n : ℕ) : List Level → Type 0 where
   none : LevelsFit n []
   more : {l : Level} {ls : List Level} → LevelFits n l → LevelsFit n ls → LevelsFit n (l ∷ ls)
 
+-- Two levels are interleaved alike: by the same t, and if they are interleaved, so many coded bits of the one are part A's as of the other.
+pub record Alike (l m : Level) : Type 0 where
+  pub step : m .t ≡ l .t
+  pub front : (l .t ≡ 0 → ⊥) → sizeA m ≡ sizeA l
+
+-- Levels in pairs, those of a pair interleaved alike.
+pub record InPairs (ls : List Level) : Type 0 where
+  pub alike : (z : Level) (i : ℕ) → 2 * i + 1 < length ls → Alike (getD ls (2 * i) z) (getD ls (2 * i + 1) z)
+
 -- All that is required of a block: each level has two bits a cell, or one where levels go in pairs; as many levels as the constellation has bits on an axis; and sizes for which
 -- the code has room.
 pub record BlockFits (k : Block) : Type 0 where
   pub streams : ℕ
   pub levels : length (levelsOf k) ≡ cond (oneAxis k) (2 * streams) streams
   pub fit : LevelsFit (cond (oneAxis k) (k .cells) (2 * k .cells)) (levelsOf k)
+  pub pairs : oneAxis k ≡ true → InPairs (levelsOf k)
   pub labels : Labels streams (pointsOf k)
   pub front : k .vspp ≤ bitCount k
   pub few : k .count ≤ 6

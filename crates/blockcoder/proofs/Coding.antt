@@ -57,7 +57,7 @@ module _ {k : Block} {a b : List ℕ} {out : List ℤ} (C : CodesParts k a b out
   few = omega (arith, sym (count-is (C .fits)) ∙ rw one at (C .fits .levels), three (C .fits))
 
   -- they can be coded
-  pub codes-both : {order labels : List ℕ} → BlockOrder k order → length labels ≡ length out → CodesLevels (k .levels) 0 1 (k .count) order a b labels
+  pub codes-both : {order labels : List ℕ} → BlockOrder k order → length labels ≡ length out → CodesLevels (oneAxis k) (k .levels) 0 1 (k .count) order a b labels
   codes-both O e = codes-levels (C .fits) (C .parts) both out-low (C .inputA) (C .inputB) O 1 0 (k .count) (omega arith) (omega arith) (omega arith) few (omega arith) e
 
   module _ {labels : List ℕ} (e : labels ≡ table (labelAt (stepped (streamAt (k .levels) a b) 0 1 (k .count))) 0 (length out)) where
@@ -100,7 +100,7 @@ module _ {k : Block} {a b : List ℕ} {out : List ℤ} (C : CodesParts k a b out
   twice = omega (arith, count)
 
   -- those of the real axis can be coded, and those of the imaginary one
-  pub codes-axis : {order labels : List ℕ} → BlockOrder k order → (l : ℕ) → l ≤ 1 → length labels ≡ k .cells → CodesLevels (k .levels) l 2 (k .count / 2) order a b labels
+  pub codes-axis : {order labels : List ℕ} → BlockOrder k order → (l : ℕ) → l ≤ 1 → length labels ≡ k .cells → CodesLevels (oneAxis k) (k .levels) l 2 (k .count / 2) order a b labels
   codes-axis O l h e =
       codes-levels (C .fits) (C .parts) axis cells-low (C .inputA) (C .inputB) O 2 l (k .count / 2) (omega arith) (omega arith) h pairs (omega (arith, twice)) e
 

@@ -1,5 +1,6 @@
 -- The FAC block can be read back. Assumes nothing.
-use mathlib.Core.Path.{_≡_, refl, ap}
+use mathlib.Core.Path.{_≡_, refl, sym, ap}
+use mathlib.Core.Bool.{true≢false}
 use mathlib.Core.List.{[], _∷_}
 use native.Mathlib.Omega.{arith}
 use lib.Dec.{lit<, lit≤}
@@ -61,6 +62,7 @@ fac-fits s T =
       streams = 1;
       levels = ap length (levels-are s);
       fit = rw (levels-are s) (more (fac-level s T) none);
+      pairs = λ o. absurd (true≢false (sym o));
       labels = constellation-labels 0;
       front = omega arith;
       few = lit≤ tt;

@@ -30,13 +30,13 @@ use Rattle.block.specs.Mapping.{HMMIX}
 use Rattle.block.specs.Block.{levelsOf, pointsOf, oneAxis, bitCount}
 use Rattle.block.proofs.Blocks.{levels-from, length-six}
 use Rattle.block.specs.Reading.{sizeA, sizeB}
-use Rattle.block.specs.Fits.{plain, LevelFits, LevelsFit, more, BlockFits}
+use Rattle.block.specs.Fits.{plain, LevelFits, LevelsFit, more, Alike, InPairs, BlockFits}
 use Rattle.block.proofs.Mapping.{levelCount, constellation-labels}
 use Rattle.channels.specs.declared.Scheme.{Scheme}
 use Rattle.channels.specs.Scheme.{SchemeAccepted}
 use Rattle.channels.specs.Msc.{vsppLevel, mscSteps, mscVspp, mscProtected, mscLevels, mscConstellation, mscBlock}
 use Rattle.channels.proofs.Coded.{sizeB-is, tail-fits, Step}
-use Rattle.channels.proofs.Protected.{Cells, protected-fit, protected-length, protected-totalA, protected-totalB}
+use Rattle.channels.proofs.Protected.{Cells, protected-fit, protected-length, protected-totalA, protected-totalB, protected-alike, protected-first}
 
 -- the level of the very strongly protected part has w N coded bits
 vspp-level : {kept : List ℕ} → Allowed kept → (w n rate : ℕ) → rate < 13 → 12 ≤ w * n → LevelFits (w * n) (vsppLevel kept w n rate)
@@ -151,6 +151,37 @@ module _ (b : Bool) (v : Level) (ls : List Level) where
       go true = rw e (zero-add (totalB ls))
       go false = refl
 
+  -- the first level and that after it aren't interleaved, and the others are in pairs behind these
+  front-pairs : b ≡ true → v .t ≡ 0 → ((z : Level) → 0 < length ls → getD ls 0 z .t ≡ 0)
+      → ((z : Level) (i : ℕ) → 2 * i + 2 < length ls → Alike (getD ls (2 * i + 1) z) (getD ls (2 * i + 2) z))
+      → InPairs (cond b (v ∷ []) [] ++ ls)
+  front-pairs e t u A = rw e (record { alike = λ z i h. go z i h })
+    where
+      go : (z : Level) (i : ℕ) → 2 * i + 1 < length (v ∷ ls) → Alike (getD (v ∷ ls) (2 * i) z) (getD (v ∷ ls) (2 * i + 1) z)
+      go z zero h = record { step = u z (omega arith) ∙ sym t; front = λ p. absurd (p t) }
+      go z (suc i) h =
+          let f : 2 * suc i ≡ suc (2 * i + 1) = omega arith in
+          let g : suc (2 * i + 1) + 1 ≡ suc (2 * i + 2) = omega arith in
+          rw (f, g) (A z i (omega arith))
+
+-- MSC mode 1 has a very strongly protected part, and its levels have t 0 and then pairs of one t
+mix-hierarchical : (msc : ℕ) → eqb msc 1 ≡ true → hierarchical msc ≡ true
+unfolding hierarchical
+mix-hierarchical msc e = rw e
+
+mix-first : (msc : ℕ) → eqb msc 1 ≡ true → getD (mscSteps msc) 0 0 ≡ 0
+unfolding mscSteps
+mix-first msc e = rw (eqb-true msc 1 e)
+
+mix-steps : (msc i : ℕ) → eqb msc 1 ≡ true → i < 2 → getD (mscSteps msc) (2 * i + 2) 0 ≡ getD (mscSteps msc) (2 * i + 1) 0
+unfolding mscSteps
+mix-steps msc i e h = rw (eqb-true msc 1 e) (go i h)
+  where
+    go : (i : ℕ) → i < 2 → getD (mscSteps 1) (2 * i + 2) 0 ≡ getD (mscSteps 1) (2 * i + 1) 0
+    go zero h = refl
+    go (suc zero) h = refl
+    go (suc (suc i)) h = absurd (omega arith)
+
 -- what the denominators of all rates divide, and its multiples
 divided : (d : ℕ) (rs : List ℕ) → T (divide d rs) → (c i : ℕ) → i < length rs → (c * d) % RY (getD rs i 0) ≡ 0
 divided d [] t c i h = absurd (omega arith)
@@ -209,6 +240,24 @@ module _ {c : Scheme} (served : SchemeAccepted c) where
       (vspp-level (served .table) (width (c .settings .msc)) (nMux (c .settings)) (vsppRate (c .settings .vspp)) (vspp-rate-low (c .settings .vspp)) (omega (arith, wide (c .settings .msc) (nMux (c .settings)), served .settings .ranges .muxLeast)))
       (rw e at F))
 
+  -- HMmix: the levels of both axes are interleaved alike
+  levels-pair : eqb (c .settings .msc) 1 ≡ true → InPairs (mscLevels c)
+  unfolding mscLevels mscVspp vsppLevel mscProtected
+  levels-pair e =
+      let s = c .settings in
+      let w = width (s .msc) in
+      let ra = rates (s .msc) (s .levela) in
+      let rb = rates (s .msc) (s .levelb) in
+      let ts = mscSteps (s .msc) in
+      let n : length (mscProtected c) ≡ length ra = protected-length (c .table) w (n1 s) (n2 s) ra rb ts in
+      let few : length ra ≤ 5 = omega (arith, rw (mix-hierarchical (s .msc) e) at (few-levels (s .msc) (s .levela) A)) in
+      front-pairs (hierarchical (s .msc)) (mscVspp c) (mscProtected c) (mix-hierarchical (s .msc) e) refl
+      (λ z h. protected-first (c .table) w (n1 s) (n2 s) ra rb ts z (rw n at h) ∙ mix-first (s .msc) e)
+      (λ z i h.
+      let k : 2 * i + 2 < length ra = rw n at h in
+      protected-alike (served .table) w (n1 s) (n2 s) ra rb ts cells (rates-low (s .msc) (s .levela) A) z (2 * i + 1) (2 * i + 2) (omega arith) k
+      (mix-steps (s .msc) i e (omega arith)))
+
   total-A : totalA (mscLevels c) ≡ lVspp (c .settings) + l1 (c .settings)
   unfolding mscLevels mscVspp mscProtected vsppLevel lVspp partVspp l1 partA
   total-A =
@@ -259,6 +308,7 @@ module _ {c : Scheme} (served : SchemeAccepted c) where
         streams = levelCount (mscConstellation (c .settings .msc));
         levels = ap length (levels-are served) ∙ length-levels c ∙ count-levels (c .settings .msc) (c .settings .levela) P;
         fit = rw (levels-are served) (levels-fit served);
+        pairs = λ o. rw (levels-are served) (levels-pair served (sym (mix-is (c .settings .msc)) ∙ o));
         labels = constellation-labels (mscConstellation (c .settings .msc));
         front = front-low;
         few = few-of;

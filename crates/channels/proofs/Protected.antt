@@ -1,6 +1,6 @@
 -- The levels of the standard protected part can be read back, and how many bits they have. Assumes nothing.
 use Prim.Native.Nat.{ℕ, zero, suc, _+_, _*_, _%_, _≤_, _<_}
-use mathlib.Core.Path.{_≡_, refl, ap, _∙_}
+use mathlib.Core.Path.{_≡_, refl, sym, ap, _∙_}
 use mathlib.Core.Logic.{_⊎_, inr}
 use mathlib.Core.List.{List, [], _∷_, map}
 use native.Mathlib.Omega.{arith}
@@ -15,7 +15,7 @@ use Rattle.settings.specs.Formulas.{bitsA, bitsB}
 use Rattle.block.specs.declared.Level.{Level}
 use Rattle.block.specs.Levels.{totalA, totalB}
 use Rattle.block.specs.Reading.{sizeA, sizeB}
-use Rattle.block.specs.Fits.{LevelFits, LevelsFit, none, more}
+use Rattle.block.specs.Fits.{LevelFits, LevelsFit, none, more, Alike}
 use Rattle.channels.specs.Protected.{protectedLevel, protectedLevels}
 use Rattle.channels.proofs.Coded.{sizeA-is, sizeB-is, tail-fits, Step, mixes}
 
@@ -30,6 +30,10 @@ module _ {kept : List ℕ} (T : Allowed kept) (w cells1 cells2 rateA rateB t : �
   size-A : rateA < 13 → cells1 % RY rateA ≡ 0 → sizeA (protectedLevel kept w cells1 cells2 rateA rateB t) ≡ w * cells1
   unfolding sizeA protectedLevel
   size-A h e = rw pattern-from (sizeA-is T w cells1 rateA h e)
+
+  step-is : protectedLevel kept w cells1 cells2 rateA rateB t .t ≡ t
+  unfolding protectedLevel
+  step-is = refl
 
   -- part B has w N2
   size-B : rateB < 13 → 12 ≤ w * cells2 → sizeB (protectedLevel kept w cells1 cells2 rateA rateB t) ≡ w * cells2
@@ -93,3 +97,20 @@ protected-at kept w cells1 cells2 (rateA ∷ ratesA) ratesB ts zero z h = refl
 protected-at kept w cells1 cells2 (rateA ∷ ratesA) ratesB ts (suc k) z h =
     let e : 1 + k ≡ suc k = omega arith in
     protected-at kept w cells1 cells2 ratesA (drop 1 ratesB) (drop 1 ts) k z (omega arith) ∙ rw (getD-drop 1 ratesB k 0, getD-drop 1 ts k 0, e)
+
+-- levels of them with the same t are interleaved alike: each has w N1 coded bits in part A
+pub protected-alike : {kept : List ℕ} → Allowed kept → (w cells1 cells2 : ℕ) (ratesA ratesB ts : List ℕ) → Cells w cells1 cells2 ratesA
+    → ((i : ℕ) → getD ratesA i 0 < 13) → (z : Level) (i j : ℕ) → i < length ratesA → j < length ratesA → getD ts j 0 ≡ getD ts i 0
+    → Alike (getD (protectedLevels kept w cells1 cells2 ratesA ratesB ts) i z) (getD (protectedLevels kept w cells1 cells2 ratesA ratesB ts) j z)
+protected-alike {kept} T w cells1 cells2 ratesA ratesB ts C low z i j h k e =
+    rw (protected-at kept w cells1 cells2 ratesA ratesB ts i z h, protected-at kept w cells1 cells2 ratesA ratesB ts j z k)
+    (record { step = step-is T w cells1 cells2 _ _ _ ∙ e ∙ sym (step-is T w cells1 cells2 _ _ _); front = λ p. front j k ∙ sym (front i h) })
+  where
+    front : (i : ℕ) → i < length ratesA → sizeA (protectedLevel kept w cells1 cells2 (getD ratesA i 0) (getD ratesB i 0) (getD ts i 0)) ≡ w * cells1
+    front i h = size-A T w cells1 cells2 (getD ratesA i 0) (getD ratesB i 0) (getD ts i 0) (low i) (C .whole i h)
+
+-- the first of them has the first t
+pub protected-first : (kept : List ℕ) (w cells1 cells2 : ℕ) (ratesA ratesB ts : List ℕ) (z : Level) → 0 < length ratesA
+    → getD (protectedLevels kept w cells1 cells2 ratesA ratesB ts) 0 z .t ≡ getD ts 0 0
+unfolding protectedLevel
+protected-first kept w cells1 cells2 ratesA ratesB ts z h = rw (protected-at kept w cells1 cells2 ratesA ratesB ts 0 z h)

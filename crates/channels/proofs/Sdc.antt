@@ -1,8 +1,8 @@
 -- An SDC block can be read back. Assumes nothing.
 use Prim.Native.Nat.{ℕ, zero, suc, _+_, _*_, _≤_, _<_}
-use mathlib.Core.Path.{_≡_, refl, ap, _∙_}
+use mathlib.Core.Path.{_≡_, refl, sym, ap, _∙_}
 use mathlib.Core.Logic.{inl, inr}
-use mathlib.Core.Bool.{cond}
+use mathlib.Core.Bool.{false, cond, true≢false}
 use mathlib.Core.List.{List, [], _∷_, map}
 use native.Mathlib.Nat.{zero-add, mul-zero, zero-mul, zero-div, zero-mod}
 use native.Mathlib.Omega.{arith}
@@ -69,12 +69,13 @@ record Counted (sdc : ℕ) : Type 0 where
   levels : length (sdcRates sdc) ≡ cond (eqb (sdcConstellation sdc) HMMIX) (2 * levelCount (sdcConstellation sdc)) (levelCount (sdcConstellation sdc))
   few : length (sdcRates sdc) ≤ 6
   known : sdcConstellation sdc < 5
+  apart : eqb (sdcConstellation sdc) HMMIX ≡ false
   both : (n : ℕ) → 2 * 0 + 2 * n ≡ cond (eqb (sdcConstellation sdc) HMMIX) n (2 * n)
 
 counted : (sdc : ℕ) → sdc ≤ 1 → Counted sdc
 unfolding sdcRates levelCount sdcConstellation
-counted zero h = record { levels = refl; few = omega arith; known = lit< tt; both = λ n. omega arith }
-counted (suc zero) h = record { levels = refl; few = omega arith; known = lit< tt; both = λ n. omega arith }
+counted zero h = record { levels = refl; few = omega arith; known = lit< tt; apart = refl; both = λ n. omega arith }
+counted (suc zero) h = record { levels = refl; few = omega arith; known = lit< tt; apart = refl; both = λ n. omega arith }
 counted (suc (suc sdc)) h = absurd (omega arith)
 
 -- an SDC block's levels and constellation allow its bits to be read back
@@ -91,6 +92,7 @@ sdc-fits {c} A =
       streams = levelCount (sdcConstellation (c .settings .sdc));
       levels = ap length (levels-are c) ∙ length-levels c ∙ C .levels;
       fit = rw (levels-are c, ← C .both (nSdc (c .settings))) F;
+      pairs = λ o. absurd (true≢false (sym o ∙ C .apart));
       labels = constellation-labels (sdcConstellation (c .settings .sdc));
       front = omega arith;
       few = rw (length-levels c) (C .few);

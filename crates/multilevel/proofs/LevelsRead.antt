@@ -35,13 +35,13 @@ length-inputB : (l : Level) (y : List ℕ) → length (inputB l y) ≡ l .bitsb
 unfolding inputB
 length-inputB l y = length-decode _ _ 0 (l .bitsb) _
 
-module _ {ls : List Level} {l w : ℕ} {order labels coded a b : List ℕ} (R : ReadsAt ls l w order labels coded a b)
+module _ {one : Bool} {ls : List Level} {l w : ℕ} {order labels coded a b : List ℕ} (R : ReadsAt one ls l w order labels coded a b)
     {s r : ℕ} (es : s ≡ bitsBefore ls false l) (er : r ≡ bitsBefore ls true l) where
   -- what reading the level requires
-  pub reads-level : ReadsLevel (levelAt ls l) w (take (l * length labels + length labels - l * length labels) (drop (l * length labels) order)) labels coded (take (s + levelAt ls l .bitsa - s) (drop s a)) (take (r + levelAt ls l .bitsb - r) (drop r b))
-  reads-level =
+  pub reads-level : {d : ℕ} → d ≡ digitAt one l → ReadsLevel (levelAt ls l) w (take (d * length labels + length labels - d * length labels) (drop (d * length labels) order)) labels coded (take (s + levelAt ls l .bitsa - s) (drop s a)) (take (r + levelAt ls l .bitsb - r) (drop r b))
+  reads-level {d} ed =
       record {
-        ordered = rw (part-is order (l * length labels) (length labels) (l * length labels) refl) (R .level .ordered);
+        ordered = rw (part-is order (d * length labels) (length labels) (d * length labels) refl, ed) (R .level .ordered);
         fits = R .level .fits;
         longA = part-long a s (levelAt ls l .bitsa) s refl (ends-a (R .level) es);
         longB = part-long b r (levelAt ls l .bitsb) r refl (ends-b (R .level) er);
@@ -170,7 +170,7 @@ module _ {k : Block} {order labels a₀ b₀ : List ℕ} (R : ReadsLevels k orde
 module _ {k : Block} {l : ℕ} {order labels coded a b : List ℕ} (R : ReadsStream k l order labels coded a b) where
   -- what reading the level from its labels, of both axes or of one, requires
   reads-at : {w : ℕ} (d : ℕ) → w ≡ 2 ^ d → (own : List ℕ) → LevelFits (length own) (levelAt (k .levels) l) → length own ≤ length labels
-      → length own ≡ cond (oneAxis k) (length labels / 2) (length labels) → ReadsAt (k .levels) l w order own coded a b
+      → length own ≡ cond (oneAxis k) (length labels / 2) (length labels) → ReadsAt (oneAxis k) (k .levels) l w order own coded a b
   reads-at d e own f m g =
       let A = R .all in
       record {
@@ -188,10 +188,10 @@ module _ {k : Block} {l : ℕ} {order labels coded a b : List ℕ} (R : ReadsStr
         weighs = record { digit = d; power = e };
       }
 
-  pub reads-both : {w : ℕ} → oneAxis k ≡ false → w ≡ 2 ^ l → ReadsAt (k .levels) l w order labels coded a b
+  pub reads-both : {w : ℕ} → oneAxis k ≡ false → w ≡ 2 ^ l → ReadsAt (oneAxis k) (k .levels) l w order labels coded a b
   reads-both one e = reads-at l e labels (rw one at (R .all .fits l (R .known))) (omega arith) (rw one)
 
-  pub reads-axis : {w : ℕ} → oneAxis k ≡ true → w ≡ 2 ^ (l / 2) → {own : List ℕ} → length own ≡ length labels / 2 → ReadsAt (k .levels) l w order own coded a b
+  pub reads-axis : {w : ℕ} → oneAxis k ≡ true → w ≡ 2 ^ (l / 2) → {own : List ℕ} → length own ≡ length labels / 2 → ReadsAt (oneAxis k) (k .levels) l w order own coded a b
   reads-axis one e {own} m = reads-at (l / 2) e own (rw m (rw one at (R .all .fits l (R .known)))) (omega (arith, m)) (rw one m)
 
   pub digit-both : oneAxis k ≡ false → l < 3

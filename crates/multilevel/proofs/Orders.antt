@@ -1,6 +1,6 @@
 -- The places of a block's bits made level by level, and part by part. Assumes nothing.
-use Prim.Native.Nat.{ℕ, suc, _+_, _*_, _-_, _≤_, _<_}
-use mathlib.Core.Path.{_≡_, refl, sym, _∙_}
+use Prim.Native.Nat.{ℕ, suc, _+_, _*_, _-_, _/_, _%_, _≤_, _<_}
+use mathlib.Core.Path.{_≡_, refl, sym, ap, _∙_}
 use mathlib.Core.Logic.{_⊎_, inl, inr}
 use mathlib.Core.Bool.{Bool, true, false, cond}
 use mathlib.Core.List.{List, [], _∷_, _++_, append-nil}
@@ -11,6 +11,7 @@ use lib.ListN.{length, take, drop, length-take, length-drop, take-append-drop}
 use lib.Seq.{length-front, length-take-le, take-at, drop-at, take-append-le, take-append-add, drop-append-le, drop-length}
 use Rattle.lists.specs.Lists.{table}
 use Rattle.lists.proofs.Parts.{from-start, length-end, length-inside}
+use Rattle.lists.proofs.Counting.{below-or}
 use Rattle.patterns.specs.Contracts.{patternOf, Held}
 use Rattle.component.specs.Decoding.{codedLength}
 use Rattle.interleaver.specs.Tables.{places, Tabulates}
@@ -18,11 +19,12 @@ use Rattle.block.specs.declared.Level.{Level}
 use Rattle.block.specs.declared.Block.{Block}
 use Rattle.block.specs.Block.{oneAxis}
 use Rattle.block.specs.Reading.{sizeA, sizeB}
+use Rattle.block.specs.Fits.{LevelFits, Alike}
 use Rattle.labels.specs.Contracts.{Ordered}
 use Rattle.labels.proofs.Mixing.{cycles}
 use Rattle.labels.proofs.Ordering.{places-length}
-use Rattle.multilevel.specs.Contracts.{levelAt, LevelOrder, BlockOrder, PartPlaces, LevelPlaces, BlockPlaces}
-use Rattle.multilevel.proofs.Totals.{count-is, three, fits-level}
+use Rattle.multilevel.specs.Contracts.{digitAt, levelAt, LevelOrder, BlockOrder, PartPlaces, LevelPlaces, BlockPlaces}
+use Rattle.multilevel.proofs.Totals.{count-is, three, fits-level, pair-at}
 
 module _ {t n : ℕ} {out : List ℕ} (R : PartPlaces t n out) where
   part-long : length (take n out) ≡ n
@@ -110,12 +112,12 @@ module _ {n : ℕ} {l : Level} {out : List ℕ} (R : LevelPlaces n l out) {front
         })
 
 -- In turn l the levels before it have their places in order.
-pub record Tabled (ls : List Level) (n : ℕ) (d out : List ℕ) (l : ℕ) : Type 0 where
+pub record Tabled (level : ℕ → Level) (n : ℕ) (d out : List ℕ) (l : ℕ) : Type 0 where
   pub long : length out ≡ length d
-  pub done : (j : ℕ) → j < l → LevelOrder (levelAt ls j) (take n (drop (j * n) out))
+  pub done : (j : ℕ) → j < l → LevelOrder (level j) (take n (drop (j * n) out))
 
-pub tabled-start : (ls : List Level) (n : ℕ) (d : List ℕ) → Tabled ls n d d 0
-tabled-start ls n d = record { long = refl; done = λ j h. absurd (omega arith) }
+pub tabled-start : (level : ℕ → Level) (n : ℕ) (d : List ℕ) → Tabled level n d d 0
+tabled-start level n d = record { long = refl; done = λ j h. absurd (omega arith) }
 
 -- what stands before place m is as it was
 kept-before : (m i n : ℕ) (v w : List ℕ) → i + n ≤ m → m ≤ length v → take n (drop i (take m v ++ w)) ≡ take n (drop i v)
@@ -126,10 +128,10 @@ kept-before m i n v w h k =
     λ u. rw (drop-append-le i (take m v) u (omega (arith, long))) (take-append-le n (drop i (take m v)) u room) in
     one w ∙ sym (rw (take-append-drop m v) at (one (drop m v)))
 
-pub tabled-turn : {ls : List Level} {n : ℕ} {d out : List ℕ} {l : ℕ} → Tabled ls n d out l → l * n + n < length out
-    → (part : List ℕ) → length part ≡ length (take (l * n + n + 1 - l * n) (drop (l * n) out)) → LevelOrder (levelAt ls l) (take n part)
-    → Tabled ls n d (take (l * n) out ++ (part ++ drop (l * n + n + 1 - l * n) (drop (l * n) out))) (l + 1)
-tabled-turn {ls} {n} {d} {out} {l} T room part h O =
+pub tabled-turn : {level : ℕ → Level} {n : ℕ} {d out : List ℕ} {l : ℕ} → Tabled level n d out l → l * n + n < length out
+    → (part : List ℕ) → length part ≡ length (take (l * n + n + 1 - l * n) (drop (l * n) out)) → LevelOrder (level l) (take n part)
+    → Tabled level n d (take (l * n) out ++ (part ++ drop (l * n + n + 1 - l * n) (drop (l * n) out))) (l + 1)
+tabled-turn {level} {n} {d} {out} {l} T room part h O =
     record {
       long = length-inside out part (l * n) (l * n + n + 1 - l * n) h ∙ T .long;
       done = λ j k. each j (eq-or-lt-of-le (le-of-suc-le-suc (rw add-one at k)));
@@ -141,7 +143,7 @@ tabled-turn {ls} {n} {d} {out} {l} T room part h O =
     long-part : length part ≡ n + 1
     long-part = h ∙ rw (length-take, length-drop) (omega (arith, room))
 
-    each : (j : ℕ) → (j ≡ l) ⊎ (j < l) → LevelOrder (levelAt ls j) (take n (drop (j * n) (take (l * n) out ++ rest)))
+    each : (j : ℕ) → (j ≡ l) ⊎ (j < l) → LevelOrder (level j) (take n (drop (j * n) (take (l * n) out ++ rest)))
     each j (inl e) =
         rw (e, drop-at (take (l * n) out) rest (l * n) (length-take-le (l * n) out (omega arith)), take-append-le n part (drop (l * n + n + 1 - l * n) (drop (l * n) out)) (omega (arith, long-part))) O
     each j (inr k) =
@@ -154,42 +156,120 @@ pub counts-front : {n : ℕ} {l : Level} {out : List ℕ} → LevelPlaces n l ou
 unfolding sizeA
 counts-front R = (R .fits .heldA, omega (arith, R .fits .size, R .high))
 
-module _ {k : Block} {d : List ℕ} (R : BlockPlaces k d) {n : ℕ} (e : n ≡ cond (oneAxis k) (k .cells) (2 * k .cells)) where
-  -- every level's places have room
-  pub places-low : (l : ℕ) → l < k .count → (l * n + n ≤ 36708) × (n ≤ 12236)
-  places-low l h = go (oneAxis k) refl
+-- the places of n elements and of as many are the same
+places-same : {t u x y : ℕ} {v w : List ℕ} → u ≡ t → y ≡ x → w ≡ v → v ≡ places t x → w ≡ places u y
+places-same e f g h = rw (e, f, g) h
+
+-- levels that are interleaved alike have the same order
+alike-ordered : {n : ℕ} {l m : Level} {order : List ℕ} → LevelFits n l → LevelFits n m → Alike l m → length order ≡ n → LevelOrder l order → LevelOrder m order
+alike-ordered {n} {l} {m} {order} F G A e O =
+    record {
+      front = record {
+        long = length-take-le (sizeA m) order (omega (arith, G .size, e));
+        order-is = λ p.
+            let q = mixed p in
+            places-same (A .step) (A .front q) (ap (λ i. take i order) (A .front q)) (O .front .order-is q);
+      };
+      rest = record {
+        long = rw length-drop (omega (arith, G .size, e));
+        order-is = λ p.
+            let q = mixed p in
+            places-same (A .step) (omega (arith, A .front q, F .size, G .size)) (ap (λ i. drop i order) (A .front q)) (O .rest .order-is q);
+      };
+    }
+  where
+    mixed : (m .t ≡ 0 → ⊥) → l .t ≡ 0 → ⊥
+    mixed p f = p (A .step ∙ f)
+
+-- the level of a digit that its table is made for, by how many levels have the same
+abbrev pub firstLevel : List Level → ℕ → ℕ → Level
+firstLevel ls s i = levelAt ls (s * i)
+
+module _ {k : Block} {d : List ℕ} (R : BlockPlaces k d) {n s : ℕ} (e : n ≡ cond (oneAxis k) (k .cells) (2 * k .cells)) (f : s ≡ cond (oneAxis k) 2 1) where
+  many : (b : Bool) → oneAxis k ≡ b → k .count ≡ cond b (2 * R .fits .streams) (R .fits .streams)
+  many b o = sym (count-is (R .fits)) ∙ rw o at (R .fits .levels)
+
+  -- levels go to a table by ones or by twos
+  pub some-share : 0 < s
+  some-share = go (oneAxis k) f
     where
-      many : (b : Bool) → oneAxis k ≡ b → k .count ≡ cond b (2 * R .fits .streams) (R .fits .streams)
-      many b o = sym (count-is (R .fits)) ∙ rw o at (R .fits .levels)
+      go : (b : Bool) → s ≡ cond b 2 1 → 0 < s
+      go true g = omega (arith, g)
+      go false g = omega (arith, g)
 
-      go : (b : Bool) → oneAxis k ≡ b → (l * n + n ≤ 36708) × (n ≤ 12236)
-      go true o =
-          let f : n ≡ k .cells = rw o at e in
-          let m : suc l * n ≤ 6 * 6118 = mul-le-mul {n₂ = 6} {m₂ = 6118} (omega (arith, many true o, three (R .fits))) (omega (arith, f, R .fits .most)) in
-          (omega (arith, m, suc-mul l n), omega (arith, f, R .fits .most))
-      go false o =
-          let f : n ≡ 2 * k .cells = rw o at e in
-          let m : suc l * n ≤ 3 * 12236 = mul-le-mul {n₂ = 3} {m₂ = 12236} (omega (arith, many false o, three (R .fits))) (omega (arith, f, R .fits .most)) in
-          (omega (arith, m, suc-mul l n), omega (arith, f, R .fits .most))
+  -- a table for each digit
+  digits-are : k .count / s ≡ R .fits .streams
+  digits-are = go (oneAxis k) refl
+    where
+      go : (b : Bool) → oneAxis k ≡ b → k .count / s ≡ R .fits .streams
+      go true o = rw (f, o) (omega (arith, many true o))
+      go false o = rw (f, o) (omega (arith, many false o))
 
-  module _ {out : List ℕ} {l : ℕ} (T : Tabled (k .levels) n d out l) where
-    -- what making the next level's requires
-    pub next-room : l < k .count → l * n + n < length out
-    next-room h = omega (arith, places-low l h .0, T .long, R .room)
+  pub turns-low : (i : ℕ) → i < k .count / s → i < 3
+  turns-low i h = omega (arith, h, digits-are, three (R .fits))
 
-    pub level-places : l < k .count → LevelPlaces n (levelAt (k .levels) l) (take (l * n + n + 1 - l * n) (drop (l * n) out))
+  -- every table has a level, and its places have room
+  pub level-low : (i : ℕ) → i < k .count / s → s * i < k .count
+  level-low i h = go (oneAxis k) refl
+    where
+      go : (b : Bool) → oneAxis k ≡ b → s * i < k .count
+      go true o = rw (f, o) (omega (arith, h, digits-are, many true o))
+      go false o = rw (f, o) (omega (arith, h, digits-are, many false o))
+
+  pub places-low : (i : ℕ) → i < k .count / s → (i * n + n ≤ 36708) × (n ≤ 12236)
+  places-low i h = go (oneAxis k) refl
+    where
+      below : (m : ℕ) → n ≤ m → suc i * n ≤ 3 * m
+      below m g = mul-le-mul {n₂ = 3} {m₂ = m} (turns-low i h) g
+
+      go : (b : Bool) → oneAxis k ≡ b → (i * n + n ≤ 36708) × (n ≤ 12236)
+      go true o = let g : n ≡ k .cells = rw o at e in let m : n ≤ 12236 = omega (arith, g, R .fits .most) in (omega (arith, below 12236 m, suc-mul i n), m)
+      go false o = let g : n ≡ 2 * k .cells = rw o at e in let m : n ≤ 12236 = omega (arith, g, R .fits .most) in (omega (arith, below 12236 m, suc-mul i n), m)
+
+  -- a level's order is that of its digit
+  digit-low : (l : ℕ) → l < k .count → digitAt (oneAxis k) l < k .count / s
+  unfolding digitAt
+  digit-low l h = go (oneAxis k) refl
+    where
+      go : (b : Bool) → oneAxis k ≡ b → digitAt (oneAxis k) l < k .count / s
+      go true o = rw (digits-are, o) (omega (arith, h, many true o))
+      go false o = rw (digits-are, o) (omega (arith, h, many false o))
+
+  own-order : (l : ℕ) → l < k .count → {order : List ℕ} → length order ≡ n → LevelOrder (firstLevel (k .levels) s (digitAt (oneAxis k) l)) order
+      → LevelOrder (levelAt (k .levels) l) order
+  unfolding digitAt
+  own-order l h {order} g O = go (oneAxis k) refl (below-or (l % 2) 1)
+    where
+      go : (b : Bool) → oneAxis k ≡ b → (l % 2 < 1) ⊎ (1 ≤ l % 2) → LevelOrder (levelAt (k .levels) l) order
+      go false o z = let m : 1 * l ≡ l = omega arith in rw (f, o, m) at O
+      go true o (inl z) = let m : 2 * (l / 2) ≡ l = omega arith in rw (f, o, m) at O
+      go true o (inr z) =
+          let m : 2 * (l / 2) + 1 ≡ l = omega arith in
+          rw m at
+          (alike-ordered (rw e (fits-level (R .fits) (2 * (l / 2)) (omega arith))) (rw e (fits-level (R .fits) (2 * (l / 2) + 1) (omega arith)))
+          (pair-at (R .fits) o (l / 2) (omega arith)) g (rw (f, o) at O))
+
+  module _ {out : List ℕ} {i : ℕ} (T : Tabled (firstLevel (k .levels) s) n d out i) where
+    -- what making the next digit's requires
+    pub next-room : i < k .count / s → i * n + n < length out
+    next-room h = omega (arith, places-low i h .0, T .long, R .room)
+
+    pub level-places : i < k .count / s → LevelPlaces n (firstLevel (k .levels) s i) (take (i * n + n + 1 - i * n) (drop (i * n) out))
     level-places h =
         record {
-          fits = rw e (fits-level (R .fits) l h);
-          high = places-low l h .1;
+          fits = rw e (fits-level (R .fits) (s * i) (level-low i h));
+          high = places-low i h .1;
           room = rw (length-take, length-drop) (omega (arith, next-room h));
         }
 
     -- and when all are made they are the block's order
-    pub block-ordered : k .count ≤ l → BlockOrder k out
+    pub block-ordered : k .count / s ≤ i → BlockOrder k out
     block-ordered h =
         record {
-          each = λ j m s f.
-              let g : s ≡ n = f ∙ sym e in
-              rw g (omega (arith, places-low j m .0, T .long, R .room), T .done j (omega arith));
+          each = λ l m t g.
+              let q : t ≡ n = g ∙ sym e in
+              let j : ℕ = digitAt (oneAxis k) l in
+              let b : j < k .count / s = digit-low l m in
+              let r : j * n + n ≤ length out = omega (arith, places-low j b .0, T .long, R .room) in
+              rw q (r, own-order l m (rw (length-take, length-drop) (omega arith)) (T .done j (omega arith)));
         }

@@ -10,7 +10,7 @@ use native.Mathlib.Omega.{arith}
 use lib.ListN.{length, take, drop, length-take, length-drop}
 use Rattle.component.specs.Bits.{Bits}
 use Rattle.component.proofs.Bits.{bits-drop}
-use Rattle.multilevel.specs.Contracts.{codedOver, codedOverAt, CodesLevel, levelAt, bitsIn, bitsBefore, streamAt, Sums, LevelThere, CodesAt}
+use Rattle.multilevel.specs.Contracts.{codedOver, codedOverAt, CodesLevel, levelAt, bitsIn, bitsBefore, streamAt, Sums, digitAt, LevelThere, CodesAt}
 use Rattle.labels.specs.Contracts.{added}
 use Rattle.block.specs.declared.Level.{Level}
 use Rattle.block.specs.Levels.{stream}
@@ -35,6 +35,12 @@ before-next ls b i s e = rw (add-one, e)
 pub before-fits : {ls : List Level} {b : Bool} {l : ℕ} → Sums ls b l → (i : ℕ) → i < l → bitsBefore ls b i + bitsIn b (levelAt ls i) ≤ 65536
 before-fits {ls} {b} {l} S i h = omega (arith, before-next ls b i _ refl, before-mono ls b (i + 1) l (omega arith), S .fits)
 
+-- a level's digit is at most its number
+digit-le : (one : Bool) (l : ℕ) → digitAt one l ≤ l
+unfolding digitAt
+digit-le true l = omega arith
+digit-le false l = omega arith
+
 -- a level's bits in a part: n of them from d on
 module _ (v : List ℕ) (s n d : ℕ) (e : s ≡ d) where
   pub part-is : take (s + n - s) (drop s v) ≡ take n (drop d v)
@@ -46,10 +52,13 @@ module _ (v : List ℕ) (s n d : ℕ) (e : s ≡ d) where
   pub part-bits : Bits v → Bits (take (s + n - s) (drop s v))
   part-bits B = rw part-is (bits-take n (bits-drop d B))
 
-module _ {ls : List Level} {n : ℕ} {order a b : List ℕ} {l : ℕ} (L : LevelThere ls n order a b l) where
+module _ {one : Bool} {ls : List Level} {n : ℕ} {order a b : List ℕ} {l : ℕ} (L : LevelThere one ls n order a b l) where
   -- its order's place can be worked out
-  pub place-fits : l * n ≤ 5 * 12236
-  place-fits = mul-le-mul {n₂ = 5} {m₂ = 12236} (omega (arith, L .there)) (L .high)
+  pub place-fits : {d : ℕ} → d ≡ digitAt one l → d * n ≤ 5 * 12236
+  place-fits e = mul-le-mul {n₂ = 5} {m₂ = 12236} (omega (arith, L .there, e, digit-le one l)) (L .high)
+
+  pub place-room : {d : ℕ} → d ≡ digitAt one l → d * n + n ≤ length order
+  place-room e = rw e (L .room)
 
   -- the bits of the levels before it can be counted
   pub sums-a : Sums ls false l
@@ -67,13 +76,13 @@ module _ {ls : List Level} {n : ℕ} {order a b : List ℕ} {l : ℕ} (L : Level
   unfolding bitsBefore bitsIn
   ends-b er = rw er (L .withinB)
 
-module _ {ls : List Level} {l w : ℕ} {order a b coded labels : List ℕ} (C : CodesAt ls l w order a b coded labels)
+module _ {one : Bool} {ls : List Level} {l w : ℕ} {order a b coded labels : List ℕ} (C : CodesAt one ls l w order a b coded labels)
     {s r : ℕ} (es : s ≡ bitsBefore ls false l) (er : r ≡ bitsBefore ls true l) where
   -- what coding the level requires
-  pub codes-level : CodesLevel (levelAt ls l) w (take (l * length labels + length labels - l * length labels) (drop (l * length labels) order)) (take (s + levelAt ls l .bitsa - s) (drop s a)) (take (r + levelAt ls l .bitsb - r) (drop r b)) coded labels
-  codes-level =
+  pub codes-level : {d : ℕ} → d ≡ digitAt one l → CodesLevel (levelAt ls l) w (take (d * length labels + length labels - d * length labels) (drop (d * length labels) order)) (take (s + levelAt ls l .bitsa - s) (drop s a)) (take (r + levelAt ls l .bitsb - r) (drop r b)) coded labels
+  codes-level {d} ed =
       record {
-        ordered = rw (part-is order (l * length labels) (length labels) (l * length labels) refl) (C .level .ordered);
+        ordered = rw (part-is order (d * length labels) (length labels) (d * length labels) refl, ed) (C .level .ordered);
         fits = C .level .fits;
         longA = part-long a s (levelAt ls l .bitsa) s refl (ends-a (C .level) es);
         longB = part-long b r (levelAt ls l .bitsb) r refl (ends-b (C .level) er);

@@ -2,6 +2,7 @@
 use Prim.Native.Nat.{ℕ, suc, _+_, _*_, _-_, _^_, _≤_, _<_}
 use mathlib.Core.Path.{_≡_, sym, _∙_}
 use mathlib.Core.Logic.{_⊎_, inl, inr}
+use mathlib.Core.Bool.{Bool}
 use mathlib.Core.List.{List}
 use native.Mathlib.Nat.{mul-le-mul-left}
 use native.Mathlib.Omega.{arith}
@@ -28,27 +29,27 @@ unfolding streamAt
 stream-bits ls a b l = bits-stream (levelAt ls l) _ _
 
 -- the first of the levels, and the others
-first-there : {ls : List Level} {n : ℕ} {order a b : List ℕ} {s l m : ℕ} → LevelsThere ls n order a b s l m → 0 < m → LevelThere ls n order a b l
+first-there : {one : Bool} {ls : List Level} {n : ℕ} {order a b : List ℕ} {s l m : ℕ} → LevelsThere one ls n order a b s l m → 0 < m → LevelThere one ls n order a b l
 first-there none h = absurd (omega arith)
 first-there (more H R) h = H
 
-others-there : {ls : List Level} {n : ℕ} {order a b : List ℕ} {s l m : ℕ} → LevelsThere ls n order a b s l m → 0 < m → LevelsThere ls n order a b s (l + s) (m - 1)
+others-there : {one : Bool} {ls : List Level} {n : ℕ} {order a b : List ℕ} {s l m : ℕ} → LevelsThere one ls n order a b s l m → 0 < m → LevelsThere one ls n order a b s (l + s) (m - 1)
 others-there none h = absurd (omega arith)
 others-there (more {m = m} H R) h = let e : suc m - 1 ≡ m = omega arith in rw e R
 
 -- before the turn at level l, with m levels left: what is there plus the weight times what is left is the whole
-pub record Summing (ls : List Level) (order a b : List ℕ) (n first s count : ℕ) (labels : List ℕ) (l w m : ℕ) : Type 0 where
+pub record Summing (one : Bool) (ls : List Level) (order a b : List ℕ) (n first s count : ℕ) (labels : List ℕ) (l w m : ℕ) : Type 0 where
   pub long : length labels ≡ n
-  pub levels : LevelsThere ls n order a b s l m
+  pub levels : LevelsThere one ls n order a b s l m
   pub weight : w * 2 ^ m ≤ 8
   pub near : l + s * m ≤ first + s * count
   pub low : (j : ℕ) → getD labels j 0 < w
   pub whole : (j : ℕ) → j < n
       → getD labels j 0 + w * labelAt (stepped (streamAt ls a b) l s m) j ≡ labelAt (stepped (streamAt ls a b) first s count) j
 
-pub start : {ls : List Level} {order a b : List ℕ} {first s count : ℕ} {d labels : List ℕ} → CodesLevels ls first s count order a b d
-    → labels ≡ table (λ j. 0) 0 (length d) → {n : ℕ} → n ≡ length d → Summing ls order a b n first s count labels first 1 count
-start {ls} {order} {a} {b} {first} {s} {count} {d} {labels} C e {n} f =
+pub start : {one : Bool} {ls : List Level} {order a b : List ℕ} {first s count : ℕ} {d labels : List ℕ} → CodesLevels one ls first s count order a b d
+    → labels ≡ table (λ j. 0) 0 (length d) → {n : ℕ} → n ≡ length d → Summing one ls order a b n first s count labels first 1 count
+start {one} {ls} {order} {a} {b} {first} {s} {count} {d} {labels} C e {n} f =
     rw
     f
     (record {
@@ -64,17 +65,17 @@ start {ls} {order} {a} {b} {first} {s} {count} {d} {labels} C e {n} f =
     zero-at j (inl h) = rw e (getD-table 0 (λ j. 0) (length d) j h)
     zero-at j (inr h) = rw e (List·getD-eq-default (table (λ j. 0) 0 (length d)) 0 (rw length-table h))
 
-module _ {ls : List Level} {order a b : List ℕ} {n first s count : ℕ} {labels : List ℕ} {l w m : ℕ} (S : Summing ls order a b n first s count labels l w m) (h : 0 < m) where
+module _ {one : Bool} {ls : List Level} {order a b : List ℕ} {n first s count : ℕ} {labels : List ℕ} {l w m : ℕ} (S : Summing one ls order a b n first s count labels l w m) (h : 0 < m) where
   -- the weight is at most 4
   pub weight-low : w ≤ 4
   weight-low = let f : 2 ≤ 2 ^ m = pow-mono {i = 1} {j = m} h in omega (arith, S .weight, mul-le-mul-left w f)
 
   -- the next level can be counted
-  pub next-near : {d : List ℕ} → CodesLevels ls first s count order a b d → l + s ≤ 16
+  pub next-near : {d : List ℕ} → CodesLevels one ls first s count order a b d → l + s ≤ 16
   next-near C = omega (arith, S .near, mul-le-mul-left {m = 1} {n = m} s h, mul-le-mul-left {m = count} {n = 3} s (C .three), C .near .0, C .near .1)
 
   -- what coding the level requires
-  pub codes-at : {coded d : List ℕ} → CodesLevels ls first s count order a b d → length d ≡ n → length coded ≡ 12236 → CodesAt ls l w order a b coded labels
+  pub codes-at : {coded d : List ℕ} → CodesLevels one ls first s count order a b d → length d ≡ n → length coded ≡ 12236 → CodesAt one ls l w order a b coded labels
   codes-at C e f =
       record {
         level = rw (S .long) (first-there (S .levels) h);
@@ -85,7 +86,7 @@ module _ {ls : List Level} {order a b : List ℕ} {n first s count : ℕ} {label
       }
 
   -- and the turn
-  pub turn : {next : List ℕ} → next ≡ added w (streamAt ls a b l) labels → Summing ls order a b n first s count next (l + s) (2 * w) (m - 1)
+  pub turn : {next : List ℕ} → next ≡ added w (streamAt ls a b l) labels → Summing one ls order a b n first s count next (l + s) (2 * w) (m - 1)
   unfolding stepped labelAt
   turn {next} e =
       let f : m ≡ suc (m - 1) = omega arith in
@@ -105,9 +106,9 @@ module _ {ls : List Level} {order a b : List ℕ} {n first s count : ℕ} {label
       low-at j (inl k) = omega (arith, at j k, S .low j, weighed-le w (getD (streamAt ls a b l) j 0) (stream-bits ls a b l .bit j))
       low-at j (inr k) = omega (arith, List·getD-eq-default next 0 {n = j} (rw (e, added-length, S .long) k), S .low j)
 
-pub done : {ls : List Level} {order a b : List ℕ} {k n first s count : ℕ} {labels : List ℕ} {l w m : ℕ} → Summing ls order a b n first s count labels l w m → m ≤ 0 → n ≡ k
+pub done : {one : Bool} {ls : List Level} {order a b : List ℕ} {k n first s count : ℕ} {labels : List ℕ} {l w m : ℕ} → Summing one ls order a b n first s count labels l w m → m ≤ 0 → n ≡ k
     → labels ≡ table (labelAt (stepped (streamAt ls a b) first s count)) 0 k
 unfolding stepped labelAt
-done {ls} {order} {a} {b} {k} {n} {first} {s} {count} {labels} {l} {w} {m} S h g =
+done {one} {ls} {order} {a} {b} {k} {n} {first} {s} {count} {labels} {l} {w} {m} S h g =
     let f : m ≡ 0 = omega arith in
     rw (← g) (sym (table-is _ 0 n labels (S .long) (λ j k. sym (omega (arith, rw f at (S .whole j k))))))

@@ -20,7 +20,7 @@ use Rattle.block.specs.declared.Block.{Block}
 use Rattle.block.specs.Levels.{totalA, totalB, streams}
 use Rattle.block.specs.Mapping.{constellation, labelAt}
 use Rattle.block.specs.Block.{levelsOf, pointsOf, oneAxis, bitCount}
-use Rattle.block.specs.Fits.{Labels, LevelFits, LevelsFit, none, more, BlockFits}
+use Rattle.block.specs.Fits.{Labels, LevelFits, LevelsFit, none, more, Alike, BlockFits}
 use Rattle.block.proofs.Lists.{bits-take}
 use Rattle.block.proofs.Levels.{bits-stream, length-stream}
 use Rattle.block.proofs.Mapping.{levelCount, constellation-labels}
@@ -127,6 +127,13 @@ module _ {k : Block} (F : BlockFits k) where
   unfolding levelsOf levelAt
   fits-level l h = rw (getD-take (k .count) (k .levels) l pastLevels h) at (fits-at (F .fit) pastLevels l (rw count-is h))
 
+  -- those of a pair are interleaved alike
+  pub pair-at : oneAxis k ≡ true → (i : ℕ) → 2 * i + 1 < k .count → Alike (levelAt (k .levels) (2 * i)) (levelAt (k .levels) (2 * i + 1))
+  unfolding levelsOf levelAt
+  pair-at o i h =
+      rw (getD-take (k .count) (k .levels) (2 * i) pastLevels (omega arith), getD-take (k .count) (k .levels) (2 * i + 1) pastLevels h) at
+      (F .pairs o .alike pastLevels i (rw count-is h))
+
   module _ {a b : List ℕ} (P : PartsOf k a b) {n : ℕ} (e : n ≡ cond (oneAxis k) (k .cells) (2 * k .cells)) (high : n ≤ 12236) where
     -- its bits stand in those of parts A and B
     within-A : (l : ℕ) → l < k .count → bitsBefore (k .levels) false (suc l) ≤ length a
@@ -136,7 +143,7 @@ module _ {k : Block} (F : BlockFits k) where
     within-B l h = omega (arith, P .longB, before-mono (k .levels) true (suc l) (k .count) h)
 
     module _ {order : List ℕ} (O : BlockOrder k order) where
-      there : (l : ℕ) → l < k .count → LevelThere (k .levels) n order a b l
+      there : (l : ℕ) → l < k .count → LevelThere (oneAxis k) (k .levels) n order a b l
       there l h =
           record {
             room = O .each l h n e .0;
@@ -150,7 +157,7 @@ module _ {k : Block} (F : BlockFits k) where
           }
 
       -- and so do those of every s-th level
-      all-there : (s l m : ℕ) → 0 < s → l + s * m < k .count + s → LevelsThere (k .levels) n order a b s l m
+      all-there : (s l m : ℕ) → 0 < s → l + s * m < k .count + s → LevelsThere (oneAxis k) (k .levels) n order a b s l m
       all-there s l zero p h = none
       all-there s l (suc m) p h =
           let f : s * suc m ≡ s + s * m = mul-suc s m ∙ omega arith in
@@ -159,7 +166,7 @@ module _ {k : Block} (F : BlockFits k) where
     module _ (A : Bits a) (B : Bits b) where
       -- what coding them requires
       pub codes-levels : {order labels : List ℕ} → BlockOrder k order → (s l m : ℕ) → 0 < s → s ≤ 2 → l ≤ 1 → m ≤ 3 → l + s * m < k .count + s → length labels ≡ n
-          → CodesLevels (k .levels) l s m order a b labels
+          → CodesLevels (oneAxis k) (k .levels) l s m order a b labels
       codes-levels O s l m p s2 l1 m3 h g =
           record {
             levels = rw g (all-there O s l m p h);

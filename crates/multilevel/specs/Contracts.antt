@@ -58,15 +58,19 @@ pub record Sums (ls : List Level) (b : Bool) (l : ℕ) : Type 0 where
   pub there : l ≤ 6
   pub fits : bitsBefore ls b l ≤ 65536
 
+-- The digit of level l in the labels: where each level has one axis only, levels 2 i and 2 i + 1 have digit i.
+unfoldable pub digitAt : Bool → ℕ → ℕ
+digitAt one l = cond one (l / 2) l
+
 -- The order of a level's coded bits: the places of part A's, and then of part B's.
 pub record LevelOrder (l : Level) (order : List ℕ) : Type 0 where
   pub front : Ordered (l .t) (sizeA l) (take (sizeA l) order)
   pub rest : Ordered (l .t) (sizeB l) (drop (sizeA l) order)
 
--- Level l with n coded bits, whose bits stand in those of parts A and B, and its order in that of all levels.
-pub record LevelThere (ls : List Level) (n : ℕ) (order a b : List ℕ) (l : ℕ) : Type 0 where
-  pub room : l * n + n ≤ length order
-  pub ordered : LevelOrder (levelAt ls l) (take n (drop (l * n) order))
+-- Level l with n coded bits, whose bits stand in those of parts A and B, and its order in that of all digits.
+pub record LevelThere (one : Bool) (ls : List Level) (n : ℕ) (order a b : List ℕ) (l : ℕ) : Type 0 where
+  pub room : digitAt one l * n + n ≤ length order
+  pub ordered : LevelOrder (levelAt ls l) (take n (drop (digitAt one l * n) order))
   pub there : l < 6
   pub fits : LevelFits n (levelAt ls l)
   pub withinA : bitsBefore ls false (suc l) ≤ length a
@@ -75,31 +79,32 @@ pub record LevelThere (ls : List Level) (n : ℕ) (order a b : List ℕ) (l : �
   pub high : n ≤ 12236
 
 -- What coding level l requires: bits, room for its coded bits, and labels that they can be added to.
-pub record CodesAt (ls : List Level) (l weight : ℕ) (order a b coded labels : List ℕ) : Type 0 where
-  pub level : LevelThere ls (length labels) order a b l
+pub record CodesAt (one : Bool) (ls : List Level) (l weight : ℕ) (order a b coded labels : List ℕ) : Type 0 where
+  pub level : LevelThere one ls (length labels) order a b l
   pub inputA : Bits a
   pub inputB : Bits b
   pub buffer : length labels ≤ length coded
   pub sums : (k : ℕ) → getD labels k 0 + weight < 256
 
 -- So many levels from level l on, every s-th.
-pub data LevelsThere (ls : List Level) (n : ℕ) (order a b : List ℕ) (s : ℕ) : ℕ → ℕ → Type 0 where
-  none : {l : ℕ} → LevelsThere ls n order a b s l 0
-  more : {l m : ℕ} → LevelThere ls n order a b l → LevelsThere ls n order a b s (l + s) m → LevelsThere ls n order a b s l (suc m)
+pub data LevelsThere (one : Bool) (ls : List Level) (n : ℕ) (order a b : List ℕ) (s : ℕ) : ℕ → ℕ → Type 0 where
+  none : {l : ℕ} → LevelsThere one ls n order a b s l 0
+  more : {l m : ℕ} → LevelThere one ls n order a b l → LevelsThere one ls n order a b s (l + s) m → LevelsThere one ls n order a b s l (suc m)
 
 -- What coding at most three levels into labels requires.
-pub record CodesLevels (ls : List Level) (first step many : ℕ) (order a b labels : List ℕ) : Type 0 where
-  pub levels : LevelsThere ls (length labels) order a b step first many
+pub record CodesLevels (one : Bool) (ls : List Level) (first step many : ℕ) (order a b labels : List ℕ) : Type 0 where
+  pub levels : LevelsThere one ls (length labels) order a b step first many
   pub three : many ≤ 3
   pub near : (first ≤ 2) × (step ≤ 2)
   pub inputA : Bits a
   pub inputB : Bits b
   pub high : length labels ≤ 12236
 
--- The order of a block's coded bits: those of its levels one after the other.
+-- The order of a block's coded bits: for each digit that of its levels, one after the other.
 pub record BlockOrder (k : Block) (order : List ℕ) : Type 0 where
   pub each : (l : ℕ) → l < k .count → (n : ℕ) → n ≡ cond (oneAxis k) (k .cells) (2 * k .cells)
-      → (l * n + n ≤ length order) × LevelOrder (levelAt (k .levels) l) (take n (drop (l * n) order))
+      → (digitAt (oneAxis k) l * n + n ≤ length order)
+      × LevelOrder (levelAt (k .levels) l) (take n (drop (digitAt (oneAxis k) l * n) order))
 
 -- The bits of all levels in parts A and B.
 pub record PartsOf (k : Block) (a b : List ℕ) : Type 0 where
@@ -204,8 +209,8 @@ pub record LevelRead (l : Level) (y a b : List ℕ) : Type 0 where
   pub partB : b ≡ inputB l y
 
 -- What reading level l requires: its bits have places in those of parts A and B.
-pub record ReadsAt (ls : List Level) (l weight : ℕ) (order labels coded a b : List ℕ) : Type 0 where
-  pub level : LevelThere ls (length labels) order a b l
+pub record ReadsAt (one : Bool) (ls : List Level) (l weight : ℕ) (order labels coded a b : List ℕ) : Type 0 where
+  pub level : LevelThere one ls (length labels) order a b l
   pub buffer : length labels ≤ length coded
   pub weighs : Weight weight
 
@@ -213,10 +218,6 @@ pub record ReadsAt (ls : List Level) (l weight : ℕ) (order labels coded a b : 
 pub record ReadAt (ls : List Level) (l : ℕ) (y a b a' b' : List ℕ) : Type 0 where
   pub partA : a' ≡ sets a (bitsBefore ls false l) (inputA (levelAt ls l) y)
   pub partB : b' ≡ sets b (bitsBefore ls true l) (inputB (levelAt ls l) y)
-
--- The digit of level l in the labels: where each level has one axis only, levels 2 i and 2 i + 1 have digit i.
-unfoldable pub digitAt : Bool → ℕ → ℕ
-digitAt one l = cond one (l / 2) l
 
 -- The labels of one axis, a number a cell: axis 0 is the real, axis 1 the imaginary one.
 unfoldable pub axisLabels : ℕ → List ℕ → List ℕ
@@ -230,7 +231,8 @@ pub record TakesAxis (a : ℕ) (labels out : List ℕ) : Type 0 where
 -- What reading a block's levels from the labels requires: every level fits and has a weight of at most 4, and the buffers fit.
 pub record ReadsLevels (k : Block) (order labels a b : List ℕ) : Type 0 where
   pub ordered : (l : ℕ) → l < k .count → (n : ℕ) → n ≡ cond (oneAxis k) (length labels / 2) (length labels)
-      → (l * n + n ≤ length order) × LevelOrder (levelAt (k .levels) l) (take n (drop (l * n) order))
+      → (digitAt (oneAxis k) l * n + n ≤ length order)
+      × LevelOrder (levelAt (k .levels) l) (take n (drop (digitAt (oneAxis k) l * n) order))
   pub few : k .count ≤ 6
   pub room : k .count ≤ length (k .levels)
   pub fits : (l : ℕ) → l < k .count → LevelFits (cond (oneAxis k) (length labels / 2) (length labels)) (levelAt (k .levels) l)

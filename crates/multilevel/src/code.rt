@@ -1,5 +1,6 @@
 // The levels of a block coded, interleaved and added up as labels. 01 "Partition" to "Bit interleaving".
 use crate::places::bits_before;
+use crate::places::digit;
 use block::Block;
 use block::Level;
 use block::buffers::cell_buffer;
@@ -15,6 +16,7 @@ ghost use Rattle.lists.specs.Lists.{table};
 ghost use Rattle.multilevel.specs.Contracts.{streamAt, codedOver, codedOverAt, stepped, CodesAt, CodesLevels, codedWithTail, CodesA, CodedA, EncodesB, CodesB, CodesLevel};
 ghost use Rattle.labels.specs.Contracts.{added};
 ghost use Rattle.block.specs.Levels.{mixed, stream};
+ghost use Rattle.block.specs.Block.{oneAxis};
 ghost use Rattle.block.specs.Mapping.{labelAt};
 
 // Part A coded and added to the first of the labels.
@@ -106,7 +108,7 @@ fn code_at(
     coded: &mut [u8],
     labels: &mut [u8],
 )
-    requires { ⌜ CodesAt (k .levels) l weight (now places) (now a) (now b) (now coded) (now labels) ⌝ }
+    requires { ⌜ CodesAt (oneAxis k) (k .levels) l weight (now places) (now a) (now b) (now coded) (now labels) ⌝ }
     ensures { λ r. ⌜ now (labels .exit) ≡ added weight (streamAt (k .levels) (now (a .entry)) (now (b .entry)) l) (now (labels .entry)) ⌝ }
     ensures { λ r. ⌜ now (coded .exit) ≡ codedOverAt (k .levels) (now (a .entry)) (now (b .entry)) l (now (coded .entry)) ⌝ }
 {
@@ -117,10 +119,11 @@ fn code_at(
     let from = bits_before(k, true, l);
     let to = from + level.bitsb;
     let n = labels.len();
+    let d = digit(k, l);
     code_level(
         level,
         weight,
-        &places[l * n..l * n + n],
+        &places[d * n..d * n + n],
         &a[at..end],
         &b[from..to],
         coded,
@@ -149,7 +152,7 @@ pub fn code_levels(
     b: &[u8],
     labels: &mut [u8],
 )
-    requires { ⌜ CodesLevels (k .levels) first step many (now places) (now a) (now b) (now labels) ⌝ }
+    requires { ⌜ CodesLevels (oneAxis k) (k .levels) first step many (now places) (now a) (now b) (now labels) ⌝ }
     ensures { λ r. ⌜ now (labels .exit) ≡ table (labelAt (stepped (streamAt (k .levels) (now (a .entry))
         (now (b .entry))) first step many)) 0 (length (now (labels .entry))) ⌝ }
 {

@@ -1,5 +1,6 @@
 // The levels of a block read from labels: their bits taken out, put back to their places and decoded. 01 "Operations".
 use crate::places::bits_before;
+use crate::places::digit;
 use block::Block;
 use block::HMMIX;
 use block::Level;
@@ -88,7 +89,7 @@ fn read_at(
     a: &mut [u8],
     b: &mut [u8],
 )
-    requires { ⌜ ReadsAt (k .levels) l weight (now places) (now labels) (now coded) (now a) (now b) ⌝ }
+    requires { ⌜ ReadsAt (oneAxis k) (k .levels) l weight (now places) (now labels) (now coded) (now a) (now b) ⌝ }
     ensures { λ r. ⌜ ReadAt (k .levels) l (taken weight (now (labels .entry))) (now (a .entry)) (now (b .entry)) (now (a .exit)) (now (b .exit)) ⌝ }
     ensures { λ r. ⌜ now (coded .exit) ≡ takenOver (levelAt (k .levels) l) (taken weight (now (labels .entry))) (now (coded .entry)) ⌝ }
 {
@@ -99,10 +100,11 @@ fn read_at(
     let from = bits_before(k, true, l);
     let to = from + level.bitsb;
     let n = labels.len();
+    let d = digit(k, l);
     read_level(
         level,
         weight,
-        &places[l * n..l * n + n],
+        &places[d * n..d * n + n],
         labels,
         coded,
         &mut a[at..end],

@@ -1,4 +1,5 @@
-// The places of a block's coded bits: for each level a table of part A's places and then of part B's, the levels' tables one after the other.
+// The places of a block's coded bits: for each digit of the labels a table of part A's places and then of part B's, the digits' tables one after the
+// other. In HMmix the two levels of a digit are interleaved alike at every setting, and so they have one table.
 use block::Block;
 use block::HMMIX;
 use block::Level;
@@ -61,17 +62,28 @@ fn level_bits(k: Block) -> usize
     2 * k.cells
 }
 
-// The places of all levels.
+// How many levels have the same places: in HMmix two, one of each axis.
+fn sharing(k: Block) -> usize
+    ensures { λ r. ⌜ r ≡ cond (oneAxis k) 2 1 ⌝ }
+{
+    if k.constellation == HMMIX {
+        return 2;
+    }
+    1
+}
+
+// The places of all levels, a table for each digit of the labels.
 pub fn block_places(k: Block, out: &mut [u16])
     requires { ⌜ BlockPlaces k (now out) ⌝ }
     ensures { λ r. ⌜ BlockOrder k (now (out .exit)) ⌝ }
 {
     let levels = k.levels;
     let n = level_bits(k);
-    let count = k.count;
-    let mut l = 0;
-    while l < count {
-        level_places(levels[l], n, &mut out[l * n..l * n + n + 1]);
-        l += 1;
+    let step = sharing(k);
+    let count = k.count / step;
+    let mut i = 0;
+    while i < count {
+        level_places(levels[step * i], n, &mut out[i * n..i * n + n + 1]);
+        i += 1;
     }
 }

@@ -2,7 +2,7 @@
 use native.Mathlib.Omega.{arith}
 use borrow.Author.Needs.{needs}
 use Rattle.multilevel.specs.Contracts.{levelAt}
-use Rattle.multilevel.proofs.Partition.{place-fits, sums-a, sums-b, ends-a, ends-b, codes-level, coded-is, over-at}
+use Rattle.multilevel.proofs.Partition.{place-fits, place-room, sums-a, sums-b, ends-a, ends-b, codes-level, coded-is, over-at}
 use Rattle.multilevel.proofs.code.code_at.Statement.{statement}
 use Rattle.multilevel.proofs.code.code_at.Tie as tie
 
@@ -21,35 +21,35 @@ unfolding levelAt
 add-to c = let L = c .before .before .before .before .before .before .before .before .before .before .before .pre .level in omega (arith, ends-b L (c .before .bits-before2 .ensures), L .short .1)
 
 mul-code-level : tie.Need-mul-code-level
-mul-code-level c = omega (arith, place-fits (c .before .before .before .before .before .before .before .before .before .before .before .pre .level))
+mul-code-level c = omega (arith, place-fits (c .before .before .before .before .before .before .before .before .before .before .before .before .pre .level) (c .digit .ensures))
 
 mul-code-level-2 : tie.Need-mul-code-level-2
-mul-code-level-2 c = omega (arith, place-fits (c .before .before .before .before .before .before .before .before .before .before .before .pre .level))
+mul-code-level-2 c = omega (arith, place-fits (c .before .before .before .before .before .before .before .before .before .before .before .before .pre .level) (c .digit .ensures))
 
 mul-code-level-3 : tie.Need-mul-code-level-3
-mul-code-level-3 c = omega (arith, place-fits (c .before .before .before .before .before .before .before .before .before .before .before .pre .level))
+mul-code-level-3 c = omega (arith, place-fits (c .before .before .before .before .before .before .before .before .before .before .before .before .pre .level) (c .digit .ensures))
 
 add-code-level : tie.Need-add-code-level
-add-code-level c = omega (arith, place-fits (c .before .before .before .before .before .before .before .before .before .before .before .pre .level), c .before .before .before .before .before .before .before .before .before .before .before .pre .level .high)
+add-code-level c = omega (arith, place-fits (c .before .before .before .before .before .before .before .before .before .before .before .before .pre .level) (c .digit .ensures), c .before .before .before .before .before .before .before .before .before .before .before .before .pre .level .high)
 
 part-code-level-end : tie.Need-part-code-level-end
-part-code-level-end c = c .before .before .before .before .before .before .before .before .before .before .before .pre .level .room
+part-code-level-end c = place-room (c .before .before .before .before .before .before .before .before .before .before .before .before .pre .level) (c .digit .ensures)
 
 part-code-level-end-2 : tie.Need-part-code-level-end-2
 unfolding levelAt
-part-code-level-end-2 c = ends-a (c .before .before .before .before .before .before .before .before .before .before .before .before .pre .level) (c .before .before .before .before .bits-before .ensures)
+part-code-level-end-2 c = ends-a (c .before .before .before .before .before .before .before .before .before .before .before .before .before .pre .level) (c .before .before .before .before .before .bits-before .ensures)
 
 part-code-level-end-3 : tie.Need-part-code-level-end-3
 unfolding levelAt
-part-code-level-end-3 c = ends-b (c .before .before .before .before .before .before .before .before .before .before .before .before .before .pre .level) (c .before .before .before .bits-before2 .ensures)
+part-code-level-end-3 c = ends-b (c .before .before .before .before .before .before .before .before .before .before .before .before .before .before .pre .level) (c .before .before .before .before .bits-before2 .ensures)
 
 code-level-requires : tie.Need-code-level-requires
 unfolding levelAt
-code-level-requires c κs = codes-level (c .before .before .before .before .before .before .before .before .before .before .before .before .before .before .before .before .pre) (c .before .before .before .before .before .before .before .before .bits-before .ensures) (c .before .before .before .before .before .before .bits-before2 .ensures)
+code-level-requires c κs = codes-level (c .before .before .before .before .before .before .before .before .before .before .before .before .before .before .before .before .before .pre) (c .before .before .before .before .before .before .before .before .before .bits-before .ensures) (c .before .before .before .before .before .before .before .bits-before2 .ensures) (c .before .before .before .before .before .digit .ensures)
 
 returns : tie.Need-returns
 unfolding levelAt
-returns c = (coded-is (c .before .before .before .before .before .before .before .before .before .before .before .before .before .before .before .before .before .before .before .before .before .pre) (c .before .before .before .before .before .before .before .before .before .before .before .before .before .bits-before .ensures) (c .before .before .before .before .before .before .before .before .before .before .before .bits-before2 .ensures) (c .before .before .before .before .code-level .ensures .0), over-at (c .before .before .before .before .before .before .before .before .before .before .before .before .before .before .before .before .before .before .before .before .before .pre) (c .before .before .before .before .before .before .before .before .before .before .before .before .before .bits-before .ensures) (c .before .before .before .before .before .before .before .before .before .before .before .bits-before2 .ensures) (c .before .before .before .before .code-level .ensures .1))
+returns c = (coded-is (c .before .before .before .before .before .before .before .before .before .before .before .before .before .before .before .before .before .before .before .before .before .before .pre) (c .before .before .before .before .before .before .before .before .before .before .before .before .before .before .bits-before .ensures) (c .before .before .before .before .before .before .before .before .before .before .before .before .bits-before2 .ensures) (c .before .before .before .before .code-level .ensures .0), over-at (c .before .before .before .before .before .before .before .before .before .before .before .before .before .before .before .before .before .before .before .before .before .before .pre) (c .before .before .before .before .before .before .before .before .before .before .before .before .before .before .bits-before .ensures) (c .before .before .before .before .before .before .before .before .before .before .before .before .bits-before2 .ensures) (c .before .before .before .before .code-level .ensures .1))
 
 pub code-at-spec : {M : Type 1} → statement M
-code-at-spec = tie.close (tie.spec (λ c. search needs) (λ c. search needs) bits-before-requires add-end bits-before-requires-2 add-to mul-code-level mul-code-level-2 add-code-level mul-code-level-3 (λ c. search needs) (λ c. search needs) part-code-level-end (λ c. search needs) (λ c. search needs) part-code-level-end-2 (λ c. search needs) (λ c. search needs) part-code-level-end-3 code-level-requires (λ c. search needs) (λ c. search needs) returns)
+code-at-spec = tie.close (tie.spec (λ c. search needs) (λ c. search needs) bits-before-requires add-end bits-before-requires-2 add-to (λ c κs. search needs) mul-code-level mul-code-level-2 add-code-level mul-code-level-3 (λ c. search needs) (λ c. search needs) part-code-level-end (λ c. search needs) (λ c. search needs) part-code-level-end-2 (λ c. search needs) (λ c. search needs) part-code-level-end-3 code-level-requires (λ c. search needs) (λ c. search needs) returns)

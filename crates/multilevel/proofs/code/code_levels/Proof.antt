@@ -3,13 +3,14 @@ use mathlib.Core.Path.{_≡_, sym, _∙_}
 use native.Mathlib.Omega.{arith}
 use borrow.Author.Needs.{needs}
 use lib.ListN.{length}
+use Rattle.block.specs.Block.{oneAxis}
 use Rattle.multilevel.proofs.Summing.{Summing, start, weight-low, next-near, codes-at, turn, done}
 use Rattle.multilevel.proofs.code.code_levels.Statement.{statement}
 use Rattle.multilevel.proofs.code.code_levels.Tie as tie
 
 abbrev Inv-loop : tie.InvT-loop
 Inv-loop k first step many places a b labels₀ coded₀ l₀ weight₀ left₀ labels coded l weight left =
-    Summing (k .levels) places a b (length labels₀) first step many labels l weight left × (length coded ≡ 12236)
+    Summing (oneAxis k) (k .levels) places a b (length labels₀) first step many labels l weight left × (length coded ≡ 12236)
 
 abbrev μ-loop : tie.MeasureT-loop
 μ-loop k first step many places a b labels₀ coded₀ l₀ weight₀ left₀ labels coded l weight left = left
