@@ -1,6 +1,7 @@
 -- The calls of Code and Read that a job makes of its buffers.
 use Prim.Native.Nat.{ℕ, zero, suc, _+_, _-_, _*_, _/_, _≤_}
 use mathlib.Core.Path.{_≡_, refl, sym, ap, ap₂, _∙_}
+use mathlib.Core.Bool.{Bool, true, false}
 use mathlib.Core.List.{List, _∷_}
 use native.Mathlib.Nat.{sub-zero, zero-add}
 use native.Mathlib.Omega.{arith}
@@ -30,8 +31,8 @@ use Rattle.cellmemory.proofs.Laid.{take-sets}
 use Rattle.console.specs.declared.Job.{Job}
 use Rattle.console.specs.declared.Job.the-variants.{Code, Read, ReadOn, Grid, Ungrid}
 use Rattle.deskcells.specs.Cells.{bytesCells}
-use Rattle.jobs.specs.Contracts.{Enough, CodeRoom, ReadRoom, GridRoom, Lent, Numbers}
-use Rattle.jobs.specs.SuperFrame.{JobYield, refused, gridLength, inputLength, outputLength, blocksLength, cellsLength, jobRefusal, jobOf, codeLent, codeWritten, readLent, readAnswered, readOnLent, readOnAnswered, cellsIn, blankCells, gridWritten, cellsWritten, jobCall}
+use Rattle.jobs.specs.Contracts.{Enough, CodeRoom, ReadRoom, GridRoom, Lent, Numbers, readJob, lostOf, mscStart, readAt, readBy}
+use Rattle.jobs.specs.SuperFrame.{JobYield, refused, facCellsLength, gridLength, inputLength, outputLength, blocksLength, cellsLength, jobRefusal, jobOf, codeLent, codeWritten, readLent, readAnswered, readOnLent, readOnAnswered, cellsIn, blankCells, gridWritten, cellsWritten, jobCall}
 use Rattle.deskcells.proofs.Turns.{bytes-cells-long}
 use Rattle.jobs.proofs.Rooms.{enough}
 use Rattle.jobs.proofs.Lengths.{grid-most, length-most, input-most}
@@ -82,22 +83,48 @@ pub code-called : (state : State) (z : Sizes) (memory : List ℕ) (bytes out : L
 unfolding jobCall
 code-called state z memory bytes out c y e f h = h ∙ ap (λ c. codeWritten (codeOf state memory c) out) (f ∙ ap (λ z. codeLent z bytes) e)
 
-pub read-call : (z : Sizes) (cells : List ℤ) (fac sdc msc : List ℕ) → Enough z → fac ≡ replicate 27 0 → sdc ≡ replicate 210 0 → msc ≡ replicate 13767 0
+read-call : (z : Sizes) (cells : List ℤ) (fac sdc msc : List ℕ) → Enough z → fac ≡ replicate 27 0 → sdc ≡ replicate 210 0 → msc ≡ replicate 13767 0
     → readCall (take 390 cells) (take (390 + z .sdcnumbers - 390) (drop 390 cells)) (drop (390 + z .sdcnumbers) cells) fac (take (z .sdcbytes - 0) sdc) (take (z .mscbytes - 0) msc)
     ≡ readLent z cells
 unfolding readLent
 read-call z cells fac sdc msc h ef es em =
     rw (past 390 (z .sdcnumbers), ef, front-blank 0 (z .sdcbytes) 210 sdc es (h .sdcbytes), front-blank 0 (z .mscbytes) 13767 msc em (h .mscbytes))
 
-pub read-called : (state : State) (z : Sizes) (memory : List ℕ) (cells : List ℤ) (bytes out : List ℕ) (c : ReadCall) (y : JobYield) → z ≡ sizesOf (state .scheme .settings) → cells ≡ bytesCells bytes
+read-called : (state : State) (z : Sizes) (memory : List ℕ) (cells : List ℤ) (bytes out : List ℕ) (c : ReadCall) (y : JobYield) → z ≡ sizesOf (state .scheme .settings) → cells ≡ bytesCells bytes
     → c ≡ readLent z cells → y ≡ readAnswered (readOf state memory c) out → y ≡ jobCall Read state memory bytes out
 unfolding jobCall
 read-called state z memory cells bytes out c y e f g h = h ∙ rw (g, f, e)
 
-pub read-on-called : (state : State) (z : Sizes) (memory : List ℕ) (cells : List ℤ) (bytes out : List ℕ) (c : ReadCall) (y : JobYield) → z ≡ sizesOf (state .scheme .settings) → cells ≡ bytesCells bytes
+read-on-called : (state : State) (z : Sizes) (memory : List ℕ) (cells : List ℤ) (bytes out : List ℕ) (c : ReadCall) (y : JobYield) → z ≡ sizesOf (state .scheme .settings) → cells ≡ bytesCells bytes
     → c ≡ readLent z cells → y ≡ readOnAnswered (readOnOf state memory (record { call = c; lost = replicate 7 0 })) out → y ≡ jobCall ReadOn state memory bytes out
 unfolding jobCall readOnLent
 read-on-called state z memory cells bytes out c y e f g h = h ∙ rw (g, f, e)
+
+-- The same for either job that reads.
+pub either-called : (on : Bool) (state : State) (z : Sizes) (memory : List ℕ) (cells : List ℤ) (bytes out : List ℕ) (fac sdc msc : List ℕ) (y : JobYield)
+    → z ≡ sizesOf (state .scheme .settings) → cells ≡ bytesCells bytes → Enough z → fac ≡ replicate 27 0 → sdc ≡ replicate 210 0 → msc ≡ replicate 13767 0
+    → y ≡ readBy on state memory (readAt (mscStart state) cells fac (take (z .sdcbytes - 0) sdc) (take (z .mscbytes - 0) msc)) out
+    → y ≡ jobCall (readJob on) state memory bytes out
+either-called on state z memory cells bytes out fac sdc msc y e f h ef es em g = go on g
+  where
+    call : readAt (mscStart state) cells fac (take (z .sdcbytes - 0) sdc) (take (z .mscbytes - 0) msc) ≡ readLent z cells
+    call =
+        ap (λ (w : Sizes). readAt (facCellsLength + w .sdcnumbers) cells fac (take (z .sdcbytes - 0) sdc) (take (z .mscbytes - 0) msc)) (sym e)
+        ∙ read-call z cells fac sdc msc h ef es em
+
+    go : (on : Bool) → y ≡ readBy on state memory (readAt (mscStart state) cells fac (take (z .sdcbytes - 0) sdc) (take (z .mscbytes - 0) msc)) out
+        → y ≡ jobCall (readJob on) state memory bytes out
+    go true g = read-on-called state z memory cells bytes out _ y e f call g
+    go false g = read-called state z memory cells bytes out _ y e f call g
+
+-- One of them, by a place that the sizes give.
+module _ (on b : Bool) (z : Sizes) (state : State) (memory : List ℕ) (cells : List ℤ) (fac sdc msc out : List ℕ) (e : on ≡ b) (f : z ≡ sizesOf (state .scheme .settings)) where
+  pub either-room : ReadRoom (lostOf on) (mscStart state) cells fac sdc msc out → ReadRoom (lostOf b) (facCellsLength + z .sdcnumbers) cells fac sdc msc out
+  either-room w = rw (f, ← e) w
+
+  pub either-answers : (y : JobYield) → y ≡ readBy b state memory (readAt (facCellsLength + z .sdcnumbers) cells fac sdc msc) out
+      → y ≡ readBy on state memory (readAt (mscStart state) cells fac sdc msc) out
+  either-answers y g = rw (e, ← f) g
 
 pub place-called : (state : State) (z : Sizes) (memory : List ℕ) (cells grid : List ℤ) (bytes out : List ℕ) (n : ℕ) (y : JobYield) → z ≡ sizesOf (state .scheme .settings) → cells ≡ bytesCells bytes
     → grid ≡ replicate 62235 (pos 0) → n ≡ gridSizes (state .scheme .settings) .numbers
@@ -141,24 +168,28 @@ pub record Reads (job : Job) (lost : ℕ) : Type 0 where
   pub input : (z : Sizes) (g : ℕ) → inputLength job z g ≡ cellsLength z
   pub output : (z : Sizes) (g : ℕ) → outputLength job z g ≡ lost + (blocksLength z + 1)
 
-pub reads : Reads Read 0
+reads : Reads Read 0
 unfolding inputLength outputLength
 reads = record { input = λ z g. refl; output = λ z g. sym (zero-add (blocksLength z + 1)) }
 
-pub reads-on : Reads ReadOn 7
+reads-on : Reads ReadOn 7
 unfolding inputLength outputLength
 reads-on = record { input = λ z g. refl; output = λ z g. refl }
 
+pub reads-either : (on : Bool) → Reads (readJob on) (lostOf on)
+reads-either true = reads-on
+reads-either false = reads
+
 pub read-room : {job : Job} {lost : ℕ} → Reads job lost → (state : State) (z : Sizes) (bytes : List ℕ) (cells : List ℤ) (out fac sdc msc : List ℕ) → Lent job state z bytes out → cells ≡ bytesCells bytes
     → fac ≡ replicate 27 0 → sdc ≡ replicate 210 0 → msc ≡ replicate 13767 0
-    → ReadRoom lost (390 + z .sdcnumbers) cells fac (take (z .sdcbytes - 0) sdc) (take (z .mscbytes - 0) msc) out
+    → ReadRoom lost (mscStart state) cells fac (take (z .sdcbytes - 0) sdc) (take (z .mscbytes - 0) msc) out
 unfolding blocksLength cellsLength
 read-room {job} {lost} j state z bytes cells out fac sdc msc p e ef es em =
     let h = enough (state .scheme .settings) z (p .sizes) (p .accepted) in
     let g = gridLength (state .scheme .settings) in
     record {
       first = omega arith;
-      last = omega (arith, p .input, j .input z g, h .facnumbers, ap length e, bytes-cells-long bytes);
+      last = omega (arith, p .input, j .input z g, h .facnumbers, ap length e, bytes-cells-long bytes, ap (λ (w : Sizes). w .sdcnumbers) (p .sizes));
       room =
           omega (
             arith,

@@ -1,17 +1,22 @@
 -- What inner functions require and promise: nothing of the papers is stated here.
 use Prim.Native.Nat.{ℕ, _+_, _-_, _*_, _/_, _≤_}
 use mathlib.Core.Path.{_≡_}
+use mathlib.Core.Bool.{Bool, cond}
 use mathlib.Core.List.{List}
-use lib.ListN.{length, take}
+use lib.ListN.{length, take, drop, replicate}
 use lib.IntN.{ℤ}
 use Rattle.settings.specs.declared.Settings.{Settings}
 use Rattle.settings.specs.declared.Sizes.{Sizes}
 use Rattle.settings.specs.Sizes.{sizesOf}
 use Rattle.superframe.specs.declared.State.{State}
+use Rattle.superframe.specs.Read.{ReadCall, readOf}
+use Rattle.superframe.specs.ReadOn.{lostBytes, readOnOf}
+use Rattle.readcall.specs.Contracts.{readCall}
 use Rattle.console.specs.declared.Job.{Job}
+use Rattle.console.specs.declared.Job.the-variants.{Read, ReadOn}
 use Rattle.jobs.specs.declared.sizes.Space.{Space}
 use Rattle.deskcells.specs.Cells.{bytesCells}
-use Rattle.jobs.specs.SuperFrame.{facLength, facCellsLength, gridLength, inputLength, outputLength}
+use Rattle.jobs.specs.SuperFrame.{JobYield, facLength, facCellsLength, gridLength, inputLength, outputLength, readAnswered, readOnAnswered}
 
 -- Room for the cells of a super frame, and for their bytes.
 pub record CodeRoom (at : ℕ) (bytes : List ℕ) (fac sdc msc : List ℤ) (out : List ℕ) : Type 0 where
@@ -38,12 +43,6 @@ pub record Lent (job : Job) (state : State) (z : Sizes) (bytes out : List ℕ) :
   pub input : length bytes ≡ inputLength job z (gridLength (state .scheme .settings))
   pub output : outputLength job z (gridLength (state .scheme .settings)) ≤ length out
 
-pub record CellsLent (state : State) (z : Sizes) (cells : List ℤ) (out : List ℕ) : Type 0 where
-  pub sizes : z ≡ sizesOf (state .scheme .settings)
-  pub accepted : z .refusal ≡ 0
-  pub input : length cells ≡ z .facnumbers + (z .sdcnumbers + z .mscnumbers)
-  pub output : facLength + (z .sdcbytes + z .mscbytes) + 1 ≤ length out
-
 -- The numbers of bytes at the start of a buffer.
 pub record Numbers (bytes : List ℕ) (buffer : List ℤ) : Type 0 where
   pub front : take (length bytes / 2 - 0) buffer ≡ bytesCells bytes
@@ -64,3 +63,24 @@ pub record Rooms (job : Job) (s : Settings) (r : Space) : Type 0 where
   pub memory : r .memory ≡ sizesOf s .memory
   pub inputmost : r .input ≤ 124470
   pub memorymost : r .memory ≤ 30590
+
+-- The job that reads: reading on where that is asked, with seven bytes that tell what is lost, and otherwise Read, with none.
+abbrev pub readJob : Bool → Job
+readJob on = cond on ReadOn Read
+
+abbrev pub lostOf : Bool → ℕ
+lostOf on = cond on lostBytes 0
+
+-- Where the cells of the MSC start, and the call of Read on cells that start there.
+abbrev pub mscStart : State → ℕ
+mscStart state = facCellsLength + sizesOf (state .scheme .settings) .sdcnumbers
+
+abbrev pub readAt : ℕ → List ℤ → List ℕ → List ℕ → List ℕ → ReadCall
+readAt at cells fac sdc msc =
+    readCall (take facCellsLength cells) (take (at - facCellsLength) (drop facCellsLength cells)) (drop at cells) fac sdc msc
+
+-- What the job yields of a call.
+abbrev pub readBy : Bool → State → List ℕ → ReadCall → List ℕ → JobYield
+readBy on state memory c out =
+    cond on (readOnAnswered (readOnOf state memory (record { call = c; lost = replicate lostBytes 0 })) out)
+    (readAnswered (readOf state memory c) out)

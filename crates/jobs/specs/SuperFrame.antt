@@ -153,7 +153,8 @@ jobCall Read state memory bytes out = readAnswered (readOf state memory (readLen
 jobCall ReadOn state memory bytes out = readOnAnswered (readOnOf state memory (readOnLent (sizesOf (state .scheme .settings)) (bytesCells bytes))) out
 jobCall Grid state memory bytes out =
     gridWritten
-    (placeOf (state .scheme .settings) (cellsIn (sizesOf (state .scheme .settings)) (bytesCells bytes)) (replicate (gridSizes (state .scheme .settings) .numbers) (pos 0)))
+    (placeOf (state .scheme .settings) (cellsIn (sizesOf (state .scheme .settings)) (bytesCells bytes))
+    (replicate (gridSizes (state .scheme .settings) .numbers) (pos 0)))
     state
     memory
     out

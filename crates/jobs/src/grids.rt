@@ -47,7 +47,8 @@ fn place_with(state: State, cells: &[i16], at: usize, grid: &mut [i16], out: &mu
     ensures { λ r. ⌜ ((memory : List ℕ) → jobYield r memory (now (out .exit))
         ≡ gridWritten
         (placeOf (state .scheme .settings)
-        (cellsFrom (List·take facCellsLength (now (cells .entry))) (List·take (at - facCellsLength) (drop facCellsLength (now (cells .entry)))) (drop at (now (cells .entry))))
+        (cellsFrom (List·take facCellsLength (now (cells .entry)))
+        (List·take (at - facCellsLength) (drop facCellsLength (now (cells .entry)))) (drop at (now (cells .entry))))
         (now (grid .entry)))
         state memory (now (out .entry))) ⌝ }
     ensures { λ r. ⌜ r .length ≤ length (now (out .entry)) ⌝ }

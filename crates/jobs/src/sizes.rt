@@ -45,6 +45,7 @@ pub fn grid_length(s: Settings) -> usize
     2 * z.numbers as usize
 }
 
+// What comes in for a super frame, and the most that goes out.
 pub fn input_length(job: Job, z: Sizes, grid: usize) -> usize
     ensures { λ r. ⌜ r ≡ inputLength job z grid ⌝ }
 {

@@ -6,7 +6,7 @@ use crate::grids::place_bytes;
 use crate::grids::take_bytes;
 use crate::output::join_blocks;
 use crate::output::join_cells;
-use crate::readon::read_on_bytes;
+use crate::readon::read_on_with;
 use crate::sizes::FAC_CELLS_LENGTH;
 use crate::sizes::FAC_LENGTH;
 use crate::sizes::grid_length;
@@ -24,16 +24,15 @@ use superframe::Reading;
 use superframe::State;
 use turns::Outcome;
 ghost use mathlib.Core.Path.{_≡_};
+ghost use mathlib.Core.Bool.{false};
 ghost use Prim.Native.Nat.{ℕ, _+_, _*_, _-_, _≤_};
 ghost use mathlib.Core.List.{List};
 ghost use lib.ListN.{length, take, drop};
 ghost use Rattle.superframe.specs.Code.{codeOf};
-ghost use Rattle.superframe.specs.Read.{readOf};
 ghost use Rattle.codecall.specs.Contracts.{codeCall};
-ghost use Rattle.readcall.specs.Contracts.{readCall};
 ghost use Rattle.readcall.specs.Contracts.{readYield};
-ghost use Rattle.jobs.specs.Contracts.{CodeRoom, ReadRoom, Lent};
-ghost use Rattle.jobs.specs.SuperFrame.{facCellsLength, facLength, jobYield, answered, refused as SuperFrame·refused, codeWritten, readWritten, readAnswered, jobCall, jobOf};
+ghost use Rattle.jobs.specs.Contracts.{CodeRoom, ReadRoom, Lent, readJob, lostOf, mscStart, readAt, readBy};
+ghost use Rattle.jobs.specs.SuperFrame.{facLength, jobYield, answered, refused as SuperFrame·refused, codeWritten, readWritten, jobCall, jobOf};
 ghost use Rattle.jobs.specs.Output.{cellOutput};
 
 // Nothing is written where a call was refused.
@@ -179,11 +178,8 @@ fn read_with(
 ) -> Step
     requires { ⌜ ReadRoom 0 at (now cells) (now fac) (now sdc) (now msc) (now out) ⌝ }
     ensures { λ r. ⌜ jobYield r (now (memory .exit)) (now (out .exit))
-        ≡ readAnswered
-        (readOf state (now (memory .entry))
-        (readCall (take facCellsLength (now (cells .entry))) (take (at - facCellsLength) (drop facCellsLength (now (cells .entry)))) (drop at (now (cells .entry)))
-        (now (fac .entry)) (now (sdc .entry)) (now (msc .entry))))
-        (now (out .entry)) ⌝ }
+        ≡ readBy false state (now (memory .entry))
+        (readAt at (now (cells .entry)) (now (fac .entry)) (now (sdc .entry)) (now (msc .entry))) (now (out .entry)) ⌝ }
     ensures { λ r. ⌜ r .length ≤ length (now (out .entry)) ⌝ }
 {
     let reading = read(
@@ -199,11 +195,43 @@ fn read_with(
     write_read(reading, b"", fac, sdc, msc, out)
 }
 
-// The job `read` on buffers of the right lengths.
-fn read_bytes(state: State, z: Sizes, bytes: &[u8], memory: &mut [u8], out: &mut [u8]) -> Step
-    requires { ⌜ Lent Job.Read state z (now bytes) (now out) ⌝ }
+// Either of the two, as it is asked.
+fn read_either(
+    on: bool,
+    state: State,
+    cells: &[i16],
+    memory: &mut [u8],
+    fac: &mut [u8],
+    sdc: &mut [u8],
+    msc: &mut [u8],
+    out: &mut [u8],
+) -> Step
+    requires { ⌜ ReadRoom (lostOf on) (mscStart state) (now cells) (now fac) (now sdc) (now msc) (now out) ⌝ }
     ensures { λ r. ⌜ jobYield r (now (memory .exit)) (now (out .exit))
-        ≡ jobCall Job.Read state (now (memory .entry)) (now (bytes .entry)) (now (out .entry)) ⌝ }
+        ≡ readBy on state (now (memory .entry))
+        (readAt (mscStart state) (now (cells .entry)) (now (fac .entry)) (now (sdc .entry)) (now (msc .entry))) (now (out .entry)) ⌝ }
+    ensures { λ r. ⌜ r .length ≤ length (now (out .entry)) ⌝ }
+{
+    let z = answers::sizes(state.scheme.settings);
+    let at = FAC_CELLS_LENGTH + z.sdcnumbers as usize;
+    if on {
+        return read_on_with(state, cells, at, memory, fac, sdc, msc, out);
+    }
+    read_with(state, cells, at, memory, fac, sdc, msc, out)
+}
+
+// The jobs `read` and `read-on` on buffers of the right lengths.
+fn read_bytes(
+    on: bool,
+    state: State,
+    z: Sizes,
+    bytes: &[u8],
+    memory: &mut [u8],
+    out: &mut [u8],
+) -> Step
+    requires { ⌜ Lent (readJob on) state z (now bytes) (now out) ⌝ }
+    ensures { λ r. ⌜ jobYield r (now (memory .exit)) (now (out .exit))
+        ≡ jobCall (readJob on) state (now (memory .entry)) (now (bytes .entry)) (now (out .entry)) ⌝ }
     ensures { λ r. ⌜ r .length ≤ length (now (out .entry)) ⌝ }
 {
     let cells = numbers_in(bytes);
@@ -211,13 +239,12 @@ fn read_bytes(state: State, z: Sizes, bytes: &[u8], memory: &mut [u8], out: &mut
     let mut fac = buffers::fac_bytes();
     let mut sdc = buffers::sdc_bytes();
     let mut msc = buffers::msc_bytes();
-    let at = FAC_CELLS_LENGTH + z.sdcnumbers as usize;
     let n = z.sdcbytes as usize;
     let m = z.mscbytes as usize;
-    read_with(
+    read_either(
+        on,
         state,
         &cells[0..end],
-        at,
         memory,
         &mut fac,
         &mut sdc[0..n],
@@ -246,8 +273,8 @@ pub fn step(job: Job, state: State, bytes: &[u8], memory: &mut [u8], out: &mut [
     }
     match job {
         Job::Code => code_bytes(state, z, bytes, memory, out),
-        Job::Read => read_bytes(state, z, bytes, memory, out),
-        Job::ReadOn => read_on_bytes(state, z, bytes, memory, out),
+        Job::Read => read_bytes(false, state, z, bytes, memory, out),
+        Job::ReadOn => read_bytes(true, state, z, bytes, memory, out),
         Job::Grid => place_bytes(state, z, bytes, out),
         Job::Ungrid => take_bytes(state, z, bytes, out),
     }

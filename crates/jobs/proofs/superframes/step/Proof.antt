@@ -18,8 +18,8 @@ code-bytes-requires c κs = let a = c .before .before .before .before .before .b
 read-bytes-requires : tie.Need-read-bytes-requires
 read-bytes-requires c κs = let a = c .before .before .before .before .before .before .before .before .before .before .before .before .before .before in job-lent (a .args .job) (a .args .state) _ (a .args .memory .now) (a .args .bytes .now) (a .args .out .now) _ _ _ _ _ (c .before .before .before .before .before .before .before .before .before .before .scheme-refusal .ensures) (c .before .before .before .before .before .before .before .before .before .sizes .ensures) (c .before .before .before .before .before .before .before .before .grid-length .ensures) (c .before .before .before .before .before .before .before .input-length .ensures) (c .before .before .before .before .before .before .output-length .ensures) (c .before .before .before .before .before .length-refusal .ensures) (c .before .before .before .before .if1 .left) Read (c .before .before .enum-told2 .given .1)
 
-read-on-bytes-requires : tie.Need-read-on-bytes-requires
-read-on-bytes-requires c κs = let a = c .before .before .before .before .before .before .before .before .before .before .before .before .before .before in job-lent (a .args .job) (a .args .state) _ (a .args .memory .now) (a .args .bytes .now) (a .args .out .now) _ _ _ _ _ (c .before .before .before .before .before .before .before .before .before .before .scheme-refusal .ensures) (c .before .before .before .before .before .before .before .before .before .sizes .ensures) (c .before .before .before .before .before .before .before .before .grid-length .ensures) (c .before .before .before .before .before .before .before .input-length .ensures) (c .before .before .before .before .before .before .output-length .ensures) (c .before .before .before .before .before .length-refusal .ensures) (c .before .before .before .before .if1 .left) ReadOn (c .before .before .enum-told3 .given .1)
+read-bytes-requires-2 : tie.Need-read-bytes-requires-2
+read-bytes-requires-2 c κs = let a = c .before .before .before .before .before .before .before .before .before .before .before .before .before .before in job-lent (a .args .job) (a .args .state) _ (a .args .memory .now) (a .args .bytes .now) (a .args .out .now) _ _ _ _ _ (c .before .before .before .before .before .before .before .before .before .before .scheme-refusal .ensures) (c .before .before .before .before .before .before .before .before .before .sizes .ensures) (c .before .before .before .before .before .before .before .before .grid-length .ensures) (c .before .before .before .before .before .before .before .input-length .ensures) (c .before .before .before .before .before .before .output-length .ensures) (c .before .before .before .before .before .length-refusal .ensures) (c .before .before .before .before .if1 .left) ReadOn (c .before .before .enum-told3 .given .1)
 
 place-bytes-requires : tie.Need-place-bytes-requires
 place-bytes-requires c κs = let a = c .before .before .before .before .before .before .before .before .before .before .before .before .before in job-lent (a .args .job) (a .args .state) _ (a .args .memory .now) (a .args .bytes .now) (a .args .out .now) _ _ _ _ _ (c .before .before .before .before .before .before .before .before .before .scheme-refusal .ensures) (c .before .before .before .before .before .before .before .before .sizes .ensures) (c .before .before .before .before .before .before .before .grid-length .ensures) (c .before .before .before .before .before .before .input-length .ensures) (c .before .before .before .before .before .output-length .ensures) (c .before .before .before .before .length-refusal .ensures) (c .before .before .before .if1 .left) Grid (c .before .enum-told4 .given .1)
@@ -42,7 +42,7 @@ returns-3 c =
 returns-4 : tie.Need-returns-4
 returns-4 c =
     let a = c .before .before .before .before .before .before .before .before .before .before .before .before .before .before .before .before .before .before .before in
-    let w = c .before .before .before .before .read-on-bytes .ensures in
+    let w = c .before .before .before .before .read-bytes2 .ensures in
     (job-called (a .args .job) (a .args .state) _ (a .args .memory .now) (a .args .bytes .now) (a .args .out .now) _ _ _ _ _ (c .before .before .before .before .before .before .before .before .before .before .before .before .before .before .before .scheme-refusal .ensures) (c .before .before .before .before .before .before .before .before .before .before .before .before .before .before .sizes .ensures) (c .before .before .before .before .before .before .before .before .before .before .before .before .before .grid-length .ensures) (c .before .before .before .before .before .before .before .before .before .before .before .before .input-length .ensures) (c .before .before .before .before .before .before .before .before .before .before .before .output-length .ensures) (c .before .before .before .before .before .before .before .before .before .before .length-refusal .ensures) (c .before .before .before .before .before .before .before .before .before .if1 .left) _ ReadOn (c .before .before .before .before .before .before .before .enum-told3 .given .1) (w .0), w .1)
 
 returns-5 : tie.Need-returns-5
@@ -58,4 +58,4 @@ returns-6 c =
     (job-called (a .args .job) (a .args .state) _ (a .args .memory .now) (a .args .bytes .now) (a .args .out .now) _ _ _ _ _ (c .before .before .before .before .before .before .before .before .before .before .before .before .scheme-refusal .ensures) (c .before .before .before .before .before .before .before .before .before .before .before .sizes .ensures) (c .before .before .before .before .before .before .before .before .before .before .grid-length .ensures) (c .before .before .before .before .before .before .before .before .before .input-length .ensures) (c .before .before .before .before .before .before .before .before .output-length .ensures) (c .before .before .before .before .before .before .before .length-refusal .ensures) (c .before .before .before .before .before .before .if1 .left) _ Ungrid (c .before .before .before .before .enum-told5 .given .1) (w .0 (a .args .memory .now)), w .1)
 
 pub step-spec : {M : Type 1} → statement M
-step-spec = tie.close (tie.spec (λ c κs. search needs) (λ c κs. search needs) (λ c κs. search needs) (λ c κs. search needs) (λ c κs. search needs) (λ c κs. search needs) (λ c κs. search needs) returns (λ c. search needs) code-bytes-requires (λ c. search needs) read-bytes-requires (λ c. search needs) read-on-bytes-requires (λ c. search needs) place-bytes-requires (λ c. search needs) take-bytes-requires (λ c. search needs) (λ c. search needs) returns-2 (λ c. search needs) (λ c. search needs) returns-3 (λ c. search needs) (λ c. search needs) returns-4 (λ c. search needs) returns-5 (λ c. search needs) returns-6)
+step-spec = tie.close (tie.spec (λ c κs. search needs) (λ c κs. search needs) (λ c κs. search needs) (λ c κs. search needs) (λ c κs. search needs) (λ c κs. search needs) (λ c κs. search needs) returns (λ c. search needs) code-bytes-requires (λ c. search needs) read-bytes-requires (λ c. search needs) read-bytes-requires-2 (λ c. search needs) place-bytes-requires (λ c. search needs) take-bytes-requires (λ c. search needs) (λ c. search needs) returns-2 (λ c. search needs) (λ c. search needs) returns-3 (λ c. search needs) (λ c. search needs) returns-4 (λ c. search needs) returns-5 (λ c. search needs) returns-6)
