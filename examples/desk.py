@@ -303,6 +303,36 @@ def hold_files(program, settings, sdc, frame, cell_bytes, finished):
         both(program, ["code", settings, "-", "/dev/full"], everything, "to a full device", cells, FILE_UNWRITTEN + five, False)
 
 
+# settings whose super frames, grids and hold files are the longest, as above
+LARGEST = ("00050000030000000000", 1680, 28788, 2 * (390 + 1692 + 36708), [0, 2, 3, 3, 3])
+
+
+def largest(program):
+    """The program has room for the longest super frames, grids and hold files that any settings have."""
+    settings, sdc, frame, cell_bytes, finished = LARGEST
+    frames = make(sdc, frame, 8)
+    blocks = expected(frames, finished)
+    five = "super frames: 5\n"
+    with tempfile.TemporaryDirectory() as folder:
+        held = os.path.join(folder, "held")
+        bits = [b"".join(of_one) for of_one in frames]
+        _, cells, said = run([program, "code", settings], b"".join(bits))
+        must(said == five and len(cells) == SUPER_FRAMES * cell_bytes, "desk code, the largest: " + said)
+        run([program, "code", settings, "-", held], b"".join(bits[:-1]))
+        both(program, ["preview", settings, held], bits[-1], "the largest, shown", cells[-cell_bytes:], "super frames: 1\n", True)
+        new = read_file(held)
+    both(program, ["read", settings], cells, "the largest, read back", b"".join(blocks), five, True)
+    both(program, ["read-on", settings], cells, "the largest, read on", b"".join(bytes(7) + block for block in blocks), five + lost_line(), True)
+    _, grids, said = run([program, "grid", settings], cells)
+    must(said == five and len(grids) == SUPER_FRAMES * 2 * 62235, "desk grid, the largest: " + said)
+    both(program, ["ungrid", settings], grids, "the largest, off the grid again", cells, five, True)
+    old = old_form(new)
+    must(len(new) == 61188 and len(old) == 244728, "the longest hold files")
+    both(program, ["to-old", settings], new, "the longest new file to an old one", old, "", True)
+    both(program, ["to-new", settings], old, "and back", new, "", True)
+    both(program, ["to-new", settings], old + b"\n", "with one more line feed", b"", NO_HOLD_FILE, False)
+
+
 def wrong_files(file, width):
     """Files that 18 refuses; a cell has so many digits."""
     body = lambda at, digits: file[:at] + digits + file[at + len(digits):]
@@ -758,6 +788,7 @@ def main():
         example(program, *one)
         reading_on(program, *one)
         hold_files(program, *one)
+    largest(program)
     grids(program)
     nearest(program)
     fac_fields(program)
