@@ -387,7 +387,7 @@ def previews(program, settings, bits, cells, cell_bytes, place):
         both(program, words, bits[0], "preview: output to a full device", b"", UNWRITTEN, False, stdout=full)
     write_file(place("now"), held[:-1])
     both(program, words, bits[0], "preview: a hold file that is none", b"", NO_HOLD_FILE, False)
-    both(program, ["preview", settings, "-"], bits[0], "preview: no hold file", b"", FILE_UNREAD, False)
+    both(program, ["preview", settings, "-"], bits[0], "preview: no hold file", b"", FILE_UNREAD, False, cwd=os.path.dirname(place("now")))
 
 
 KINDS = os.path.join(os.path.dirname(os.path.abspath(__file__)), "..", "crates", "gridkinds", "stdout")
@@ -783,7 +783,7 @@ def unkept(settings):
 
 def main():
     must(len(sys.argv) == 2, "usage: desk.py DIRECTORY")
-    program = os.path.join(sys.argv[1], "desk")
+    program = os.path.join(os.path.abspath(sys.argv[1]), "desk")
     for one in EXAMPLES:
         example(program, *one)
         reading_on(program, *one)
