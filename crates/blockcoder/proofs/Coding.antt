@@ -29,8 +29,7 @@ use Rattle.block.proofs.Lists.{bits-take}
 use Rattle.block.proofs.Packing.{length-unpacked}
 use Rattle.block.proofs.Dispersal.{length-dispersedParts, bits-dispersedParts, from-first}
 use Rattle.packing.specs.Contracts.{Unpacks}
-use Rattle.blockcoder.specs.Contracts.{cellsBy, CodesParts, CodesBits}
-use Rattle.mappedparts.specs.Contracts.{MapsParts, MapsAxesParts}
+use Rattle.blockcoder.specs.Contracts.{cellsBy, CodesParts, CodesBits, MapsParts, MapsAxesParts}
 use Rattle.block.specs.Fits.{BlockLent}
 use Rattle.blockcoder.proofs.Woven.{mapped-labels, labels-woven}
 

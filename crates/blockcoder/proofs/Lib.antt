@@ -2,3 +2,5 @@ pub mod Woven
 pub mod Coding
 pub mod CellsRead
 pub mod Reading
+pub mod Lists
+pub mod Halves

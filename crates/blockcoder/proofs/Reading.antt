@@ -14,9 +14,8 @@ use Rattle.block.specs.Packing.{packed}
 use Rattle.block.specs.Block.{bitCount, cellsOf, cellsFrom}
 use Rattle.block.specs.Reading.{candidate, given, bytesRead}
 use Rattle.packing.specs.Contracts.{Packs}
-use Rattle.comparison.specs.declared.Found.{Found}
-use Rattle.blockcoder.specs.Contracts.{ReadsCandidate, BlockRead}
-use Rattle.comparison.specs.Contracts.{foundOf}
+use Rattle.blockcoder.specs.declared.Found.{Found}
+use Rattle.blockcoder.specs.Contracts.{ReadsCandidate, BlockRead, foundOf}
 use Rattle.block.specs.Fits.{BlockLent}
 use Rattle.block.proofs.Blocks.{candidate-block, unpacked-block}
 

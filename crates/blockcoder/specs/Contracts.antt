@@ -1,5 +1,5 @@
 -- What the functions that code and read a block require and promise: nothing of 01 is stated here.
-use Prim.Native.Nat.{ℕ, _*_}
+use Prim.Native.Nat.{ℕ, _*_, _%_, _≤_, _<_}
 use mathlib.Core.Path.{_≡_}
 use mathlib.Core.List.{List}
 use lib.ListN.{length}
@@ -9,11 +9,13 @@ use Rattle.block.specs.declared.Block.{Block}
 use Rattle.block.specs.Block.{bitCount, pointsOf, oneAxis, streamsOf, levelsOf}
 use Rattle.block.specs.Fits.{BlockFits}
 use Rattle.multilevel.specs.Contracts.{PartsOf}
-use mathlib.Core.Bool.{cond}
+use mathlib.Core.Bool.{cond, Bool}
 use Rattle.block.specs.Mapping.{mapped, woven}
-use Rattle.comparison.specs.declared.Found.{Found}
+use Rattle.blockcoder.specs.declared.Found.{Found}
 use Rattle.block.specs.Reading.{unmapped, inputsA, inputsB, given, bytesRead}
-use Rattle.comparison.specs.Contracts.{foundOf}
+use Rattle.blockcoder.specs.Contracts.{foundOf}
+use Rattle.mapping.specs.Contracts.{ThreeBits}
+use Rattle.blockcoder.specs.declared.Found.the-variants.{Given, NoBits}
 
 -- A block that fits, and the bits of its parts A and B.
 pub record CodesParts (k : Block) (a b : List ℕ) (out : List ℤ) : Type 0 where
@@ -55,3 +57,31 @@ pub record ReadsCandidate (k : Block) (cells : List ℤ) (bits : List ℕ) : Typ
 pub record BlockRead (k : Block) (cells : List ℤ) (bytes : List ℕ) (answer : Found) (bytes' : List ℕ) : Type 0 where
   pub answered : answer ≡ foundOf (given k cells)
   pub written : bytes' ≡ cond (given k cells) (bytesRead k cells) bytes
+
+-- ThreeBits of whole cells, the first n1 cells of which are part A's.
+pub record MapsParts (c n1 : ℕ) (labels : List ℕ) (out : List ℤ) : Type 0 where
+  pub known : c < 5
+  pub same : length out ≡ length labels
+  pub whole : length labels % 2 ≡ 0
+  pub part : 2 * n1 ≤ length labels
+  pub high : length labels ≤ 16384
+  pub low : ThreeBits labels
+
+-- ThreeBits of both axes, a number a cell, the first n1 of which are part A's.
+pub record MapsAxesParts (c n1 : ℕ) (re im : List ℕ) (out : List ℤ) : Type 0 where
+  pub known : c < 5
+  pub same : length out ≡ 2 * length re
+  pub both : length im ≡ length re
+  pub part : n1 ≤ length re
+  pub high : length re ≤ 16384
+  pub lowReal : ThreeBits re
+  pub lowImaginary : ThreeBits im
+
+-- What reading a block finds: bits that give the cells, or that no bits do.
+unfoldable pub foundOf : Bool → Found
+foundOf b = cond b Given NoBits
+
+-- What handing the candidate's bytes out requires: as many bytes, and as many coordinates of the candidate as of the cells.
+pub record HandsOut (candidate : List ℕ) (given cells : List ℤ) (bytes : List ℕ) : Type 0 where
+  pub bytes-long : length bytes ≡ length candidate
+  pub cells-long : length given ≡ length cells

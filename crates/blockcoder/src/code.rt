@@ -1,12 +1,12 @@
 // A block: packed bytes to cells. 01 "From bits to cells".
+use crate::parts::map_axes_parts;
+use crate::parts::map_parts;
 use block::Block;
 use block::HMMIX;
 use block::buffers::axis_buffer;
 use block::buffers::bit_buffer;
 use block::buffers::cell_buffer;
 use dispersal::parts::unpack_parts;
-use mappedparts::parts::map_axes_parts;
-use mappedparts::parts::map_parts;
 use multilevel::code::code_levels;
 use multilevel::places::bit_count;
 use multilevel::places::bits_before;

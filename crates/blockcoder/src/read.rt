@@ -1,12 +1,12 @@
 // A block read back: the candidate's bits, packed, coded again and compared with the cells. 01 "Operations".
+use crate::Found;
 use crate::candidate::candidate_bits;
 use crate::code::code_ordered;
+use crate::compare::hand_out;
 use block::Block;
 use block::buffers::bit_buffer;
 use block::buffers::byte_buffer;
 use block::buffers::coordinate_buffer;
-use comparison::Found;
-use comparison::compare::hand_out;
 use multilevel::places::bit_count;
 use multilevel::tables::block_places;
 use multilevel::tables::place_buffer;

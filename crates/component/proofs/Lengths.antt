@@ -13,7 +13,6 @@ use Rattle.lists.specs.Lists.{table, total}
 use Rattle.patterns.specs.Patterns.{columns, numerators, denominators, RX, RY, pattern, tail, table66, tailPattern, R3/5, Sound}
 use Rattle.patterns.specs.Loaded.{Allowed}
 use Rattle.component.specs.Codeword.{following, encode, codeword, tailBits}
-use Rattle.patterns.specs.Patterns.{Sound}
 use Rattle.component.specs.Decoding.{codedLength, segment}
 use Rattle.component.proofs.Codeword.{length-codeword}
 use Rattle.lists.proofs.Rules.{equal, less}

@@ -17,9 +17,8 @@ use Rattle.block.specs.Reading.{placeOf}
 use Rattle.decision.specs.declared.Measured.{Measured}
 use Rattle.decision.specs.declared.MeasuredCell.{MeasuredCell}
 use Rattle.decision.specs.declared.MeasuredCell.the-variants.{Pair}
-use Rattle.decision.specs.Distance.{decision}
+use Rattle.decision.specs.Distance.{decision, Among}
 use Rattle.decision.specs.Cells.{pointOn, bitOn}
-use Rattle.decision.specs.Distance.{Among}
 use Rattle.decision.specs.Contracts.{coordinateAt, Placed}
 use Rattle.decision.proofs.Nearness.{decision-is}
 

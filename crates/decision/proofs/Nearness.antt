@@ -10,8 +10,7 @@ use Rattle.lists.proofs.Bools.{never-both}
 use lib.Dec.{ltb, eqb}
 use lib.IntN.{ℤ, pos, negsuc}
 use lib.Ieee.{Float}
-use Rattle.decision.specs.Distance.{distance, above, prefers, nearestFrom, decision}
-use Rattle.decision.specs.Distance.{Among}
+use Rattle.decision.specs.Distance.{distance, above, prefers, nearestFrom, decision, Among}
 use Rattle.decision.specs.Contracts.{ups, downs, NotBefore}
 
 -- one integer above another, in naturals

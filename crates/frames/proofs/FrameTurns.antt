@@ -27,11 +27,10 @@ use Rattle.block.specs.Reading.{given, bytesRead}
 use Rattle.block.specs.Fits.{BlockLent}
 use Rattle.channels.proofs.Lent.{msc-lent}
 use Rattle.multilevel.specs.Contracts.{BlockOrder}
-use Rattle.comparison.specs.declared.Found.{Found}
-use Rattle.comparison.specs.declared.Found.the-variants.{Given, NoBits}
-use Rattle.blockcoder.specs.Contracts.{BlockRead}
-use Rattle.comparison.specs.Contracts.{foundOf}
-use Rattle.frames.specs.Contracts.{GivenRead}
+use Rattle.blockcoder.specs.declared.Found.{Found}
+use Rattle.blockcoder.specs.declared.Found.the-variants.{Given, NoBits}
+use Rattle.blockcoder.specs.Contracts.{BlockRead, foundOf}
+use Rattle.frames.specs.Contracts.{GivenRead, PlacesRead, SlotLent, FinishLent, FrameFinished, RowsLent, RowsRead}
 use Rattle.channels.specs.Msc.{mscBlock}
 use Rattle.channels.specs.declared.Scheme.{Scheme}
 use Rattle.channels.specs.Scheme.{SchemeAccepted}
@@ -54,7 +53,6 @@ use Rattle.cellmemory.proofs.Ring.{slot-near, slot-far}
 use Rattle.cellmemory.proofs.Laid.{part-is, part-within, part-below, length-mid}
 use Rattle.cellmemory.proofs.Progress.{next-fits, memory-most}
 use Rattle.frames.specs.declared.Frames.{Frames}
-use Rattle.frames.specs.Contracts.{PlacesRead, SlotLent, FinishLent, FrameFinished, RowsLent, RowsRead}
 
 -- Bits give a block's cells exactly if that is what was found.
 is-given : Found → Bool

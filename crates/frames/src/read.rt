@@ -2,6 +2,7 @@
 use crate::Frames;
 use block::Block;
 use block::buffers::coordinate_buffer;
+use blockcoder::Found;
 use blockcoder::read::read_ordered;
 use cellbytes::cells::to_numbers;
 use cellmemory::rows::next_state;
@@ -9,7 +10,6 @@ use cellmemory::rows::slot_size;
 use cellmemory::rows::take_row;
 use channels::Scheme;
 use channels::blocks::msc_block;
-use comparison::Found;
 use multilevel::tables::block_places;
 use multilevel::tables::place_buffer;
 use settings::answers;

@@ -20,8 +20,7 @@ use Rattle.block.proofs.Dispersal.{length-dispersedParts, bits-dispersedParts, 
 use Rattle.packing.specs.Contracts.{Unpacks}
 use Rattle.channels.specs.Msc.{mscBlock}
 use Rattle.channels.proofs.Msc.{msc-bits, msc-fits}
-use Rattle.blockcoder.specs.Contracts.{cellsBy}
-use Rattle.blockcoder.specs.Contracts.{CodesBits}
+use Rattle.blockcoder.specs.Contracts.{cellsBy, CodesBits}
 use Rattle.halves.specs.Halves.{joinedBits}
 use Rattle.halves.specs.Contracts.{Treats, HalvesFit}
 

@@ -20,9 +20,9 @@ use Rattle.lists.specs.Lists.{total}
 use Rattle.block.specs.Packing.{unpacked, spareZero}
 use Rattle.block.specs.Fits.{Bytes}
 use Rattle.frameparts.specs.Streams.{sharesIn, sums}
-use Rattle.framebits.specs.declared.Layout.{Layout}
+use Rattle.multiplex.specs.declared.Layout.{Layout}
 use Rattle.multiplex.specs.Description.{described, uncounted, headBytes, streamsOf, layoutOf, fits, streamBytes}
-use Rattle.framebits.specs.Frame.{zeroFilled, built, handed}
+use Rattle.multiplex.specs.Frame.{zeroFilled, built, handed}
 use Rattle.multiplex.specs.Build.{buildYield, buildOf}
 use Rattle.multiplex.specs.Read.{readOf}
 use Rattle.multiplex.specs.Theorems.{Passes, Zero, splitOf}

@@ -10,7 +10,7 @@ use lib.Seq.{take-all}
 use Rattle.lists.proofs.Counting.{below-or}
 use Rattle.settings.specs.Formulas.{roundUp}
 use Rattle.block.specs.Fits.{Bytes}
-use Rattle.framebits.proofs.Octets.{bytes-take, bytes-drop}
+use Rattle.multiplex.proofs.Octets.{bytes-take, bytes-drop}
 use Rattle.superframe.specs.Call.{joined}
 use Rattle.howlongruns.specs.BytesCoded.{cut}
 

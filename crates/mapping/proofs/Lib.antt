@@ -1,3 +1,5 @@
 pub mod Coordinates
 pub mod Labels
 pub mod Signed
+pub mod PointTests
+pub mod ByteTests

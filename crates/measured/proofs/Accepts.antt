@@ -10,7 +10,7 @@ use lib.ListN.{length, getD}
 use lib.IntN.{ℤ, pos}
 use lib.Ieee.{Float}
 use borrow.Author.Tests.{eq-eqb, ne-eqb, eqb-true, eqb-false, not-false}
-use Rattle.lists.proofs.Bools.{never-both, and-left, and-right}
+use Rattle.lists.proofs.Bools.{never-both, and-left, and-right, table-every}
 use Rattle.lists.proofs.Tables.{Filled, filled-end, length-table, getD-table}
 use Rattle.settings.specs.declared.Settings.{Settings}
 use Rattle.settings.specs.Accepted.{Accepted}
@@ -25,7 +25,6 @@ use Rattle.measured.specs.declared.Channel.the-variants.{Fac, Sdc, Msc}
 use Rattle.decision.specs.Cells.{refusedCell, pointOn}
 use Rattle.measured.specs.Calls.{axisBits, cellAt, passAt, pass, pointAt, pointsOf, bitAt, bitsOf, constellationOf, DecideYield, decideYield, decideRefusal, decideBy, decideOf}
 use Rattle.measured.specs.Contracts.{Lent, PointsFit, BitFits, BitsFit}
-use Rattle.lists.proofs.Bools.{table-every}
 use Rattle.lists.proofs.Tests.{Tested, tested-turn, tested-stop}
 
 -- as many elements as `each` for each of n, by the division

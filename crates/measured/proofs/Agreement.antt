@@ -19,11 +19,10 @@ use Rattle.lists.proofs.Tables.{length-table, getD-table, table-is, table-ext, 
 use Rattle.block.specs.Mapping.{qam4, qam16, standard64, symmetric64, constellation, axis}
 use Rattle.block.specs.Reading.{placeOf}
 use Rattle.decision.specs.declared.Measured.{Measured}
-use Rattle.decision.specs.Distance.{decision}
+use Rattle.decision.specs.Distance.{decision, Among}
 use Rattle.decision.specs.Cells.{valueOn, pointOn, bitOn}
 use Rattle.measured.specs.Calls.{axisBits, cellAt, pointAt, pointsOf, bitAt, bitsOf}
 use Rattle.measured.specs.Theorems.{weighed, numberBits}
-use Rattle.decision.specs.Distance.{Among}
 use Rattle.decision.proofs.Nearness.{decision-among}
 use Rattle.decision.proofs.Axes.{on-both}
 use Rattle.measured.proofs.Accepts.{bits-some, bits-most}

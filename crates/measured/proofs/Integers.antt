@@ -15,9 +15,8 @@ use Rattle.lists.proofs.Bools.{never-both}
 use Rattle.lists.proofs.Same.{sameNumber-true}
 use Rattle.block.specs.Mapping.{coordinate, qam4, qam16, standard64, symmetric64, constellation, axis}
 use Rattle.block.specs.Points.{onAxis}
-use Rattle.decision.specs.Distance.{apart, distance, above, prefers, nearestFrom, decision}
+use Rattle.decision.specs.Distance.{apart, distance, above, prefers, nearestFrom, decision, Among}
 use Rattle.decision.specs.Cells.{isFinite}
-use Rattle.decision.specs.Distance.{Among}
 use Rattle.decision.proofs.Axes.{holds, on-axes}
 
 selfTest : List ℤ → ℕ → Bool

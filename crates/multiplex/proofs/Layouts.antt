@@ -21,11 +21,11 @@ use Rattle.lists.specs.Bytes.{bytesFor}
 use Rattle.block.specs.Packing.{unpacked}
 use Rattle.frameparts.specs.declared.Share.{Share}
 use Rattle.frameparts.specs.Streams.{sharesIn, sums}
-use Rattle.framebits.specs.declared.Layout.{Layout}
+use Rattle.multiplex.specs.declared.Layout.{Layout}
 use Rattle.multiplex.specs.Description.{described, uncounted, headBytes, streamsOf, layoutOf, fits, streamBytes}
-use Rattle.framebits.specs.Contracts.{Small, Fitting, Buffers, zeroAfter}
-use Rattle.framebits.specs.Frame.{splitIn, fillingZero}
-use Rattle.framebits.proofs.FrameBits.{zero-split}
+use Rattle.multiplex.specs.Contracts.{Small, Fitting, Buffers, zeroAfter}
+use Rattle.multiplex.specs.Frame.{splitIn, fillingZero}
+use Rattle.multiplex.proofs.FrameBits.{zero-split}
 
 -- one to four streams have two to eight numbers
 pub two-numbers : (n : ℕ) → described n ≡ true → 2 ≤ n

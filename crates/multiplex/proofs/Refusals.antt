@@ -13,7 +13,7 @@ use Rattle.settings.specs.Sizes.{frameBits, frameBytes}
 use Rattle.settings.proofs.Chain.{passes, own-next, first-passes, first-next}
 use Rattle.block.specs.Packing.{spareZero}
 use Rattle.multiplex.specs.Description.{described, streamsOf, layoutOf, fits, streamBytes}
-use Rattle.framebits.specs.Frame.{built, handed, fillingZero, splitIn}
+use Rattle.multiplex.specs.Frame.{built, handed, fillingZero, splitIn}
 use Rattle.multiplex.specs.Build.{buildYield, buildRefusal, buildOf}
 use Rattle.multiplex.specs.Read.{readYield, readRefusal, readOf}
 

@@ -28,15 +28,15 @@ use Rattle.frameparts.specs.Streams.{inBits, sums, lentOf, lentIn}
 use Rattle.frameparts.specs.Split.{Split, frameOf, splitAt}
 use Rattle.frameparts.proofs.Streams.{lent-in, of-lent, shares-lent, length-lent}
 use Rattle.frameparts.proofs.Split.{same-split, split-frame, split-lengths, frame-long, frame-split}
-use Rattle.framebits.specs.declared.Layout.{Layout}
+use Rattle.multiplex.specs.declared.Layout.{Layout}
 use Rattle.multiplex.specs.Description.{uncounted, streamsOf, layoutOf, fits, streamBytes}
-use Rattle.framebits.specs.Frame.{splitBy, splitIn, zeroFilled, built, handed, fillingZero}
-use Rattle.framebits.specs.Contracts.{Fitting, Buffers}
+use Rattle.multiplex.specs.Frame.{splitBy, splitIn, zeroFilled, built, handed, fillingZero}
+use Rattle.multiplex.specs.Contracts.{Fitting, Buffers}
 use Rattle.multiplex.specs.Build.{buildYield, buildOf}
 use Rattle.multiplex.specs.Read.{readYield, readOf}
 use Rattle.multiplex.specs.Theorems.{Passes, splitOf, Split-by, OneToOne, Built, Zero, ReadsBack, Rebuilt, Multiplex}
-use Rattle.framebits.proofs.Octets.{octets, octets-long, packed-octets, octets-packed, sums-bits, bits-frames, whole-bytes}
-use Rattle.framebits.proofs.FrameBits.{frame-is}
+use Rattle.multiplex.proofs.Octets.{octets, octets-long, packed-octets, octets-packed, sums-bits, bits-frames, whole-bytes}
+use Rattle.multiplex.proofs.FrameBits.{frame-is}
 use Rattle.multiplex.proofs.Layouts.{few-numbers, fitting}
 use Rattle.multiplex.proofs.Refusals.{build-yields, build-zero, ReadAccepted, read-yields, read-zero}
 

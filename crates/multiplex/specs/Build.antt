@@ -8,7 +8,7 @@ use Rattle.settings.specs.declared.Settings.{Settings}
 use Rattle.settings.specs.Refusal.{first, refusal}
 use Rattle.settings.specs.Sizes.{frameBytes}
 use Rattle.multiplex.specs.Description.{described, streamsOf, layoutOf, fits, streamBytes}
-use Rattle.framebits.specs.Frame.{built}
+use Rattle.multiplex.specs.Frame.{built}
 
 -- All that the call yields: its answer, and the lent frame as it leaves it.
 pub record BuildYield : Type 0 where

@@ -9,7 +9,7 @@ use Rattle.settings.specs.Formulas.{hierarchical}
 use Rattle.settings.specs.Lengths.{l1, l2, lVspp}
 use Rattle.frameparts.specs.declared.Share.{Share}
 use Rattle.frameparts.specs.Streams.{sharesIn, sums}
-use Rattle.framebits.specs.declared.Layout.{Layout}
+use Rattle.multiplex.specs.declared.Layout.{Layout}
 
 -- Two numbers for each of one to four streams.
 unfoldable pub described : ℕ → Bool

@@ -9,7 +9,7 @@ use Rattle.settings.specs.Refusal.{first, refusal}
 use Rattle.settings.specs.Sizes.{frameBits, frameBytes}
 use Rattle.block.specs.Packing.{spareZero}
 use Rattle.multiplex.specs.Description.{described, streamsOf, layoutOf, fits, streamBytes}
-use Rattle.framebits.specs.Frame.{handed, fillingZero, splitIn}
+use Rattle.multiplex.specs.Frame.{handed, fillingZero, splitIn}
 
 -- All that the call yields: its answer, and the lent streams as it leaves them.
 pub record ReadYield : Type 0 where

@@ -13,7 +13,7 @@ use Rattle.block.specs.Fits.{Bytes}
 use Rattle.frameparts.specs.Streams.{inBits}
 use Rattle.frameparts.specs.Split.{Split, frameOf, Lengths}
 use Rattle.multiplex.specs.Description.{described, streamsOf, layoutOf, fits, streamBytes}
-use Rattle.framebits.specs.Frame.{splitBy, zeroFilled, handed}
+use Rattle.multiplex.specs.Frame.{splitBy, zeroFilled, handed}
 use Rattle.multiplex.specs.Build.{buildYield, buildOf}
 use Rattle.multiplex.specs.Read.{readYield, readOf}
 

@@ -1,11 +1,11 @@
 // The calls that build a multiplex frame and split one into its streams. 02, S-8.
+use crate::bits::filling_zero;
+use crate::bits::put_frame;
+use crate::bits::take_frame;
 use crate::description::described;
 use crate::description::fits;
 use crate::description::layout;
 use crate::description::uncounted;
-use framebits::bits::filling_zero;
-use framebits::bits::put_frame;
-use framebits::bits::take_frame;
 use packing::bits::spare_zero;
 use settings::Settings;
 use settings::answers::bytes_for;

@@ -1,5 +1,5 @@
 // A multiplex description: of each stream the bytes of part A and of part B. 001 clause 6.4.3.1; 02, S-8.
-use framebits::Layout;
+use crate::Layout;
 use frameparts::parts::sums;
 use settings::Settings;
 use settings::answers::lengths;
@@ -8,7 +8,7 @@ ghost use mathlib.Core.Path.{_≡_};
 ghost use mathlib.Core.Bool.{true};
 ghost use lib.ListN.{length};
 ghost use Rattle.settings.specs.Refusal.{refusal};
-ghost use Rattle.framebits.specs.Contracts.{Small};
+ghost use Rattle.multiplex.specs.Contracts.{Small};
 ghost use Rattle.multiplex.specs.Description.{described, uncounted, headBytes, layoutOf, fits};
 
 // The numbers of a stream.

@@ -17,11 +17,11 @@ use Rattle.console.specs.declared.MuxJob.the-variants.{Mux, Demux}
 use Rattle.numerals.specs.Numbers.{isDigit}
 use Rattle.turns.specs.declared.Made.{Made}
 use Rattle.turns.specs.Yield.{madeYield, madeThrough, madeRefused}
-use Rattle.framebits.specs.declared.Layout.{Layout}
+use Rattle.multiplex.specs.declared.Layout.{Layout}
 use Rattle.multiplex.specs.Description.{described, layoutOf, fits, streamBytes}
 use Rattle.multiplex.specs.Build.{buildYield, buildOf}
 use Rattle.multiplex.specs.Read.{readYield, readOf}
-use Rattle.framebits.specs.Contracts.{Fitting}
+use Rattle.multiplex.specs.Contracts.{Fitting}
 use Rattle.lists.specs.Bytes.{bytesFor}
 use Rattle.muxjobs.specs.declared.Begun.{Begun}
 use Rattle.muxjobs.specs.declared.Begun.the-variants.{Usage, Refused, Frames}

@@ -11,7 +11,7 @@ use Rattle.console.specs.declared.MuxJob.{MuxJob}
 use Rattle.console.specs.declared.MuxJob.the-variants.{Mux, Demux}
 use Rattle.turns.specs.declared.Made.{Made}
 use Rattle.turns.specs.Yield.{MadeYield, madeYield, madeThrough, madeRefused}
-use Rattle.framebits.specs.declared.Layout.{Layout}
+use Rattle.multiplex.specs.declared.Layout.{Layout}
 use Rattle.multiplex.specs.Description.{described, layoutOf, fits, streamBytes}
 use Rattle.multiplex.specs.Build.{BuildYield, buildOf}
 use Rattle.multiplex.specs.Read.{ReadYield, readOf}

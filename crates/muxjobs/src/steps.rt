@@ -2,7 +2,7 @@
 use crate::Begun;
 use crate::Plan;
 use console::MuxJob;
-use framebits::Layout;
+use multiplex::Layout;
 use multiplex::calls::build;
 use multiplex::calls::read;
 use multiplex::description::described;
@@ -17,7 +17,7 @@ ghost use mathlib.Core.Path.{_≡_};
 ghost use Prim.Native.Nat.{_≤_};
 ghost use lib.ListN.{length as ListN·length};
 ghost use Rattle.turns.specs.Yield.{madeYield};
-ghost use Rattle.framebits.specs.Contracts.{Fitting};
+ghost use Rattle.multiplex.specs.Contracts.{Fitting};
 ghost use Rattle.muxjobs.specs.Frames.{stopped, taking, planned, planOf, madeBy, frameOf};
 ghost use Rattle.muxjobs.specs.Contracts.{Room};
 

@@ -14,14 +14,13 @@ use Rattle.settings.specs.Rates.{facRate}
 use Rattle.settings.specs.Formulas.{facBits}
 use Rattle.block.specs.Dispersal.{p, dispersed, dispersedParts}
 use Rattle.block.specs.Levels.{codedA, codedB, mixed, stream, totalA, totalB, streams}
-use Rattle.block.specs.Block.{streamsOf}
+use Rattle.block.specs.Block.{streamsOf, levelsOf, six}
 use Rattle.block.proofs.Dispersal.{length-dispersed}
 use Rattle.channels.specs.Scheme.{standardScheme}
 use Rattle.channels.specs.Fac.{facLevel, facBlock}
 use Rattle.trellis.specs.Nearest.{disagreement, better, cheapest, nearest}
 use Rattle.patterns.specs.Patterns.{numerators, RX, pattern}
 use Rattle.patterns.specs.Contracts.{padded, patternOf, patternFrom}
-use Rattle.block.specs.Block.{levelsOf, six}
 use Rattle.nearest.specs.Coded.{added, coded, facFlips, facCoded, facSent}
 use Rattle.nearest.specs.Fac.{facNearest}
 use Rattle.nearest.proofs.Cheapest.{cheapest-same}

@@ -13,8 +13,7 @@ use Rattle.settings.specs.Lengths.{nMux}
 use Rattle.settings.specs.Sizes.{depth, frameBytes}
 use Rattle.block.specs.Points.{isPoint, arePoints}
 use Rattle.lists.specs.Same.{sameNumbers}
-use Rattle.lists.specs.Bools.{every}
-use Rattle.lists.specs.Bools.{firstFault}
+use Rattle.lists.specs.Bools.{every, firstFault}
 use Rattle.block.specs.Reading.{given, bytesRead}
 use Rattle.block.specs.Block.{pointsOf}
 use Rattle.channels.specs.declared.Scheme.{Scheme}

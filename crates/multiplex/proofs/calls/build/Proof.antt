@@ -3,7 +3,7 @@ use mathlib.Core.Path.{sym, ap, ap₂, _∙_}
 use native.Mathlib.Omega.{arith}
 use borrow.Author.Needs.{needs}
 use Rattle.multiplex.specs.Build.{buildYield}
-use Rattle.framebits.specs.Frame.{built}
+use Rattle.multiplex.specs.Frame.{built}
 use Rattle.multiplex.proofs.Layouts.{uncounted-low, uncounted-inside, buffers, shares-are}
 use Rattle.multiplex.proofs.Refusals.{build-accepted, build-yields, build-refused}
 use Rattle.multiplex.proofs.calls.build.Statement.{statement}

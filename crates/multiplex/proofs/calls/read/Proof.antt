@@ -3,7 +3,7 @@ use mathlib.Core.Path.{sym, ap, ap₂, _∙_}
 use native.Mathlib.Omega.{arith}
 use borrow.Author.Needs.{needs}
 use Rattle.multiplex.specs.Read.{readYield}
-use Rattle.framebits.specs.Frame.{splitIn, handed}
+use Rattle.multiplex.specs.Frame.{splitIn, handed}
 use Rattle.multiplex.proofs.Layouts.{uncounted-low, uncounted-inside, buffers, shares-are}
 use Rattle.multiplex.proofs.Refusals.{read-accepted, read-yields, read-refused}
 use Rattle.multiplex.proofs.calls.read.Statement.{statement}

@@ -1,2 +1,0 @@
-pub mod Frame
-pub mod Contracts

@@ -1,0 +1,10 @@
+-- `next_delay` meets its contract. Assumes nothing.
+use mathlib.Core.Path.{sym}
+use native.Mathlib.Nat.{mod-self, mod-eq-of-lt}
+use borrow.Author.Needs.{needs}
+use Rattle.mapping.proofs.tests.next_delay.Statement.{statement}
+use Rattle.mapping.proofs.tests.next_delay.Tie as tie
+
+pub next-delay-spec : {M : Type 1} → statement M
+next-delay-spec =
+    tie.close (tie.spec (λ c. search needs) (λ c. rw (c .if1 .taken) (sym (mod-self _))) (λ c. search needs) (λ c. sym (mod-eq-of-lt (search needs))))

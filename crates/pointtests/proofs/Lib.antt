@@ -1,2 +1,0 @@
-pub mod PointTests
-pub mod ByteTests
