@@ -1,4 +1,4 @@
-pub mod Laws
+pub mod ReceivedValues
 pub mod Found
 pub mod Held
 pub mod Answered

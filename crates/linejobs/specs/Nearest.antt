@@ -6,6 +6,7 @@ use lib.ListN.{length, getD, replicate}
 use lib.Dec.{eqb}
 use Rattle.lists.specs.Lists.{table}
 use Rattle.line.specs.Written.{decimal, space, lineEnd}
+use Rattle.superframe.specs.Call.{facBytes, facNumbers}
 use Rattle.nearest.specs.Fac.{NearestYield, nearestOf}
 use Rattle.turns.specs.Yield.{MadeYield, through, bad}
 use Rattle.numerals.specs.Digits.{hexDigits}
@@ -26,4 +27,4 @@ nearestSaid y out = cond (eqb (y .answer) 0) (through (blockLine (y .block) (get
 
 unfoldable pub nearestLine : List ℕ → List ℕ → MadeYield
 nearestLine line out =
-    cond (eqb (length line) 130) (nearestSaid (nearestOf (valuesIn line) (replicate 9 0) (replicate 1 0)) out) (bad out)
+    cond (eqb (length line) facNumbers) (nearestSaid (nearestOf (valuesIn line) (replicate facBytes 0) (replicate 1 0)) out) (bad out)

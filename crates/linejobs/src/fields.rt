@@ -7,6 +7,7 @@ use numerals::digits::read_hex;
 use numerals::numbers::numbers;
 use numerals::numbers::put_numbers;
 use settings::Settings;
+use settings::tables::FAC_BYTES;
 use turns::Made;
 use turns::answers::bad;
 use turns::answers::refused;
@@ -16,6 +17,7 @@ ghost use mathlib.Core.Path.{_≡_};
 ghost use mathlib.Core.List.{_++_};
 ghost use Prim.Native.Nat.{_≤_};
 ghost use lib.ListN.{length};
+ghost use Rattle.superframe.specs.Call.{facBytes};
 ghost use Rattle.words.specs.Contracts.{Put};
 ghost use Rattle.line.specs.Written.{lineEnd};
 ghost use Rattle.turns.specs.Yield.{madeYield};
@@ -24,7 +26,7 @@ ghost use Rattle.linejobs.specs.Fields.{buildLine, readLine};
 
 // The line of a block.
 fn put_block(block: &[u8], out: &mut [u8]) -> usize
-    requires { ⌜ (length (now block) ≡ 9) × (64 ≤ length (now out)) ⌝ }
+    requires { ⌜ (length (now block) ≡ facBytes) × (64 ≤ length (now out)) ⌝ }
     ensures { λ r. ⌜ Put 19 (hexDigits (now (block .entry)) ++ lineEnd) (now (out .entry)) 0 r (now (out .exit)) ⌝ }
 {
     put_hex(block, out);
@@ -42,7 +44,7 @@ pub fn build_line(s: Settings, line: &[u8], out: &mut [u8; 1024]) -> Made
         return bad();
     }
     let fields = c.values;
-    let mut block = [0u8; 9];
+    let mut block = [0u8; FAC_BYTES];
     let number = build(s, &fields, &mut block);
     if number != 0 {
         return refused(number);
@@ -55,10 +57,10 @@ pub fn read_line(s: Settings, line: &[u8], out: &mut [u8; 1024]) -> Made
     ensures { λ r. ⌜ madeYield r (now (out .exit)) ≡ readLine s (now (line .entry)) (now (out .entry)) ⌝ }
     ensures { λ r. ⌜ r .length ≤ 1024 ⌝ }
 {
-    if !are_hex(line, 9) {
+    if !are_hex(line, FAC_BYTES) {
         return bad();
     }
-    let mut block = [0u8; 9];
+    let mut block = [0u8; FAC_BYTES];
     read_hex(line, &mut block);
     let mut fields = [0u32; 14];
     let number = read(s, &block, &mut fields);

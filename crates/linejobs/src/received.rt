@@ -1,6 +1,8 @@
 // A line of received bits, and the line of the block nearest to them. 02, S-9.
 use nearest::fac::fac_nearest;
 use numerals::digits::put_hex;
+use settings::tables::FAC_BYTES;
+use settings::tables::FAC_NUMBERS;
 use turns::Made;
 use turns::answers::bad;
 use turns::answers::through;
@@ -9,6 +11,7 @@ use words::report::put_decimal;
 ghost use mathlib.Core.Path.{_≡_};
 ghost use Prim.Native.Nat.{_≤_};
 ghost use lib.ListN.{length};
+ghost use Rattle.superframe.specs.Call.{facBytes, facNumbers};
 ghost use Rattle.words.specs.Contracts.{Put};
 ghost use Rattle.turns.specs.Yield.{madeYield};
 ghost use Rattle.linejobs.specs.Nearest.{valueOf, valuesIn, blockLine, nearestLine};
@@ -44,7 +47,7 @@ fn read_values(line: &[u8], values: &mut [u8])
 
 // The line of a block and its number of disagreements.
 fn put_found(block: &[u8], count: u16, out: &mut [u8]) -> usize
-    requires { ⌜ (length (now block) ≡ 9) × (64 ≤ length (now out)) ⌝ }
+    requires { ⌜ (length (now block) ≡ facBytes) × (64 ≤ length (now out)) ⌝ }
     ensures { λ r. ⌜ Put 40 (blockLine (now (block .entry)) count) (now (out .entry)) 0 r (now (out .exit)) ⌝ }
 {
     put_hex(block, out);
@@ -53,12 +56,12 @@ fn put_found(block: &[u8], count: u16, out: &mut [u8]) -> usize
     put(b"\n", out, b)
 }
 
-// The nearest block of a line of 130 characters.
+// The nearest block of a line of as many characters as an FAC block has received bits.
 fn find(line: &[u8], block: &mut [u8], count: &mut [u16]) -> bool
-    requires { ⌜ (length (now line) ≡ 130) × (length (now block) ≡ 9) × (length (now count) ≡ 1) ⌝ }
+    requires { ⌜ (length (now line) ≡ facNumbers) × (length (now block) ≡ facBytes) × (length (now count) ≡ 1) ⌝ }
     ensures { λ r. ⌜ Found (now (line .entry)) (now (block .entry)) (now (count .entry)) r (now (block .exit)) (now (count .exit)) ⌝ }
 {
-    let mut values = [0u8; 130];
+    let mut values = [0u8; FAC_NUMBERS];
     read_values(line, &mut values);
     fac_nearest(&values, block, count) == 0
 }
@@ -68,9 +71,9 @@ pub fn nearest_line(line: &[u8], out: &mut [u8; 1024]) -> Made
     ensures { λ r. ⌜ madeYield r (now (out .exit)) ≡ nearestLine (now (line .entry)) (now (out .entry)) ⌝ }
     ensures { λ r. ⌜ r .length ≤ 1024 ⌝ }
 {
-    let mut block = [0u8; 9];
+    let mut block = [0u8; FAC_BYTES];
     let mut count = [0u16; 1];
-    if line.len() != 130 {
+    if line.len() != FAC_NUMBERS {
         return bad();
     }
     if !find(line, &mut block, &mut count) {

@@ -8,7 +8,7 @@ use lib.Seq.{sets}
 use Rattle.lists.proofs.Parts.{sets-whole}
 use Rattle.linejobs.specs.Nearest.{valuesIn}
 use Rattle.console.proofs.Copied.{copied-more, copied-all}
-use Rattle.linejobs.proofs.Laws.{values-long, value-there}
+use Rattle.linejobs.proofs.ReceivedValues.{values-long, value-there}
 use Rattle.linejobs.proofs.received.read_values.Statement.{statement}
 use Rattle.linejobs.proofs.received.read_values.Tie as tie
 
