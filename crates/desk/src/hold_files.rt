@@ -57,6 +57,7 @@ fn blank(s: Settings) -> State {
     }
 }
 
+// A run that goes on where a file was stored.
 fn restore_file(s: Settings, file: &[u8], memory: &mut [u8]) -> Begun {
     let done = restore(Form::New, blank(s), s, file, memory);
     let state = done.state;
@@ -106,6 +107,7 @@ fn write_file(path: &[u8], file: &[u8]) -> bool {
     written & (closed == 0)
 }
 
+// The state and its memory to a new file of a name.
 fn store_to(path: &[u8], state: State, memory: &[u8]) -> Next {
     let mut file = files::file_buffer();
     let made = files::store_file(state, memory, &mut file);

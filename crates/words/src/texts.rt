@@ -81,6 +81,7 @@ const STARTS: [usize; 35] = [
     948,
 ];
 
+// The texts by functions of their own, so that proofs do not write them out.
 fn texts() -> [u8; 948]
     ensures { λ r. ⌜ r ≡ textBytes ⌝ }
 {
