@@ -87,6 +87,7 @@ fn data_kind(mode: u8, frame: usize, symbol: usize) -> u8
     }
 }
 
+// A row of data, over which all else is painted.
 fn data_row(kind: u8) -> [u8; 471]
     ensures { λ r. ⌜ r ≡ replicate 471 kind ⌝ }
 {

@@ -53,6 +53,7 @@ fn tail_cost(values: &[u8], at: usize, register: u32) -> u16
     sum
 }
 
+// From a function of its own: proofs then take its length and do not write it out.
 fn no_costs() -> [u16; STATES]
     ensures { λ r. ⌜ length r ≡ 64 ⌝ }
 {

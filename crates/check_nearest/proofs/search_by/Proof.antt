@@ -25,11 +25,4 @@ search-with-requires c κs =
 
 pub search-by-spec : {M : Type 1} → statement M
 search-by-spec =
-    tie.close
-    (tie.spec
-    (λ c κs. search needs)
-    pattern-requires
-    (λ c κs. search needs)
-    search-with-requires
-    (λ c. search needs)
-    (λ c. search needs))
+    tie.close (tie.spec (λ c κs. search needs) pattern-requires (λ c κs. search needs) search-with-requires (λ c. search needs) (λ c. search needs))

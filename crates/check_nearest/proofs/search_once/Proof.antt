@@ -11,14 +11,5 @@ search-drawn-requires c κs =
 
 pub search-once-spec : {M : Type 1} → statement M
 search-once-spec =
-    tie.close
-    (tie.spec
-    (λ c. search needs)
-    (λ c. search needs)
-    (λ c. search needs)
-    (λ c. search needs)
-    (λ c. search needs)
-    (λ c. search needs)
-    (λ c. search needs)
-    search-drawn-requires
-    (λ c. search needs))
+    tie.close (tie.spec (λ c. search needs) (λ c. search needs) (λ c. search needs) (λ c. search needs) (λ c. search needs) (λ c. search needs)
+    (λ c. search needs) search-drawn-requires (λ c. search needs))

@@ -58,32 +58,14 @@ returns c = let l = c .before .loop in lay-done _ _ (l .parts) (l .toa) (l .tob)
 
 pub lay-parts-spec : {M : Type 1} → statement M
 lay-parts-spec =
-    tie.close
-    (tie.spec
-    Inv-loop
-    μ-loop
-    (λ c κs. c .before .before .before .pre .few)
-    loop-holds
-    (λ c. search needs)
-    (λ c. search needs)
-    (λ c. search needs)
-    (λ c. omega (arith, c .shared-slice-known3 .given (c .before .before .loop .k)))
-    (λ c. search needs)
-    (λ c. search needs)
-    (λ c. search needs)
+    tie.close (tie.spec Inv-loop μ-loop (λ c κs. c .before .before .before .pre .few) loop-holds (λ c. search needs) (λ c. search needs) (λ c. search needs)
+    (λ c. omega (arith, c .shared-slice-known3 .given (c .before .before .loop .k))) (λ c. search needs) (λ c. search needs) (λ c. search needs)
     (λ c. omega (arith, c .shared-slice-known4 .given (c .before .before .before .loop .k + 1)))
     (λ c. omega (arith, roomAll (c .before .before .before .loop .inv .0) (c .before .before .loop-test .taken), c .before .before .before .loop .inv .0 .short))
     (λ c. omega (arith, roomAll (c .before .before .before .loop .inv .0) (c .before .before .loop-test .taken), c .before .before .before .loop .inv .0 .short))
-    (λ c. search needs)
-    (λ c. search needs)
+    (λ c. search needs) (λ c. search needs)
     (λ c. omega (arith, roomAll (c .before .before .before .loop .inv .0) (c .before .before .loop-test .taken), c .before .before .before .loop .inv .0 .short))
     put-logical-requires
     (λ c. omega (arith, roomA (c .before .before .before .before .before .before .before .before .loop .inv .0) (c .before .before .before .before .before .before .before .loop-test .taken), c .before .before .before .before .before .before .before .before .loop .inv .0 .short))
     (λ c. omega (arith, roomB (c .before .before .before .before .before .before .before .before .loop .inv .0) (c .before .before .before .before .before .before .before .loop-test .taken), c .before .before .before .before .before .before .before .before .loop .inv .0 .short))
-    (λ c. omega (arith, inside c))
-    (λ c. omega (arith, inside c))
-    (λ c. search needs)
-    (λ c. search needs)
-    loop-again
-    (λ c. search needs)
-    returns)
+    (λ c. omega (arith, inside c)) (λ c. omega (arith, inside c)) (λ c. search needs) (λ c. search needs) loop-again (λ c. search needs) returns)

@@ -25,22 +25,9 @@ returns c =
 
 pub sums-spec : {M : Type 1} → statement M
 sums-spec =
-    tie.close
-    (tie.spec
-    Inv-loop
-    μ-loop
-    (λ c. (summed-start _, search needs))
-    (λ c. search needs)
-    (λ c. search needs)
-    (λ c. search needs)
+    tie.close (tie.spec Inv-loop μ-loop (λ c. (summed-start _, search needs)) (λ c. search needs) (λ c. search needs) (λ c. search needs)
     (λ c. omega (arith, c .shared-slice-known .given (c .before .before .loop .k)))
     (λ c. omega (arith, c .shared-slice-known .given (c .before .before .loop .k), c .before .before .loop .inv .0 .lowA, c .before .before .loop .inv .1))
-    (λ c. search needs)
-    (λ c. search needs)
-    (λ c. search needs)
-    (λ c. omega (arith, c .shared-slice-known2 .given (c .before .before .before .loop .k + 1)))
+    (λ c. search needs) (λ c. search needs) (λ c. search needs) (λ c. omega (arith, c .shared-slice-known2 .given (c .before .before .before .loop .k + 1)))
     (λ c. omega (arith, c .shared-slice-known2 .given (c .before .before .before .loop .k + 1), c .before .before .before .loop .inv .0 .lowB, c .before .before .before .loop .inv .1))
-    (λ c. search needs)
-    (λ c. search needs)
-    loop-again
-    returns)
+    (λ c. search needs) (λ c. search needs) loop-again returns)

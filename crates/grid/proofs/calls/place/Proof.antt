@@ -25,10 +25,4 @@ returns-2 c =
 
 pub place-spec : {M : Type 1} → statement M
 place-spec =
-    tie.close
-    (tie.spec
-    (λ c κs. search needs)
-    returns
-    place-accepted-requires
-    (λ c. search needs)
-    returns-2)
+    tie.close (tie.spec (λ c κs. search needs) returns place-accepted-requires (λ c. search needs) returns-2)

@@ -29,16 +29,5 @@ returns c =
 
 pub place-accepted-spec : {M : Type 1} → statement M
 place-accepted-spec =
-    tie.close
-    (tie.spec
-    (λ c κs. search needs)
-    (λ c. search needs)
-    (λ c. search needs)
-    part-buffer-end
-    grid-kinds-requires
-    (λ c. search needs)
-    (λ c. search needs)
-    part-place-cells-end
-    place-cells-requires
-    (λ c. search needs)
-    returns)
+    tie.close (tie.spec (λ c κs. search needs) (λ c. search needs) (λ c. search needs) part-buffer-end grid-kinds-requires (λ c. search needs)
+    (λ c. search needs) part-place-cells-end place-cells-requires (λ c. search needs) returns)

@@ -45,15 +45,5 @@ returns-4 c =
 
 pub refusal-spec : {M : Type 1} → statement M
 refusal-spec =
-    tie.close
-    (tie.spec
-    (λ c κs. search needs)
-    returns
-    (λ c κs. search needs)
-    mul-sdc-fits
-    (λ c κs. search needs)
-    mul-msc-fits
-    returns-2
-    (λ c. search needs)
-    returns-3
-    returns-4)
+    tie.close (tie.spec (λ c κs. search needs) returns (λ c κs. search needs) mul-sdc-fits (λ c κs. search needs) mul-msc-fits returns-2 (λ c. search needs)
+    returns-3 returns-4)

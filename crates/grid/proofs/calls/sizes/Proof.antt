@@ -34,16 +34,6 @@ here c =
 
 pub sizes-spec : {M : Type 1} → statement M
 sizes-spec =
-    tie.close
-    (tie.spec
-    (λ c κs. search needs)
-    returns
-    frame-symbols-requires
-    mul-symbols
-    carriers-requires
-    (λ c. let h = here c in omega arith)
-    (λ c. let h = here c in omega arith)
-    (λ c. let h = here c in omega arith)
-    (λ c. let h = here c in omega arith)
-    (λ c. let h = here c in omega arith)
+    tie.close (tie.spec (λ c κs. search needs) returns frame-symbols-requires mul-symbols carriers-requires (λ c. let h = here c in omega arith)
+    (λ c. let h = here c in omega arith) (λ c. let h = here c in omega arith) (λ c. let h = here c in omega arith) (λ c. let h = here c in omega arith)
     returns-2)

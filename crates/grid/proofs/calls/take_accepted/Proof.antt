@@ -29,18 +29,5 @@ returns c =
 
 pub take-accepted-spec : {M : Type 1} → statement M
 take-accepted-spec =
-    tie.close
-    (tie.spec
-    (λ c κs. search needs)
-    (λ c. search needs)
-    (λ c. search needs)
-    part-buffer-end
-    grid-kinds-requires
-    (λ c. search needs)
-    (λ c. search needs)
-    part-take-all-end
-    take-all-requires
-    (λ c. search needs)
-    (λ c. search needs)
-    (λ c. search needs)
-    returns)
+    tie.close (tie.spec (λ c κs. search needs) (λ c. search needs) (λ c. search needs) part-buffer-end grid-kinds-requires (λ c. search needs)
+    (λ c. search needs) part-take-all-end take-all-requires (λ c. search needs) (λ c. search needs) (λ c. search needs) returns)

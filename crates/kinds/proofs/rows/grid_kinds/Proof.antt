@@ -65,25 +65,6 @@ returns c = let l = c .before in walk-done _ _ _ _ _ _ (l .loop .n) (l .loop .in
 
 pub grid-kinds-spec : {M : Type 1} → statement M
 grid-kinds-spec =
-    tie.close
-    (tie.spec
-    Inv-loop
-    μ-loop
-    (λ c κs. search needs)
-    (λ c κs. search needs)
-    loop-holds
-    mul-loop
-    div-symbol-kinds
-    rem-symbol-kinds
-    mul-symbol-kinds
-    mul-symbol-kinds-2
-    add-symbol-kinds
-    sub-symbol-kinds
-    part-symbol-kinds-start
-    part-symbol-kinds-end
-    symbol-kinds-requires
-    add-n
-    (λ c. search needs)
-    loop-again
-    same-length
-    returns)
+    tie.close (tie.spec Inv-loop μ-loop (λ c κs. search needs) (λ c κs. search needs) loop-holds mul-loop div-symbol-kinds rem-symbol-kinds mul-symbol-kinds
+    mul-symbol-kinds-2 add-symbol-kinds sub-symbol-kinds part-symbol-kinds-start part-symbol-kinds-end symbol-kinds-requires add-n (λ c. search needs)
+    loop-again same-length returns)

@@ -46,25 +46,6 @@ returns c = let l = c .before .loop in mark-done _ _ _ _ _ _ (l .i) (c .loop-tes
 
 pub paint-spec : {M : Type 1} → statement M
 paint-spec =
-    tie.close
-    (tie.spec
-    Inv-loop
-    μ-loop
-    (λ c. search needs)
-    (λ c. search needs)
-    (λ c. search needs)
-    (λ c. search needs)
-    (λ c. search needs)
-    cast-end
-    (λ c. search needs)
-    (λ c. search needs)
-    cast-i
-    loop-holds
-    array-read-row
-    cast-row
-    slice-write-row
-    (λ c. search needs)
-    (λ c. search needs)
-    loop-again
-    (λ c. search needs)
-    returns)
+    tie.close (tie.spec Inv-loop μ-loop (λ c. search needs) (λ c. search needs) (λ c. search needs) (λ c. search needs) (λ c. search needs) cast-end
+    (λ c. search needs) (λ c. search needs) cast-i loop-holds array-read-row cast-row slice-write-row (λ c. search needs) (λ c. search needs) loop-again
+    (λ c. search needs) returns)

@@ -48,16 +48,4 @@ returns c =
 
 pub paint-gain-spec : {M : Type 1} → statement M
 paint-gain-spec =
-    tie.close
-    (tie.spec
-    Inv-loop
-    μ-loop
-    (λ c κs. search needs)
-    (λ c κs. search needs)
-    loop-holds
-    slice-write-row
-    add-k
-    loop-less
-    loop-again
-    same-length
-    returns)
+    tie.close (tie.spec Inv-loop μ-loop (λ c κs. search needs) (λ c κs. search needs) loop-holds slice-write-row add-k loop-less loop-again same-length returns)

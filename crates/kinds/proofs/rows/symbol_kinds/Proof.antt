@@ -31,17 +31,5 @@ returns c =
 
 pub symbol-kinds-spec : {M : Type 1} → statement M
 symbol-kinds-spec =
-    tie.close
-    (tie.spec
-    (λ c κs. search needs)
-    (λ c κs. search needs)
-    (λ c. search needs)
-    (λ c κs. search needs)
-    (λ c κs. search needs)
-    add-end
-    (λ c. search needs)
-    (λ c. search needs)
-    part-copy-end
-    (λ c κs. search needs)
-    (λ c. search needs)
-    returns)
+    tie.close (tie.spec (λ c κs. search needs) (λ c κs. search needs) (λ c. search needs) (λ c κs. search needs) (λ c κs. search needs) add-end
+    (λ c. search needs) (λ c. search needs) part-copy-end (λ c κs. search needs) (λ c. search needs) returns)

@@ -31,14 +31,4 @@ returns-2 c = let k = c .before .before .args .kept .now in tested-end (test k) 
 
 pub bits-only-spec : {M : Type 1} → statement M
 bits-only-spec =
-    tie.close
-    (tie.spec
-    Inv-loop
-    μ-loop
-    (λ c. tested-start _ _)
-    (λ c. search needs)
-    returns
-    (λ c. search needs)
-    (λ c. search needs)
-    loop-again
-    returns-2)
+    tie.close (tie.spec Inv-loop μ-loop (λ c. tested-start _ _) (λ c. search needs) returns (λ c. search needs) (λ c. search needs) loop-again returns-2)

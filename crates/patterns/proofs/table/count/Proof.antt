@@ -15,19 +15,9 @@ abbrev μ-loop : tie.MeasureT-loop
 
 pub count-spec : {M : Type 1} → statement M
 count-spec =
-    tie.close
-    (tie.spec
-    Inv-loop
-    μ-loop
-    (λ c κs. search needs)
-    (λ c κs. search needs)
-    (λ c. search needs)
-    (λ c. search needs)
+    tie.close (tie.spec Inv-loop μ-loop (λ c κs. search needs) (λ c κs. search needs) (λ c. search needs) (λ c. search needs)
     (λ c. counts-start _ _ _ _ (c .before .before .before .pre .0) (c .before .before .before .pre .1) (c .before .begins .ensures .0) (search needs))
-    (λ c. search needs)
-    (λ c κs. search needs)
-    (λ c. omega (arith, c .wide .ensures, c .before .before .before .loop .inv .small, c .before .before .before .loop .inv .within))
-    (λ c. search needs)
-    (λ c. search needs)
-    (λ c. counts-turn _ (c .before .before .before .loop .inv) (search needs) (c .wide .ensures .0) (c .wide .ensures .1))
+    (λ c. search needs) (λ c κs. search needs)
+    (λ c. omega (arith, c .wide .ensures, c .before .before .before .loop .inv .small, c .before .before .before .loop .inv .within)) (λ c. search needs)
+    (λ c. search needs) (λ c. counts-turn _ (c .before .before .before .loop .inv) (search needs) (c .wide .ensures .0) (c .wide .ensures .1))
     (λ c. counts-end (c .before .loop .inv) (search needs)))

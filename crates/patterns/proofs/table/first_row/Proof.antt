@@ -43,17 +43,6 @@ returns-2 c =
 
 pub first-row-spec : {M : Type 1} → statement M
 first-row-spec =
-    tie.close
-    (tie.spec
-    Inv-loop
-    μ-loop
-    (λ c κs. search needs)
-    (λ c κs. search needs)
-    (λ c. (tested-start _ _, (c .before .numerator .ensures .0, c .begins .ensures .0)))
-    (λ c. search needs)
-    (λ c. search needs)
-    returns
-    (λ c. search needs)
-    (λ c. search needs)
-    loop-again
-    returns-2)
+    tie.close (tie.spec Inv-loop μ-loop (λ c κs. search needs) (λ c κs. search needs)
+    (λ c. (tested-start _ _, (c .before .numerator .ensures .0, c .begins .ensures .0))) (λ c. search needs) (λ c. search needs) returns (λ c. search needs)
+    (λ c. search needs) loop-again returns-2)

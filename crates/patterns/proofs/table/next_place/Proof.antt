@@ -6,13 +6,6 @@ use Rattle.patterns.proofs.table.next_place.Tie as tie
 
 pub next-place-spec : {M : Type 1} → statement M
 next-place-spec =
-    tie.close
-    (tie.spec
-    (λ c κs. search needs)
-    (λ c. search needs)
-    (λ c. search needs)
-    (λ c. next-column _ (search needs) (search needs))
-    (λ c. search needs)
-    (λ c. next-row _ (search needs) (search needs) (search needs))
-    (λ c. search needs)
+    tie.close (tie.spec (λ c κs. search needs) (λ c. search needs) (λ c. search needs) (λ c. next-column _ (search needs) (search needs)) (λ c. search needs)
+    (λ c. next-row _ (search needs) (search needs) (search needs)) (λ c. search needs)
     (λ c. next-rate _ (search needs) (search needs) (search needs) (search needs)))

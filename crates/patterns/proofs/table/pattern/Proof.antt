@@ -32,17 +32,6 @@ returns c =
 
 pub pattern-spec : {M : Type 1} → statement M
 pattern-spec =
-    tie.close
-    (tie.spec
-    Inv-loop
-    μ-loop
-    (λ c κs. search needs)
-    (λ c κs. search needs)
-    (λ c. (filled-start _ _ _, (c .before .numerator .ensures .0, (c .begins .ensures .0, search needs))))
-    (λ c. search needs)
-    (λ c κs. search needs)
-    (λ c. search needs)
-    (λ c. search needs)
-    (λ c. search needs)
-    loop-again
-    returns)
+    tie.close (tie.spec Inv-loop μ-loop (λ c κs. search needs) (λ c κs. search needs)
+    (λ c. (filled-start _ _ _, (c .before .numerator .ensures .0, (c .begins .ensures .0, search needs)))) (λ c. search needs) (λ c κs. search needs)
+    (λ c. search needs) (λ c. search needs) (λ c. search needs) loop-again returns)

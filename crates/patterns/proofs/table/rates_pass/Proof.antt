@@ -25,14 +25,5 @@ loop-again c =
 
 pub rates-pass-spec : {M : Type 1} → statement M
 rates-pass-spec =
-    tie.close
-    (tie.spec
-    Inv-loop
-    μ-loop
-    (λ c. tested-start _ _)
-    (λ c κs. search needs)
-    returns
-    (λ c. search needs)
-    (λ c. search needs)
-    loop-again
+    tie.close (tie.spec Inv-loop μ-loop (λ c. tested-start _ _) (λ c κs. search needs) returns (λ c. search needs) (λ c. search needs) loop-again
     (λ c. tested-end (ratePasses _) 13 (c .before .loop .rate) (search needs) (c .before .loop .inv)))

@@ -32,16 +32,8 @@ loop-again c =
 
 pub standard-table-spec : {M : Type 1} → statement M
 standard-table-spec =
-    tie.close
-    (tie.spec
-    Inv-loop
-    μ-loop
-    (λ c κs. search needs)
-    loop-holds
+    tie.close (tie.spec Inv-loop μ-loop (λ c κs. search needs) loop-holds
     (λ c κs. let l = c .before .loop in (within-table (l .place) (l .k) (l .inv .1 .1 .0) (l .inv .1 .1 .1 .0) (search needs), (l .inv .1 .1 .0 .row, l .inv .1 .1 .0 .column)))
     (λ c. search needs)
     (λ c κs. let l = c .before .before .loop in (l .inv .1 .1 .0, within-table (l .place) (l .k) (l .inv .1 .1 .0) (l .inv .1 .1 .1 .0) (search needs)))
-    (λ c. search needs)
-    (λ c. search needs)
-    loop-again
-    (λ c. filled-standard _ _ _ (c .before .loop .inv .1 .0) (search needs) (c .before .loop .inv .0)))
+    (λ c. search needs) (λ c. search needs) loop-again (λ c. filled-standard _ _ _ (c .before .loop .inv .1 .0) (search needs) (c .before .loop .inv .0)))

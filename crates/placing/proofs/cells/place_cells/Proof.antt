@@ -46,38 +46,13 @@ returns c = placing-done _ _ _ _ _ (c .before .loop .p) (c .before .loop .inv) (
 
 pub place-cells-spec : {M : Type 1} → statement M
 place-cells-spec =
-    tie.close
-    (tie.spec
-    Inv-loop
-    μ-loop
-    loop-holds
-    (λ c. search needs)
-    (λ c. let h = here c in omega arith)
-    (λ c. let h = here c in omega arith)
-    (λ c. let h = here c in omega arith)
-    (λ c. let h = here c in omega arith)
-    (λ c. let h = here c in omega arith)
-    (λ c. let h = here c in omega arith)
-    (λ c. let h = here c in omega arith)
-    (λ c. let h = here c in omega arith)
-    (λ c κs. search needs)
-    (λ c. let h = here (c .before) in omega arith)
-    (λ c. let h = here (c .before) in omega arith)
-    (λ c. let h = here (c .before) in omega arith)
-    slice-set-from-grid-2
-    (λ c. let h = here (c .before) in omega arith)
-    (λ c. let h = here (c .before) in omega arith)
-    (λ c κs. search needs)
-    (λ c. let h = here (c .before .before) in omega arith)
-    (λ c. let h = here (c .before .before) in omega arith)
-    (λ c. let h = here (c .before .before) in omega arith)
-    slice-set-from-grid-3
-    (λ c. let h = here (c .before .before) in omega arith)
-    (λ c. let h = here (c .before .before) in omega arith)
-    (λ c. let h = here (c .before .before) in omega arith)
-    (λ c. let h = here (c .before .before) in omega arith)
-    (λ c. let h = here (c .before .before) in omega arith)
-    (λ c. search needs)
-    loop-again
-    same-length
+    tie.close (tie.spec Inv-loop μ-loop loop-holds (λ c. search needs) (λ c. let h = here c in omega arith) (λ c. let h = here c in omega arith)
+    (λ c. let h = here c in omega arith) (λ c. let h = here c in omega arith) (λ c. let h = here c in omega arith) (λ c. let h = here c in omega arith)
+    (λ c. let h = here c in omega arith) (λ c. let h = here c in omega arith) (λ c κs. search needs) (λ c. let h = here (c .before) in omega arith)
+    (λ c. let h = here (c .before) in omega arith) (λ c. let h = here (c .before) in omega arith) slice-set-from-grid-2
+    (λ c. let h = here (c .before) in omega arith) (λ c. let h = here (c .before) in omega arith) (λ c κs. search needs)
+    (λ c. let h = here (c .before .before) in omega arith) (λ c. let h = here (c .before .before) in omega arith)
+    (λ c. let h = here (c .before .before) in omega arith) slice-set-from-grid-3 (λ c. let h = here (c .before .before) in omega arith)
+    (λ c. let h = here (c .before .before) in omega arith) (λ c. let h = here (c .before .before) in omega arith)
+    (λ c. let h = here (c .before .before) in omega arith) (λ c. let h = here (c .before .before) in omega arith) (λ c. search needs) loop-again same-length
     returns)

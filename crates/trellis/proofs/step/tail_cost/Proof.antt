@@ -23,16 +23,5 @@ returns c = tail-done (c .before .loop .inv) (search needs)
 
 pub tail-cost-spec : {M : Type 1} → statement M
 tail-cost-spec =
-    tie.close
-    (tie.spec
-    Inv-loop
-    μ-loop
-    (λ c. tail-start _ _ _)
-    (λ c. search needs)
-    (λ c. search needs)
-    (λ c κs. search needs)
-    add-sum
-    (λ c. search needs)
-    (λ c. search needs)
-    loop-again
-    returns)
+    tie.close (tie.spec Inv-loop μ-loop (λ c. tail-start _ _ _) (λ c. search needs) (λ c. search needs) (λ c κs. search needs) add-sum (λ c. search needs)
+    (λ c. search needs) loop-again returns)
