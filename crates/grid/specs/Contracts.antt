@@ -13,17 +13,21 @@ use Rattle.placing.specs.Cells.{Cells}
 use Rattle.grid.specs.Calls.{gridNumbers, PlaceYield, TakeYield}
 use Rattle.placing.specs.Contracts.{cellsFrom}
 
+-- The numbers of three FAC blocks of 65 cells.
+abbrev pub facLength : ℕ
+facLength = 390
+
 -- The refusal by the lengths alone.
 unfoldable pub lengthsRefusal : ℕ → Settings → ℕ → ℕ → ℕ → ℕ → ℕ
 lengthsRefusal number s fac sdc msc grid =
     first (ltb 0 (refusal s)) (refusal s)
-    (first (not (eqb fac 390 && (eqb sdc (2 * nSdc s) && eqb msc (2 * nSfa s)))) number
+    (first (not (eqb fac facLength && (eqb sdc (2 * nSdc s) && eqb msc (2 * nSfa s)))) number
     (first (not (eqb grid (gridNumbers s))) 17 0))
 
 -- What is known of a call that is not refused.
 pub record CallFits (s : Settings) (cells : Cells) (grid : List ℤ) : Type 0 where
   pub settings : refusal s ≡ 0
-  pub facLong : length (cells .fac) ≡ 390
+  pub facLong : length (cells .fac) ≡ facLength
   pub sdcLong : length (cells .sdc) ≡ 2 * nSdc s
   pub mscLong : length (cells .msc) ≡ 2 * nSfa s
   pub gridLong : length grid ≡ gridNumbers s

@@ -5,6 +5,7 @@ use kinds::tables;
 use placing::cells;
 use settings::Settings;
 use settings::refusals;
+use settings::tables::FAC_NUMBERS;
 use settings::tables::n_sdc;
 use settings::tables::n_sfa;
 ghost use mathlib.Core.Path.{_≡_};
@@ -14,8 +15,8 @@ ghost use Rattle.grid.specs.Calls.{kinds, gridSizes, placeOf, takeOf};
 ghost use Rattle.grid.specs.Contracts.{lengthsRefusal, CallFits, placeYield, takeYield};
 ghost use Rattle.placing.specs.Contracts.{cellsFrom};
 
-// Three FAC blocks of 65 cells.
-const FAC_NUMBERS: usize = 390;
+// The numbers of three FAC blocks.
+const FAC_LENGTH: usize = 3 * FAC_NUMBERS;
 
 // Symbols, carriers and numbers of a grid, 0 where the settings are refused.
 pub fn sizes(s: Settings) -> GridSizes
@@ -50,7 +51,7 @@ fn refusal(s: Settings, number: u8, fac: usize, sdc: usize, msc: usize, grid: us
     }
     let sdc_fits = sdc == 2 * n_sdc(s.mode, s.occupancy);
     let msc_fits = msc == 2 * n_sfa(s.mode, s.occupancy);
-    if !((fac == FAC_NUMBERS) & (sdc_fits & msc_fits)) {
+    if !((fac == FAC_LENGTH) & (sdc_fits & msc_fits)) {
         return number;
     }
     if grid != z.numbers as usize {
@@ -66,6 +67,7 @@ fn kind_buffer() -> [u8; 20745]
     [0u8; rows::MOST_PLACES]
 }
 
+// A call that no number refuses: the kinds of all places first, and then the cells by them.
 fn place_accepted(s: Settings, fac: &[i16], sdc: &[i16], msc: &[i16], grid: &mut [i16])
     requires { ⌜ CallFits s (cellsFrom (now fac) (now sdc) (now msc)) (now grid) ⌝ }
     ensures { λ r. ⌜ now (grid .exit) ≡ placed (kinds s) (cellsFrom (now (fac .entry)) (now (sdc .entry)) (now (msc .entry))) ⌝ }
@@ -76,6 +78,7 @@ fn place_accepted(s: Settings, fac: &[i16], sdc: &[i16], msc: &[i16], grid: &mut
     cells::place_cells(&buffer[0..n], fac, sdc, msc, grid);
 }
 
+// The same off a grid.
 fn take_accepted(s: Settings, grid: &[i16], fac: &mut [i16], sdc: &mut [i16], msc: &mut [i16])
     requires { ⌜ CallFits s (cellsFrom (now fac) (now sdc) (now msc)) (now grid) ⌝ }
     ensures { λ r. ⌜ cellsFrom (now (fac .exit)) (now (sdc .exit)) (now (msc .exit)) ≡ taken (kinds s) (now (grid .entry)) ⌝ }
