@@ -2,9 +2,9 @@
 use mathlib.Core.Path.{_≡_, sym, ap, _∙_}
 use mathlib.Core.Logic.{_⊎_, inl, inr}
 use Prim.Native.Nat.{ℕ, suc, _+_, _-_, _*_, _/_, _%_, _≤_, _<_}
-use native.Mathlib.Nat.{mod-lt, mod-eq-of-lt, add-mod-right, mod-self, mod-add-mod, mul-le-mul-right, add-zero}
+use native.Mathlib.Nat.{mod-lt, mod-eq-of-lt, add-mod-right, mod-self, mod-add-mod, mul-le-mul-right, add-zero, zero-mul, suc-mul}
 use native.Mathlib.Omega.{arith}
-use borrow.Author.Tests.{eq-eqb, ne-eqb}
+use borrow.Author.Tests.{eq-eqb, ne-eqb, lt-ltb, le-ltb}
 use Rattle.lists.proofs.Counting.{below-or}
 use Rattle.superframe.specs.Interleaving.{slotBefore, delay, sentPlace}
 use Rattle.interleaver.specs.Interleaving.{place}
@@ -29,13 +29,17 @@ pub slot-below : (D p d : ℕ) → 0 < D → slotBefore D p d < D
 unfolding slotBefore
 slot-below D p d h = mod-lt (p + D - d) h
 
-pub previous-zero : (D x : ℕ) → x ≡ 0 → previous D x ≡ D - 1
+-- The slot before slot x, by where it begins.
+pub previous-zero : (n last x : ℕ) → 0 < n → x ≡ 0 → previous n last (x * n) ≡ last
 unfolding previous
-previous-zero D x e = rw (eq-eqb x 0 e)
+previous-zero n last x h e = rw (e, zero-mul, lt-ltb 0 n h)
 
-pub previous-more : (D x : ℕ) → 1 ≤ x → previous D x ≡ x - 1
+pub previous-more : (n last x : ℕ) → 1 ≤ x → previous n last (x * n) ≡ (x - 1) * n
 unfolding previous
-previous-more D x h = rw (ne-eqb x 0 (λ e. omega arith))
+previous-more n last (suc x) h =
+    let e : suc x * n ≡ x * n + n = suc-mul x n in
+    let f : suc x - 1 ≡ x = omega arith in
+    rw (le-ltb (suc x * n) n (omega arith), f) (omega arith)
 
 pub later-last : (D d : ℕ) → d + 1 ≡ D → later D d ≡ 0
 unfolding later
@@ -59,34 +63,40 @@ later-mod D i h = go (below-or (i % D + 1) D)
         later-last D (i % D) e ∙ sym (mod-self D) ∙ ap (λ (x : ℕ). x % D) (sym e) ∙ mod-add-mod i D 1
 
 -- The slot of the next cell.
-pub previous-later : (D p d : ℕ) → p < D → d < D → previous D (slotBefore D p d) ≡ slotBefore D p (later D d)
-previous-later D p d hp hd = go (below-or (d + 1) D) (below-or d (p + 1))
+pub previous-later : (D n p d : ℕ) → 0 < n → p < D → d < D → previous n ((D - 1) * n) (slotBefore D p d * n) ≡ slotBefore D p (later D d) * n
+previous-later D n p d z hp hd = go (below-or (d + 1) D) (below-or d (p + 1))
   where
-    go : (d + 1 < D) ⊎ (D ≤ d + 1) → (d < p + 1) ⊎ (p + 1 ≤ d) → previous D (slotBefore D p d) ≡ slotBefore D p (later D d)
+    first : (x y : ℕ) → x ≡ 0 → D - 1 ≡ y → previous n ((D - 1) * n) (x * n) ≡ y * n
+    first x y e f = previous-zero n ((D - 1) * n) x z e ∙ rw f
+
+    other : (x y : ℕ) → 1 ≤ x → x - 1 ≡ y → previous n ((D - 1) * n) (x * n) ≡ y * n
+    other x y h f = previous-more n ((D - 1) * n) x h ∙ rw f
+
+    go : (d + 1 < D) ⊎ (D ≤ d + 1) → (d < p + 1) ⊎ (p + 1 ≤ d) → previous n ((D - 1) * n) (slotBefore D p d * n) ≡ slotBefore D p (later D d) * n
     go (inl a) (inl b) = near (below-or d p)
       where
-        near : (d < p) ⊎ (p ≤ d) → previous D (slotBefore D p d) ≡ slotBefore D p (later D d)
+        near : (d < p) ⊎ (p ≤ d) → previous n ((D - 1) * n) (slotBefore D p d * n) ≡ slotBefore D p (later D d) * n
         near (inl g) =
             rw (slot-near D p d (omega arith) hp, later-more D d a, slot-near D p (d + 1) (omega arith) hp)
-            (previous-more D (p - d) (omega arith) ∙ omega arith)
+            (other (p - d) (p - (d + 1)) (omega arith) (omega arith))
         near (inr g) =
             rw (slot-near D p d (omega arith) hp, later-more D d a, slot-far D p (d + 1) (omega arith) (omega arith))
-            (previous-zero D (p - d) (omega arith) ∙ omega arith)
+            (first (p - d) (p + D - (d + 1)) (omega arith) (omega arith))
     go (inl a) (inr b) =
         rw (slot-far D p d (omega arith) (omega arith), later-more D d a, slot-far D p (d + 1) (omega arith) (omega arith))
-        (previous-more D (p + D - d) (omega arith) ∙ omega arith)
+        (other (p + D - d) (p + D - (d + 1)) (omega arith) (omega arith))
     go (inr a) (inl b) =
         rw (slot-near D p d (omega arith) hp, later-last D d (omega arith), slot-near D p 0 (omega arith) hp)
-        (previous-zero D (p - d) (omega arith) ∙ omega arith)
+        (first (p - d) (p - 0) (omega arith) (omega arith))
     go (inr a) (inr b) =
         rw (slot-far D p d (omega arith) (omega arith), later-last D d (omega arith), slot-near D p 0 (omega arith) hp)
-        (previous-more D (p + D - d) (omega arith) ∙ omega arith)
+        (other (p + D - d) (p - 0) (omega arith) (omega arith))
 
--- A cell of a slot stands within memory.
-pub cell-within : (D n slot place len : ℕ) → slot < D → place < n → len ≡ D * n → slot * n + place < len
-cell-within D n slot place len h l e =
+-- A slot stands within memory.
+pub slot-within : (D n slot len : ℕ) → slot < D → len ≡ D * n → slot * n + n ≤ len
+slot-within D n slot len h e =
     let g : suc slot * n ≤ D * n = mul-le-mul-right n h in
-    omega (arith, native.Mathlib.Nat.suc-mul slot n)
+    omega (arith, suc-mul slot n)
 
 -- Numbers 2i and 2i + 1 of a row belong to cell i.
 pub delay-even : (D i : ℕ) → delay D (2 * i) ≡ i % D

@@ -1,49 +1,52 @@
 -- A turn of the loops that send and take a row, cell by cell; D and n are the depth and N_MUX of the settings. Assumes nothing.
 use mathlib.Core.Path.{_≡_, refl, sym, ap, _∙_}
 use mathlib.Core.Bool.{Bool, cond, true, false}
-use mathlib.Core.List.{List}
+use mathlib.Core.List.{List, [], _∷_, _++_, append-assoc}
 use Prim.Native.Nat.{ℕ, zero, suc, _+_, _-_, _*_, _/_, _%_, _≤_, _<_}
 use native.Mathlib.Nat.{add-assoc, mul-left-comm, sub-zero, zero-mod, mod-lt}
 use native.Mathlib.Numerals.{add-one}
 use native.Mathlib.Omega.{arith}
-use lib.ListN.{length, getD, set, length-set}
+use lib.ListN.{length, getD, set, take, drop, length-set, length-append}
 use lib.IntN.{ℤ, pos}
-use lib.Seq.{getD-set-same, set-set}
+use lib.Seq.{getD-set-same, getD-take, set-set, take-at}
 use lib.Dec.{leb}
 use Rattle.cellbytes.specs.CellBytes.{signed, fourBits, cellByte, realOf, imaginaryOf}
 use Rattle.cellbytes.proofs.CellBytes.{four-low, four-signed, real-cell, real-at, imaginary-at}
-use Rattle.interleaver.specs.Interleaving.{place, nextPlace, size}
-use Rattle.interleaver.specs.Deinterleaving.{Interleaves}
-use Rattle.interleaver.proofs.Interleaving.{Along, along-start, along-turn}
-use Rattle.lists.proofs.Tables.{Filled, filled-turn, filled-end}
+use Rattle.interleaver.specs.Interleaving.{place}
+use Rattle.interleaver.specs.Deinterleaving.{Cycles}
+use Rattle.interleaver.specs.Tables.{places, Tabulates}
+use Rattle.interleaver.proofs.Places.{place-low}
+use Rattle.lists.proofs.Tables.{Filled, filled-turn, filled-end, getD-table, length-table}
+use Rattle.lists.proofs.Parts.{length-start}
 use Rattle.settings.specs.declared.Settings.{Settings}
 use Rattle.settings.specs.Lengths.{nMux}
 use Rattle.settings.specs.Sizes.{depth}
 use Rattle.superframe.specs.declared.State.{State}
 use Rattle.superframe.specs.Memory.{slotSize, numberIn, withNumber, replaced}
 use Rattle.superframe.specs.Interleaving.{slotBefore, delay, sentPlace, sentRow, takenFrom}
-use Rattle.cellmemory.specs.Contracts.{previous, later, cellPut, withCell, RowLent}
-use Rattle.cellmemory.proofs.Ring.{slot-zero, slot-below, later-mod, previous-later, cell-within, delay-even, delay-odd, place-even, place-odd}
+use Rattle.cellmemory.specs.Contracts.{previous, later, cellPut, withCell, CellFits, RowLent, RowRoom, RowOrder}
+use Rattle.cellmemory.proofs.Ring.{slot-zero, slot-below, later-mod, previous-later, slot-within, delay-even, delay-odd, place-even, place-odd}
 
--- In turn i the slot is that of cell i, and so is the delay.
-pub record InRing (D position slot i : ℕ) : Type 0 where
+-- In turn i the slot of cell i begins at a place of memory.
+pub record InRing (D n position at i : ℕ) : Type 0 where
   pub within : position < D
-  pub slot-is : slot ≡ slotBefore D position (i % D)
+  pub at-is : at ≡ slotBefore D position (i % D) * n
 
-module _ (D position : ℕ) where
-  pub ring-start : position < D → InRing D position position 0
-  ring-start h = record { within = h; slot-is = sym (ap (slotBefore D position) (zero-mod D) ∙ slot-zero D position h) }
+module _ (D n position : ℕ) where
+  pub ring-start : position < D → InRing D n position (position * n) 0
+  ring-start h = record { within = h; at-is = rw (zero-mod, slot-zero D position h) }
 
-  pub ring-turn : (slot i r : ℕ) → InRing D position slot i → r ≡ previous D slot → InRing D position r (i + 1)
-  ring-turn slot i r w e =
+  pub ring-turn : (last at i r : ℕ) → 0 < n → last ≡ (D - 1) * n → InRing D n position at i → r ≡ previous n last at → InRing D n position r (i + 1)
+  ring-turn last at i r h l w e =
       let p : 0 < D = omega (arith, w .within) in
       record {
         within = w .within;
-        slot-is = rw (e, w .slot-is, previous-later D position (i % D) (w .within) (mod-lt i p), later-mod D i p);
+        at-is = rw (e, l, w .at-is, previous-later D n position (i % D) h (w .within) (mod-lt i p), later-mod D i p);
       }
 
-  pub ring-low : (slot i : ℕ) → InRing D position slot i → slot < D
-  ring-low slot i w = rw (w .slot-is) (slot-below D position (i % D) (omega (arith, w .within)))
+  pub ring-low : (at i len : ℕ) → InRing D n position at i → len ≡ D * n → at + n ≤ len
+  ring-low at i len w e =
+      rw (w .at-is) (slot-within D n (slotBefore D position (i % D)) len (slot-below D position (i % D) (omega (arith, w .within))) e)
 
 -- In turn i the delay is that of cell i.
 pub record Delayed (D d i : ℕ) : Type 0 where
@@ -80,9 +83,13 @@ row-fits state D n memory row h e f =
       numbers = h .long ∙ rw f;
     }
 
--- A row's cells can be interleaved.
-pub row-interleaves : (D n position : ℕ) (memory : List ℕ) (row : List ℤ) → RowFits D n position memory row → Interleaves 5 n
-row-interleaves D n position memory row h = record { cycles = record { low = h .low; factor = refl }; high = h .high; small = omega arith }
+-- The slot of the position and the last one begin within memory.
+pub slots-fit : {D n position : ℕ} {memory : List ℕ} {row : List ℤ} → RowFits D n position memory row → (1 ≤ D) × ((D - 1) * n ≤ length memory) × (position * n ≤ length memory)
+slots-fit {D} {n} {position} {memory} h = (
+  omega (arith, h .within),
+  omega (arith, slot-within D n (D - 1) (length memory) (omega (arith, h .within)) (h .slots)),
+  omega (arith, slot-within D n position (length memory) (h .within) (h .slots)),
+)
 
 -- Number k of the sent cells.
 abbrev pub sent-number : ℕ → ℕ → List ℕ → ℕ → ℕ → ℤ
@@ -119,12 +126,12 @@ replaced-cell n slot p memory re im h =
     let r : realOf x ≡ signed (fourBits re) = unfold cellByte in real-cell re (imaginaryOf (getD memory j 0)) in
     rw (a, b, c, d, getD-set-same memory j x 0 h, r, four-signed (fourBits re) (four-low re)) (set-set memory j x (16 * fourBits re + fourBits im))
 
-module _ (D n position slot p i : ℕ) (w : InRing D position slot i) (e : p ≡ place 5 n i) where
+module _ (D n position slot p i : ℕ) (w : slot ≡ slotBefore D position (i % D)) (e : p ≡ place 5 n i) where
   -- A cell sent: two numbers more of the row are there.
-  pub send-turn : (memory : List ℕ) (d out : List ℤ) → i < n → length d ≡ 2 * n → Filled (pos 0) (sent-number D n memory position) d out (2 * i)
+  send-slot : (memory : List ℕ) (d out : List ℤ) → i < n → length d ≡ 2 * n → Filled (pos 0) (sent-number D n memory position) d out (2 * i)
       → Filled (pos 0) (sent-number D n memory position) d (cellPut (getD memory (slot * n + p) 0) out (2 * i)) (2 * (i + 1))
   unfolding cellPut
-  send-turn memory d out h l f =
+  send-slot memory d out h l f =
       let g : 2 * i + 1 + 1 ≡ 2 * (i + 1) = omega arith in
       let b = getD memory (slot * n + p) 0 in
       rw (← g)
@@ -132,62 +139,114 @@ module _ (D n position slot p i : ℕ) (w : InRing D position slot i) (e : p ≡
       (filled-turn (pos 0) (sent-number D n memory position) d out (2 * i) (realOf b) (omega arith) even f))
     where
       even : realOf (getD memory (slot * n + p) 0) ≡ sent-number D n memory position (2 * i)
-      even = unfold numberIn in rw (delay-even, place-even, ← w .slot-is, ← e, cell-place n slot p) (sym (real-at memory (slot * n + p)))
+      even = unfold numberIn in rw (delay-even, place-even, ← w, ← e, cell-place n slot p) (sym (real-at memory (slot * n + p)))
 
       odd : imaginaryOf (getD memory (slot * n + p) 0) ≡ sent-number D n memory position (2 * i + 1)
       odd =
           unfold numberIn in
-          rw (delay-odd, place-odd, ← w .slot-is, ← e, ← add-assoc (slot * (2 * n)) (2 * p) 1, cell-place n slot p) (sym (imaginary-at memory (slot * n + p)))
+          rw (delay-odd, place-odd, ← w, ← e, ← add-assoc (slot * (2 * n)) (2 * p) 1, cell-place n slot p) (sym (imaginary-at memory (slot * n + p)))
 
   -- A cell taken: what is left of the row leads to what the whole leads to.
-  pub take-turn : (s : Settings) → D ≡ depth s → n ≡ nMux s → (d count m : ℕ) (row : List ℤ) (memory : List ℕ) → slot * n + p < length memory → d ≡ i % D
+  take-slot : (s : Settings) → D ≡ depth s → n ≡ nMux s → (d count m : ℕ) (row : List ℤ) (memory : List ℕ) → slot * n + p < length memory → d ≡ i % D
       → takenFrom s position count row (2 * i) (suc (suc m)) memory
       ≡ takenFrom s position count row (2 * (i + 1)) m (withCell d count row (2 * i) memory (slot * n + p))
   unfolding takenFrom withCell slotSize
-  take-turn s u v d count m row memory l g =
+  take-slot s u v d count m row memory l g =
       let f : 2 * (i + 1) ≡ suc (suc (2 * i)) = omega arith in
-      rw (f, ← add-one (2 * i), ← u, ← v, delay-odd, delay-even, place-odd, place-even, g, ← w .slot-is, ← e)
+      rw (f, ← add-one (2 * i), ← u, ← v, delay-odd, delay-even, place-odd, place-even, g, ← w, ← e)
       (ap (takenFrom s position count row (suc (2 * i + 1)) m)
       (cond-two (leb (i % D) count) memory
       (λ (x : List ℕ). replaced (2 * n) x slot (2 * p) (getD row (2 * i) (pos 0)))
       (λ (x : List ℕ). replaced (2 * n) x slot (2 * p + 1) (getD row (2 * i + 1) (pos 0)))
       ∙ ap (λ (x : List ℕ). cond (leb (i % D) count) x memory) (replaced-cell n slot p memory (getD row (2 * i) (pos 0)) (getD row (2 * i + 1) (pos 0)) l)))
 
--- What a loop over the cells of a row holds in turn i: the place and the slot are those of cell i, which stands within memory.
-pub record Stepping (D n position s q : ℕ) (memory : List ℕ) (row : List ℤ) (p slot i : ℕ) : Type 0 where
-  pub fits : RowFits D n position memory row
-  pub upto : i ≤ n
-  pub along : Along 5 n s q p i
-  pub ring : InRing D position slot i
-  pub slot-low : slot < D
-  pub cell-in : slot * n + p < length memory
+-- The same by where the slot begins.
+module _ (D n position at p i : ℕ) (w : InRing D n position at i) (e : p ≡ place 5 n i) where
+  pub send-turn : (memory : List ℕ) (d out : List ℤ) → i < n → length d ≡ 2 * n → Filled (pos 0) (sent-number D n memory position) d out (2 * i)
+      → Filled (pos 0) (sent-number D n memory position) d (cellPut (getD memory (at + p) 0) out (2 * i)) (2 * (i + 1))
+  send-turn memory d out h l f = rw (w .at-is) (send-slot D n position (slotBefore D position (i % D)) p i refl e memory d out h l f)
 
-steps : (D n position s q : ℕ) (memory : List ℕ) (row : List ℤ) (p slot i : ℕ) → RowFits D n position memory row → i ≤ n → Along 5 n s q p i → InRing D position slot i
-    → Stepping D n position s q memory row p slot i
-steps D n position s q memory row p slot i h u a r =
-    let l : slot < D = ring-low D position slot i r in
+  pub take-turn : (s : Settings) → D ≡ depth s → n ≡ nMux s → (d count m : ℕ) (row : List ℤ) (memory : List ℕ) → at + p < length memory → d ≡ i % D
+      → takenFrom s position count row (2 * i) (suc (suc m)) memory
+      ≡ takenFrom s position count row (2 * (i + 1)) m (withCell d count row (2 * i) memory (at + p))
+  take-turn s u v d count m row memory l g =
+      rw (w .at-is) (take-slot D n position (slotBefore D position (i % D)) p i refl e s u v d count m row memory (rw (w .at-is) at l) g)
+
+-- The table of places that a row goes by.
+pub record ByPlaces (n : ℕ) (order : List ℕ) : Type 0 where
+  pub room : n ≤ length order
+  pub place-is : (i : ℕ) → i < n → getD order i 0 ≡ place 5 n i
+
+pub by-places : (s : Settings) (n : ℕ) (order : List ℕ) → n ≡ nMux s → RowOrder s order → ByPlaces n order
+unfolding places
+by-places s n order e h =
     record {
-      fits = h;
-      upto = u;
-      along = a;
-      ring = r;
-      slot-low = l;
-      cell-in = cell-within D n slot p (length memory) l (a .steps .low) (h .slots);
+      room = omega (arith, e, h .room);
+      place-is = λ i l.
+          let m = nMux s in
+          sym (getD-take m order i 0 (omega (arith, e, l, h .room))) ∙ ap (λ (x : List ℕ). getD x i 0) (h .order-is) ∙ getD-table 0 (place 5 m) m i (omega (arith, e, l)) ∙ rw e;
     }
 
-pub stepping-start : (D n position s q : ℕ) (memory : List ℕ) (row : List ℤ) → RowFits D n position memory row → s ≡ size n → q ≡ s / 4 - 1
-    → Stepping D n position s q memory row 0 position 0
-stepping-start D n position s q memory row h e f =
-    steps D n position s q memory row 0 position 0 h (omega arith)
-    (along-start 5 n s q (row-interleaves D n position memory row h) e f)
-    (ring-start D position (h .within))
+-- Such a table can be made, and is one then.
+module _ (s : Settings) (n : ℕ) (out : List ℕ) (h : RowRoom s out) (e : n ≡ nMux s) where
+  pub places-room : Tabulates 5 n (take (n + 1 - 0) out)
+  places-room =
+      let b = h .settings .ranges in
+      record {
+        fits = record { cycles = record { low = omega (arith, e, b .muxLeast); factor = refl }; high = omega (arith, e, b .muxMost); small = omega arith };
+        room = length-start (n + 1) out (omega (arith, e, h .room));
+      }
 
-pub stepping-turn : (D n position s q : ℕ) (memory : List ℕ) (row : List ℤ) (p slot i p′ slot′ : ℕ) → Stepping D n position s q memory row p slot i → i < n
-    → p′ ≡ nextPlace 5 n p → slot′ ≡ previous D slot → Stepping D n position s q memory row p′ slot′ (i + 1)
-stepping-turn D n position s q memory row p slot i p′ slot′ w h e g =
-    steps D n position s q memory row p′ slot′ (i + 1) (w .fits) (omega arith)
-    (along-turn 5 n s q p i p′ (w .along) e)
-    (ring-turn D position slot i slot′ (w .ring) g)
+  pub row-ordered : (made : List ℕ) → made ≡ places 5 n ++ (0 ∷ []) → RowOrder s (made ++ drop (n + 1 - 0) out)
+  unfolding places
+  row-ordered made f =
+      let l : length (places 5 n) ≡ n = length-table (place 5 n) 0 n in
+      record {
+        room = rw (length-append, f, length-append) (omega (arith, l, e));
+        order-is = rw (← e, f, append-assoc) (take-at (places 5 n) ((0 ∷ []) ++ drop (n + 1 - 0) out) n l);
+      }
+
+-- What a loop over the cells of a row holds in turn i: the slot of cell i begins at a place of memory.
+pub record Stepping (D n position last : ℕ) (order memory : List ℕ) (row : List ℤ) (at i : ℕ) : Type 0 where
+  pub fits : RowFits D n position memory row
+  pub order-is : ByPlaces n order
+  pub last-is : last ≡ (D - 1) * n
+  pub upto : i ≤ n
+  pub ring : InRing D n position at i
+
+-- Cell i of a row stands within memory.
+pub record CellThere (n : ℕ) (order memory : List ℕ) (at i : ℕ) : Type 0 where
+  pub listed : i < length order
+  pub place-is : getD order i 0 ≡ place 5 n i
+  pub cell-in : at + getD order i 0 < length memory
+
+module _ {D n position last : ℕ} {order memory : List ℕ} {row : List ℤ} where
+  pub stepping-start : RowFits D n position memory row → ByPlaces n order → last ≡ (D - 1) * n → Stepping D n position last order memory row (position * n) 0
+  stepping-start h o l = record { fits = h; order-is = o; last-is = l; upto = omega arith; ring = ring-start D n position (h .within) }
+
+  module _ {at i : ℕ} (w : Stepping D n position last order memory row at i) (h : i < n) where
+    pub cell-there : CellThere n order memory at i
+    cell-there =
+        let e = w .order-is .place-is i h in
+        let c : Cycles 5 n = record { low = w .fits .low; factor = refl } in
+        record {
+          listed = omega (arith, h, w .order-is .room);
+          place-is = e;
+          cell-in = omega (arith, e, place-low 5 n c i, ring-low D n position at i (length memory) (w .ring) (w .fits .slots));
+        }
+
+    pub cell-fits : {now : List ℕ} → length now ≡ length memory → CellFits row (2 * i) now (at + getD order i 0)
+    cell-fits e = record { whence = omega (arith, h, w .fits .numbers); room = omega (arith, e, cell-there .cell-in) }
+
+    pub stepping-turn : (r : ℕ) → r ≡ previous n last at → Stepping D n position last order memory row r (i + 1)
+    stepping-turn r e =
+        record {
+          fits = w .fits;
+          order-is = w .order-is;
+          last-is = w .last-is;
+          upto = omega arith;
+          ring = ring-turn D n position last at i r (omega arith) (w .last-is) (w .ring) e;
+        }
 
 -- A row that is sent up to its end is the whole row.
 pub send-end : (s : Settings) (D n position i : ℕ) (memory : List ℕ) (d out : List ℤ) → D ≡ depth s → n ≡ nMux s → length d ≡ 2 * n → i ≤ n → n ≤ i
@@ -218,18 +277,18 @@ module _ (D n position count : ℕ) (row : List ℤ) (whole : List ℕ) where
   leading-start s u v h =
       record { of = s; depth-is = u; cells-are = v; long = refl; delayed = delay-start D (omega arith); leads = rw sub-zero }
 
-  pub leading-turn : (p slot i d d′ : ℕ) (memory m : List ℕ) → slot * n + p < length whole → InRing D position slot i → p ≡ place 5 n i → i < n
-      → Leading D n position count row whole d i memory → m ≡ withCell d count row (2 * i) memory (slot * n + p)
+  pub leading-turn : (p at i d d′ : ℕ) (memory m : List ℕ) → at + p < length whole → InRing D n position at i → p ≡ place 5 n i → i < n
+      → Leading D n position count row whole d i memory → m ≡ withCell d count row (2 * i) memory (at + p)
       → d′ ≡ later D d → Leading D n position count row whole d′ (i + 1) m
-  leading-turn p slot i d d′ memory m b w e h l g f =
+  leading-turn p at i d d′ memory m b w e h l g f =
       let a : 2 * n - 2 * i ≡ suc (suc (2 * n - 2 * (i + 1))) = omega arith in
       record {
         of = l .of;
         depth-is = l .depth-is;
         cells-are = l .cells-are;
-        long = ap length g ∙ length-cell d count row (2 * i) memory (slot * n + p) ∙ l .long;
+        long = ap length g ∙ length-cell d count row (2 * i) memory (at + p) ∙ l .long;
         delayed = delay-turn D d i d′ (l .delayed) f;
-        leads = rw g (sym (rw a (take-turn D n position slot p i w e (l .of) (l .depth-is) (l .cells-are) d count (2 * n - 2 * (i + 1)) row memory (omega (arith, b, l .long)) (l .delayed .delay-is))) ∙ l .leads);
+        leads = rw g (sym (rw a (take-turn D n position at p i w e (l .of) (l .depth-is) (l .cells-are) d count (2 * n - 2 * (i + 1)) row memory (omega (arith, b, l .long)) (l .delayed .delay-is))) ∙ l .leads);
       }
 
   pub leading-end : (s : Settings) (d i : ℕ) (memory : List ℕ) → D ≡ depth s → n ≡ nMux s → i ≤ n → n ≤ i → Leading D n position count row whole d i memory

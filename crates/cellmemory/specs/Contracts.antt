@@ -1,14 +1,17 @@
 -- What the functions of this crate require and promise: nothing of 01 is stated here.
-use Prim.Native.Nat.{ℕ, _+_, _-_, _*_, _<_}
+use Prim.Native.Nat.{ℕ, _+_, _-_, _*_, _≤_, _<_}
 use mathlib.Core.Path.{_≡_}
 use mathlib.Core.Bool.{cond}
 use mathlib.Core.List.{List, [], _∷_}
-use lib.ListN.{length, getD, set}
+use lib.ListN.{length, getD, set, take}
 use lib.IntN.{ℤ, pos, negsuc}
-use lib.Dec.{eqb, leb}
+use lib.Dec.{eqb, leb, ltb}
+use Rattle.settings.specs.declared.Settings.{Settings}
+use Rattle.settings.specs.Accepted.{Accepted}
 use Rattle.settings.specs.Lengths.{nMux}
 use Rattle.settings.specs.Sizes.{depth}
 use Rattle.cellbytes.specs.CellBytes.{cellByte, realOf, imaginaryOf}
+use Rattle.interleaver.specs.Tables.{places}
 use Rattle.channels.specs.Scheme.{SchemeAccepted}
 use Rattle.superframe.specs.declared.State.{State}
 use Rattle.superframe.specs.Memory.{slotSize}
@@ -27,13 +30,23 @@ pub record RowLent (state : State) (memory : List ℕ) (row : List ℤ) : Type 0
   pub fits : StateFits state memory
   pub long : length row ≡ slotSize (state .scheme .settings)
 
+-- Room for the places of a row's cells, and one number more.
+pub record RowRoom (s : Settings) (out : List ℕ) : Type 0 where
+  pub settings : Accepted s
+  pub room : nMux s < length out
+
+-- The places of a row's cells: cell i of a row is cell P(i) of its frame.
+pub record RowOrder (s : Settings) (order : List ℕ) : Type 0 where
+  pub room : nMux s ≤ length order
+  pub order-is : take (nMux s) order ≡ places 5 (nMux s)
+
 -- The state after a frame: of a progress, position and count don't depend on memory.
 abbrev pub nextState : State → State
 nextState state = stateOf (state .scheme) (advanced (depth (state .scheme .settings)) [] (progressOf state []))
 
--- The slot before a slot; before the first comes the last.
-unfoldable pub previous : ℕ → ℕ → ℕ
-previous D slot = cond (eqb slot 0) (D - 1) (slot - 1)
+-- Where the slot of n cells before a slot begins, of where the slot begins; before the first comes the last.
+unfoldable pub previous : ℕ → ℕ → ℕ → ℕ
+previous n last at = cond (ltb at n) last (at - n)
 
 -- The delay after a delay.
 unfoldable pub later : ℕ → ℕ → ℕ

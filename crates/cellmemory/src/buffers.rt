@@ -8,3 +8,10 @@ pub fn memory_buffer() -> [u8; 5 * MOST_CELLS]
 {
     [0u8; 5 * MOST_CELLS]
 }
+
+// Room for the places of a row's cells, and one number more.
+pub fn row_buffer() -> [u16; MOST_CELLS + 1]
+    ensures { λ r. ⌜ Long 6119 r ⌝ }
+{
+    [0u16; MOST_CELLS + 1]
+}

@@ -2,9 +2,7 @@
 use cellbytes::cells::cell_byte;
 use cellbytes::cells::imaginary;
 use cellbytes::cells::real;
-use interleaver::order::next_place;
-use interleaver::order::offset_of;
-use interleaver::order::size_of;
+use interleaver::table::make_places;
 use settings::Settings;
 use settings::answers;
 use settings::tables;
@@ -17,7 +15,7 @@ ghost use Rattle.settings.specs.Sizes.{depth};
 ghost use Rattle.superframe.specs.Memory.{slotSize};
 ghost use Rattle.superframe.specs.Interleaving.{sentRow, taken};
 ghost use Rattle.superframe.specs.Code.{progressOf};
-ghost use Rattle.cellmemory.specs.Contracts.{RowLent, CellFits, nextState, previous, later, cellPut, withCell};
+ghost use Rattle.cellmemory.specs.Contracts.{RowLent, RowRoom, RowOrder, CellFits, nextState, previous, later, cellPut, withCell};
 
 // The multiplication of the cell interleaver: t = 5.
 const T: usize = 5;
@@ -30,15 +28,14 @@ pub fn slot_size(s: Settings) -> usize
     2 * tables::n_mux(s.mode, s.occupancy)
 }
 
-// The slot before a slot; before the first comes the last.
-fn previous_slot(depth: usize, slot: usize) -> usize
-    requires { ⌜ slot < depth ⌝ }
-    ensures { λ r. ⌜ r ≡ previous depth slot ⌝ }
+// Where the slot before a slot begins, of the place in memory where the slot begins; before the first comes the last.
+fn slot_before(n: usize, last: usize, at: usize) -> usize
+    ensures { λ r. ⌜ r ≡ previous n last at ⌝ }
 {
-    if slot == 0 {
-        return depth - 1;
+    if at < n {
+        return last;
     }
-    slot - 1
+    at - n
 }
 
 // One more, 0 after the last: the delay of the next cell, the slot of the next frame.
@@ -79,6 +76,15 @@ pub fn next_state(state: State) -> State
     }
 }
 
+// The places of a row's cells: a super frame's three rows have the same.
+pub fn row_places(s: Settings, out: &mut [u16])
+    requires { ⌜ RowRoom s (now out) ⌝ }
+    ensures { λ r. ⌜ RowOrder s (now (out .exit)) ⌝ }
+{
+    let n = tables::n_mux(s.mode, s.occupancy);
+    make_places(T, n, &mut out[0..n + 1]);
+}
+
 // A cell's two numbers put into a row.
 fn send_cell(b: u8, row: &mut [i16], at: usize)
     requires { ⌜ at + 1 < length (now row) ⌝ }
@@ -89,22 +95,21 @@ fn send_cell(b: u8, row: &mut [i16], at: usize)
 }
 
 // The sent cells of a frame whose own cells stand in memory at the position: what memory holds, whatever the count.
-pub fn send_row(state: State, memory: &[u8], out: &mut [i16])
-    requires { ⌜ RowLent state (now memory) (now out) ⌝ }
+pub fn send_row(state: State, places: &[u16], memory: &[u8], out: &mut [i16])
+    requires { ⌜ RowLent state (now memory) (now out) × RowOrder (state .scheme .settings) (now places) ⌝ }
     ensures { λ r. ⌜ now (out .exit) ≡ sentRow (state .scheme .settings) (now (memory .entry)) (state .position) ⌝ }
 {
     let settings = state.scheme.settings;
     let depth = answers::depth(settings);
     let n = tables::n_mux(settings.mode, settings.occupancy);
-    let s = size_of(n);
-    let q = offset_of(s);
-    let mut place = 0;
-    let mut slot = state.position as usize;
+    let position = state.position as usize;
+    let last = (depth - 1) * n;
+    let mut at = position * n;
     let mut i = 0;
     while i < n {
-        send_cell(memory[slot * n + place], out, 2 * i);
-        place = next_place(T, n, s, q, place);
-        slot = previous_slot(depth, slot);
+        let p = places[i] as usize;
+        send_cell(memory[at + p], out, 2 * i);
+        at = slot_before(n, last, at);
         i += 1;
     }
 }
@@ -121,24 +126,23 @@ fn take_cell(delay: usize, count: usize, row: &[i16], k: usize, memory: &mut [u8
 }
 
 // The numbers of a row put where the coder took them.
-pub fn take_row(state: State, row: &[i16], memory: &mut [u8])
-    requires { ⌜ RowLent state (now memory) (now row) ⌝ }
+pub fn take_row(state: State, places: &[u16], row: &[i16], memory: &mut [u8])
+    requires { ⌜ RowLent state (now memory) (now row) × RowOrder (state .scheme .settings) (now places) ⌝ }
     ensures { λ r. ⌜ now (memory .exit) ≡ taken (state .scheme .settings) (progressOf state (now (memory .entry))) (now (row .entry)) ⌝ }
 {
     let settings = state.scheme.settings;
     let depth = answers::depth(settings);
     let n = tables::n_mux(settings.mode, settings.occupancy);
     let count = state.count as usize;
-    let s = size_of(n);
-    let q = offset_of(s);
-    let mut place = 0;
-    let mut slot = state.position as usize;
+    let position = state.position as usize;
+    let last = (depth - 1) * n;
+    let mut at = position * n;
     let mut delay = 0;
     let mut i = 0;
     while i < n {
-        take_cell(delay, count, row, 2 * i, memory, slot * n + place);
-        place = next_place(T, n, s, q, place);
-        slot = previous_slot(depth, slot);
+        let p = places[i] as usize;
+        take_cell(delay, count, row, 2 * i, memory, at + p);
+        at = slot_before(n, last, at);
         delay = next_modulo(depth, delay);
         i += 1;
     }

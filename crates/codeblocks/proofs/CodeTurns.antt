@@ -33,7 +33,7 @@ use Rattle.superframe.specs.Interleaving.{Progress, advanced, afterFrames, sent
 use Rattle.superframe.specs.Call.{part, parts}
 use Rattle.superframe.specs.Code.{frameCells, progressOf, stateOf}
 use Rattle.superframe.proofs.Memory.{slot-before, length-stored}
-use Rattle.cellmemory.specs.Contracts.{StateFits, RowLent, nextState, fillerNumbers}
+use Rattle.cellmemory.specs.Contracts.{StateFits, RowLent, RowOrder, nextState, fillerNumbers}
 use Rattle.cellmemory.proofs.Laid.{put-sets, take-sets, part-within, part-below, part-is, length-mid}
 use Rattle.cellmemory.proofs.Progress.{next-fits}
 use Rattle.codeblocks.specs.Contracts.{frameStored, FrameFits, FrameCoded, MscFits, MscCoded, framesAfter, framesSent}
@@ -167,6 +167,10 @@ module _ (state : State) (msc : List ℕ) (memory₀ : List ℕ) (cells₀ : Lis
     settings-are : after .scheme .settings ≡ state .scheme .settings
     unfolding stateOf
     settings-are = ap (λ (x : State). x .scheme .settings) (w .state-is)
+
+    -- and so has every row
+    pub coding-rows : {order : List ℕ} → RowOrder (state .scheme .settings) order → RowOrder (after .scheme .settings) order
+    coding-rows O = rw settings-are O
 
     pub coding-fits : i < 3 → FrameFits after (take (len * i + len - len * i) (drop (len * i) msc)) memory (take (n * i + n - n * i) (drop (n * i) cells))
     coding-fits h =

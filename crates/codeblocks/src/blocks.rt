@@ -3,8 +3,10 @@ use block::buffers::coordinate_buffer;
 use blockcoder::code::code_block;
 use blockcoder::code::code_ordered;
 use cellbytes::cells::to_bytes;
+use cellmemory::buffers::row_buffer;
 use cellmemory::fillers::write_fillers;
 use cellmemory::rows::next_state;
+use cellmemory::rows::row_places;
 use cellmemory::rows::send_row;
 use cellmemory::rows::slot_size;
 use channels::Scheme;
@@ -23,7 +25,7 @@ ghost use lib.ListN.{length};
 ghost use Rattle.block.specs.Block.{cellsFrom};
 ghost use Rattle.patterns.specs.Loaded.{Allowed};
 ghost use Rattle.settings.specs.Sizes.{frameBytes};
-ghost use Rattle.cellmemory.specs.Contracts.{StateFits};
+ghost use Rattle.cellmemory.specs.Contracts.{StateFits, RowOrder};
 ghost use Rattle.channels.specs.Fac.{facBlock};
 ghost use Rattle.channels.specs.Msc.{mscBlock};
 ghost use Rattle.multilevel.specs.Contracts.{BlockOrder};
@@ -60,17 +62,24 @@ fn store_frame(state: State, places: &[u16], bytes: &[u8], memory: &mut [u8])
     to_bytes(&frame[0..n], &mut memory[at..at + n / 2]);
 }
 
-// The same, and the row that is sent then.
-fn code_frame(state: State, places: &[u16], bytes: &[u8], memory: &mut [u8], row: &mut [i16])
+// The same, and the row that is sent then, by the places of its cells.
+fn code_frame(
+    state: State,
+    places: &[u16],
+    rowplaces: &[u16],
+    bytes: &[u8],
+    memory: &mut [u8],
+    row: &mut [i16],
+)
     requires { ⌜ FrameFits state (now bytes) (now memory) (now row) ⌝ }
-    requires { ⌜ BlockOrder (mscBlock (state .scheme)) (now places) ⌝ }
+    requires { ⌜ BlockOrder (mscBlock (state .scheme)) (now places) × RowOrder (state .scheme .settings) (now rowplaces) ⌝ }
     ensures { λ r. ⌜ FrameCoded state (now (bytes .entry)) (now (memory .entry)) (now (memory .exit)) (now (row .exit)) ⌝ }
 {
     store_frame(state, places, bytes, memory);
-    send_row(state, memory, row);
+    send_row(state, rowplaces, memory, row);
 }
 
-// The MSC sequence, three rows and the fillers, and the state after it. The three frames have the same places.
+// The MSC sequence, three rows and the fillers, and the state after it. One table of places for the frames, and one for the rows.
 pub fn code_msc(state: State, msc: &[u8], memory: &mut [u8], cells: &mut [i16]) -> State
     requires { ⌜ MscFits state (now msc) (now memory) (now cells) ⌝ }
     ensures { λ r. ⌜ MscCoded state (now (msc .entry)) (now (memory .entry)) r (now (memory .exit)) (now (cells .exit)) ⌝ }
@@ -80,12 +89,15 @@ pub fn code_msc(state: State, msc: &[u8], memory: &mut [u8], cells: &mut [i16]) 
     let bytes = answers::frame_bytes(s);
     let mut places = place_buffer();
     block_places(msc_block(state.scheme), &mut places);
+    let mut rowplaces = row_buffer();
+    row_places(s, &mut rowplaces);
     let mut after = state;
     let mut i = 0;
     while i < 3 {
         code_frame(
             after,
             &places,
+            &rowplaces,
             &msc[bytes * i..bytes * i + bytes],
             memory,
             &mut cells[n * i..n * i + n],

@@ -48,7 +48,7 @@ use Rattle.lists.specs.Bytes.{bytesFor}
 use Rattle.settings.specs.Formulas.{roundUp}
 use Rattle.settings.specs.Accepted.{Accepted}
 use Rattle.superframe.proofs.Memory.{slot-before}
-use Rattle.cellmemory.specs.Contracts.{StateFits, RowLent, nextState}
+use Rattle.cellmemory.specs.Contracts.{StateFits, RowLent, RowOrder, nextState}
 use Rattle.cellmemory.proofs.Ring.{slot-near, slot-far}
 use Rattle.cellmemory.proofs.Laid.{part-is, part-within, part-below, length-mid}
 use Rattle.cellmemory.proofs.Progress.{next-fits, memory-most}
@@ -336,6 +336,9 @@ module _ (state : State) (msc : List ℤ) (memory₀ out₀ : List ℕ) (n : ℕ
     pub row-order : {order : List ℕ} → BlockOrder (mscBlock (state .scheme)) order → BlockOrder (mscBlock (after .scheme)) order
     unfolding stateOf
     row-order O = let e : after .scheme ≡ state .scheme = ap (λ (x : State). x .scheme) (w .state-is) in rw e O
+
+    pub row-rows : {order : List ℕ} → RowOrder (state .scheme .settings) order → RowOrder (after .scheme .settings) order
+    row-rows O = rw settings-are O
 
     -- Row i lies within the cells, and can be taken.
     pub row-within : i < 3 → n * i + n ≤ length msc

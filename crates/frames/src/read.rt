@@ -5,7 +5,9 @@ use block::buffers::coordinate_buffer;
 use blockcoder::Found;
 use blockcoder::read::read_ordered;
 use cellbytes::cells::to_numbers;
+use cellmemory::buffers::row_buffer;
 use cellmemory::rows::next_state;
+use cellmemory::rows::row_places;
 use cellmemory::rows::slot_size;
 use cellmemory::rows::take_row;
 use channels::Scheme;
@@ -89,7 +91,7 @@ fn read_finished(frames: Frames, places: &[u16], memory: &[u8], out: &mut [u8]) 
     }
 }
 
-// Three rows taken into memory, and each frame that they finish read right after its row: the next row overwrites its slot. The frames have the same places.
+// Three rows taken into memory, and each frame that they finish read right after its row: the next row overwrites its slot. One table of places for the rows, and one for the frames.
 pub fn read_rows(state: State, msc: &[i16], memory: &mut [u8], out: &mut [u8]) -> Frames
     requires { ⌜ RowsLent state (now msc) (now memory) (now out) ⌝ }
     ensures { λ r. ⌜ RowsRead state (now (msc .entry)) (now (memory .entry)) r (now (memory .exit)) (now (out .exit)) ⌝ }
@@ -97,6 +99,8 @@ pub fn read_rows(state: State, msc: &[i16], memory: &mut [u8], out: &mut [u8]) -
     let n = slot_size(state.scheme.settings);
     let mut places = place_buffer();
     block_places(msc_block(state.scheme), &mut places);
+    let mut rowplaces = row_buffer();
+    row_places(state.scheme.settings, &mut rowplaces);
     let mut frames = Frames {
         given: [true; 3],
         finished: 0,
@@ -104,7 +108,7 @@ pub fn read_rows(state: State, msc: &[i16], memory: &mut [u8], out: &mut [u8]) -
     };
     let mut i = 0;
     while i < 3 {
-        take_row(frames.after, &msc[n * i..n * i + n], memory);
+        take_row(frames.after, &rowplaces, &msc[n * i..n * i + n], memory);
         frames = read_finished(frames, &places, memory, out);
         i += 1;
     }
