@@ -10,11 +10,13 @@ use dispersal::parts::unpack_parts;
 use multilevel::code::code_levels;
 use multilevel::places::bit_count;
 use multilevel::places::bits_before;
+use multilevel::tables::SMALL_CELLS;
 use multilevel::tables::block_places;
 use multilevel::tables::place_buffer;
+use multilevel::tables::small_place_buffer;
 ghost use mathlib.Core.Path.{_≡_};
 ghost use mathlib.Core.Bool.{true, false};
-ghost use Prim.Native.Nat.{_*_};
+ghost use Prim.Native.Nat.{_*_, _≤_};
 ghost use Rattle.block.specs.Levels.{streams};
 ghost use Rattle.block.specs.Mapping.{mapped, woven};
 ghost use Rattle.block.specs.Block.{levelsOf, pointsOf, oneAxis, cellsFrom};
@@ -85,11 +87,25 @@ pub fn code_ordered(k: Block, places: &[u16], bytes: &[u8], out: &mut [i16])
     code_streams(k, places, &bits[0..total], out);
 }
 
+// The same of a small block, with places of its own.
+fn code_small(k: Block, bytes: &[u8], out: &mut [i16])
+    requires { ⌜ BlockLent k (now bytes) (now out) × (k .cells ≤ 846) ⌝ }
+    ensures { λ r. ⌜ now (out .exit) ≡ cellsFrom k (now (bytes .entry)) ⌝ }
+{
+    let mut places = small_place_buffer();
+    block_places(k, &mut places);
+    code_ordered(k, &places, bytes, out);
+}
+
 // The packed bytes of a block to its cells, with places of its own.
 pub fn code_block(k: Block, bytes: &[u8], out: &mut [i16])
     requires { ⌜ BlockLent k (now bytes) (now out) ⌝ }
     ensures { λ r. ⌜ now (out .exit) ≡ cellsFrom k (now (bytes .entry)) ⌝ }
 {
+    if k.cells <= SMALL_CELLS {
+        code_small(k, bytes, out);
+        return;
+    }
     let mut places = place_buffer();
     block_places(k, &mut places);
     code_ordered(k, &places, bytes, out);

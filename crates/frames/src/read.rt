@@ -3,6 +3,7 @@ use crate::Frames;
 use block::Block;
 use block::buffers::coordinate_buffer;
 use blockcoder::Found;
+use blockcoder::read::read_block;
 use blockcoder::read::read_ordered;
 use cellbytes::cells::to_numbers;
 use cellmemory::buffers::row_buffer;
@@ -40,9 +41,11 @@ pub fn read_given(k: Block, cells: &[i16], bytes: &mut [u8]) -> bool
     requires { ⌜ BlockLent k (now bytes) (now cells) ⌝ }
     ensures { λ r. ⌜ GivenRead k (now (cells .entry)) (now (bytes .entry)) r (now (bytes .exit)) ⌝ }
 {
-    let mut places = place_buffer();
-    block_places(k, &mut places);
-    given_ordered(k, &places, cells, bytes)
+    let found = read_block(k, cells, bytes);
+    if let Found::Given = found {
+        return true;
+    }
+    false
 }
 
 // The same of a frame whose cells stand in a slot of memory, by the places lent.

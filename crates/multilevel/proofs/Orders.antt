@@ -216,15 +216,18 @@ module _ {k : Block} {d : List ℕ} (R : BlockPlaces k d) {n s : ℕ} (e : n ≡
       go true o = rw (f, o) (omega (arith, h, digits-are, many true o))
       go false o = rw (f, o) (omega (arith, h, digits-are, many false o))
 
-  pub places-low : (i : ℕ) → i < k .count / s → (i * n + n ≤ 36708) × (n ≤ 12236)
-  places-low i h = go (oneAxis k) refl
+  wide : n ≤ 2 * k .cells
+  wide = go (oneAxis k) e
     where
-      below : (m : ℕ) → n ≤ m → suc i * n ≤ 3 * m
-      below m g = mul-le-mul {n₂ = 3} {m₂ = m} (turns-low i h) g
+      go : (b : Bool) → n ≡ cond b (k .cells) (2 * k .cells) → n ≤ 2 * k .cells
+      go true g = omega (arith, g)
+      go false g = omega (arith, g)
 
-      go : (b : Bool) → oneAxis k ≡ b → (i * n + n ≤ 36708) × (n ≤ 12236)
-      go true o = let g : n ≡ k .cells = rw o at e in let m : n ≤ 12236 = omega (arith, g, R .fits .most) in (omega (arith, below 12236 m, suc-mul i n), m)
-      go false o = let g : n ≡ 2 * k .cells = rw o at e in let m : n ≤ 12236 = omega (arith, g, R .fits .most) in (omega (arith, below 12236 m, suc-mul i n), m)
+  pub room-low : (i : ℕ) → i < k .count / s → i * n + n ≤ 6 * k .cells
+  room-low i h = omega (arith, mul-le-mul {n₂ = 3} {m₂ = 2 * k .cells} (turns-low i h) wide, suc-mul i n)
+
+  pub places-low : (i : ℕ) → i < k .count / s → (i * n + n ≤ 36708) × (n ≤ 12236)
+  places-low i h = (omega (arith, room-low i h, R .fits .most), omega (arith, wide, R .fits .most))
 
   -- a level's order is that of its digit
   digit-low : (l : ℕ) → l < k .count → digitAt (oneAxis k) l < k .count / s
@@ -252,7 +255,7 @@ module _ {k : Block} {d : List ℕ} (R : BlockPlaces k d) {n s : ℕ} (e : n ≡
   module _ {out : List ℕ} {i : ℕ} (T : Tabled (firstLevel (k .levels) s) n d out i) where
     -- what making the next digit's requires
     pub next-room : i < k .count / s → i * n + n < length out
-    next-room h = omega (arith, places-low i h .0, T .long, R .room)
+    next-room h = omega (arith, room-low i h, T .long, R .room)
 
     pub level-places : i < k .count / s → LevelPlaces n (firstLevel (k .levels) s i) (take (i * n + n + 1 - i * n) (drop (i * n) out))
     level-places h =
@@ -270,6 +273,6 @@ module _ {k : Block} {d : List ℕ} (R : BlockPlaces k d) {n s : ℕ} (e : n ≡
               let q : t ≡ n = g ∙ sym e in
               let j : ℕ = digitAt (oneAxis k) l in
               let b : j < k .count / s = digit-low l m in
-              let r : j * n + n ≤ length out = omega (arith, places-low j b .0, T .long, R .room) in
+              let r : j * n + n ≤ length out = omega (arith, room-low j b, T .long, R .room) in
               rw q (r, own-order l m (rw (length-take, length-drop) (omega arith)) (T .done j (omega arith)));
         }

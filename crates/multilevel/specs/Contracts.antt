@@ -261,7 +261,7 @@ pub record LevelPlaces (n : ℕ) (l : Level) (out : List ℕ) : Type 0 where
   pub high : n ≤ 12236
   pub room : length out ≡ n + 1
 
--- The same of a block's levels.
+-- The same of a block's levels: at most six coded bits a cell.
 pub record BlockPlaces (k : Block) (out : List ℕ) : Type 0 where
   pub fits : BlockFits k
-  pub room : 36709 ≤ length out
+  pub room : 6 * k .cells < length out

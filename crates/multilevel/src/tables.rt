@@ -26,6 +26,19 @@ pub fn place_buffer() -> [u16; MOST_PLACES]
     [0u16; MOST_PLACES]
 }
 
+// The most cells of an SDC block, of mode A with occupancy 5; an FAC block has fewer.
+pub const SMALL_CELLS: usize = 846;
+
+// A place for each coded bit of so many cells, and one number more.
+pub const SMALL_PLACES: usize = 6 * SMALL_CELLS + 1;
+
+// Room for the places of a small block: to clear that of the largest takes longer than to code an FAC block.
+pub fn small_place_buffer() -> [u16; SMALL_PLACES]
+    ensures { λ r. ⌜ Long 5077 r ⌝ }
+{
+    [0u16; SMALL_PLACES]
+}
+
 // A part's places and a 0 after them, if it is interleaved.
 fn part_places(t: usize, n: usize, out: &mut [u16])
     requires { ⌜ PartPlaces t n (now out) ⌝ }
