@@ -13,7 +13,6 @@ use mathlib.Core.Bool.{cond, Bool}
 use Rattle.block.specs.Mapping.{mapped, woven}
 use Rattle.blockcoder.specs.declared.Found.{Found}
 use Rattle.block.specs.Reading.{unmapped, inputsA, inputsB, given, bytesRead}
-use Rattle.blockcoder.specs.Contracts.{foundOf}
 use Rattle.mapping.specs.Contracts.{ThreeBits}
 use Rattle.blockcoder.specs.declared.Found.the-variants.{Given, NoBits}
 

@@ -17,14 +17,14 @@ use Rattle.interleaver.specs.Deinterleaving.{Cycles}
 use Rattle.interleaver.specs.Tables.{places, Tabulates}
 use Rattle.interleaver.proofs.Places.{place-low}
 use Rattle.lists.proofs.Tables.{Filled, filled-turn, filled-end, getD-table, length-table}
-use Rattle.lists.proofs.Parts.{length-start}
+use Rattle.lists.proofs.Parts.{from-start, length-start}
 use Rattle.settings.specs.declared.Settings.{Settings}
 use Rattle.settings.specs.Lengths.{nMux}
 use Rattle.settings.specs.Sizes.{depth}
 use Rattle.superframe.specs.declared.State.{State}
 use Rattle.superframe.specs.Memory.{slotSize, numberIn, withNumber, replaced}
 use Rattle.superframe.specs.Interleaving.{slotBefore, delay, sentPlace, sentRow, takenFrom}
-use Rattle.cellmemory.specs.Contracts.{previous, later, cellPut, withCell, CellFits, RowLent, RowRoom, RowOrder}
+use Rattle.cellmemory.specs.Contracts.{previous, later, cellPut, withCell, CellFits, RowLent, RowRoom, RowOrder, rowOver}
 use Rattle.cellmemory.proofs.Ring.{slot-zero, slot-below, later-mod, previous-later, slot-within, delay-even, delay-odd, place-even, place-odd}
 
 -- In turn i the slot of cell i begins at a place of memory.
@@ -205,6 +205,10 @@ module _ (s : Settings) (n : ℕ) (out : List ℕ) (h : RowRoom s out) (e : n �
         room = rw (length-append, f, length-append) (omega (arith, l, e));
         order-is = rw (← e, f, append-assoc) (take-at (places 5 n) ((0 ∷ []) ++ drop (n + 1 - 0) out) n l);
       }
+
+  pub row-over : (made : List ℕ) → made ≡ places 5 n ++ (0 ∷ []) → made ++ drop (n + 1 - 0) out ≡ rowOver s out
+  unfolding rowOver
+  row-over made f = rw (← e, from-start (n + 1)) (ap (λ m. m ++ drop (n + 1) out) f)
 
 -- What a loop over the cells of a row holds in turn i: the slot of cell i begins at a place of memory.
 pub record Stepping (D n position last : ℕ) (order memory : List ℕ) (row : List ℤ) (at i : ℕ) : Type 0 where

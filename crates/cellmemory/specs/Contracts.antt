@@ -2,8 +2,8 @@
 use Prim.Native.Nat.{ℕ, _+_, _-_, _*_, _≤_, _<_}
 use mathlib.Core.Path.{_≡_}
 use mathlib.Core.Bool.{cond}
-use mathlib.Core.List.{List, [], _∷_}
-use lib.ListN.{length, getD, set, take}
+use mathlib.Core.List.{List, [], _∷_, _++_}
+use lib.ListN.{length, getD, set, take, drop}
 use lib.IntN.{ℤ, pos, negsuc}
 use lib.Dec.{eqb, leb, ltb}
 use Rattle.settings.specs.declared.Settings.{Settings}
@@ -34,6 +34,10 @@ pub record RowLent (state : State) (memory : List ℕ) (row : List ℤ) : Type 0
 pub record RowRoom (s : Settings) (out : List ℕ) : Type 0 where
   pub settings : Accepted s
   pub room : nMux s < length out
+
+-- What making a row's table leaves in its room: its places, a 0, and what stood behind.
+unfoldable pub rowOver : Settings → List ℕ → List ℕ
+rowOver s out = (places 5 (nMux s) ++ (0 ∷ [])) ++ drop (nMux s + 1) out
 
 -- The places of a row's cells: cell i of a row is cell P(i) of its frame.
 pub record RowOrder (s : Settings) (order : List ℕ) : Type 0 where

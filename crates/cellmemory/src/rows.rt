@@ -15,7 +15,7 @@ ghost use Rattle.settings.specs.Sizes.{depth};
 ghost use Rattle.superframe.specs.Memory.{slotSize};
 ghost use Rattle.superframe.specs.Interleaving.{sentRow, taken};
 ghost use Rattle.superframe.specs.Code.{progressOf};
-ghost use Rattle.cellmemory.specs.Contracts.{RowLent, RowRoom, RowOrder, CellFits, nextState, previous, later, cellPut, withCell};
+ghost use Rattle.cellmemory.specs.Contracts.{RowLent, RowRoom, RowOrder, rowOver, CellFits, nextState, previous, later, cellPut, withCell};
 
 // The multiplication of the cell interleaver: t = 5.
 const T: usize = 5;
@@ -80,6 +80,7 @@ pub fn next_state(state: State) -> State
 pub fn row_places(s: Settings, out: &mut [u16])
     requires { ⌜ RowRoom s (now out) ⌝ }
     ensures { λ r. ⌜ RowOrder s (now (out .exit)) ⌝ }
+    ensures { λ r. ⌜ now (out .exit) ≡ rowOver s (now (out .entry)) ⌝ }
 {
     let n = tables::n_mux(s.mode, s.occupancy);
     make_places(T, n, &mut out[0..n + 1]);

@@ -1,5 +1,5 @@
 -- The places of a block's bits made level by level, and part by part. Assumes nothing.
-use Prim.Native.Nat.{ℕ, suc, _+_, _*_, _-_, _/_, _%_, _≤_, _<_}
+use Prim.Native.Nat.{ℕ, zero, suc, _+_, _*_, _-_, _/_, _%_, _≤_, _<_}
 use mathlib.Core.Path.{_≡_, refl, sym, ap, _∙_}
 use mathlib.Core.Logic.{_⊎_, inl, inr}
 use mathlib.Core.Bool.{Bool, true, false, cond}
@@ -8,7 +8,7 @@ use native.Mathlib.Nat.{suc-mul, mul-le-mul, eq-or-lt-of-le, le-of-suc-le-suc}
 use native.Mathlib.Numerals.{add-one}
 use native.Mathlib.Omega.{arith}
 use lib.ListN.{length, take, drop, length-take, length-drop, take-append-drop}
-use lib.Seq.{length-front, length-take-le, take-at, drop-at, take-append-le, take-append-add, drop-append-le, drop-length}
+use lib.Seq.{take-length, length-front, length-take-le, take-at, drop-at, take-append-le, take-append-add, drop-append-le, drop-length}
 use Rattle.lists.specs.Lists.{table}
 use Rattle.lists.proofs.Parts.{from-start, length-end, length-inside}
 use Rattle.lists.proofs.Counting.{below-or}
@@ -23,7 +23,7 @@ use Rattle.block.specs.Fits.{LevelFits, Alike}
 use Rattle.labels.specs.Contracts.{Ordered}
 use Rattle.labels.proofs.Mixing.{cycles}
 use Rattle.labels.proofs.Ordering.{places-length}
-use Rattle.multilevel.specs.Contracts.{digitAt, levelAt, LevelOrder, BlockOrder, PartPlaces, LevelPlaces, BlockPlaces}
+use Rattle.multilevel.specs.Contracts.{digitAt, levelAt, LevelOrder, BlockOrder, PartPlaces, LevelPlaces, BlockPlaces, partOver, levelOver, nextOver, tablesOver, blockOver}
 use Rattle.multilevel.proofs.Totals.{count-is, three, fits-level, pair-at}
 
 module _ {t n : ℕ} {out : List ℕ} (R : PartPlaces t n out) where
@@ -47,6 +47,25 @@ pub made-ordered : {t n : ℕ} {out : List ℕ} → out ≡ places t n ++ (0 ∷
 made-ordered {t} {n} {out} e =
     let f : take n out ≡ places t n = rw e (take-at (places t n) (0 ∷ []) n (places-length t n)) in
     record { long = rw f (places-length t n); order-is = λ p. f }
+
+-- what stands in the room of a part's table then
+pub plain-over : (t n : ℕ) (out : List ℕ) → t ≡ 0 → out ≡ partOver t n out
+unfolding partOver
+plain-over t n out e = rw e refl
+
+pub empty-over : (t n : ℕ) (out : List ℕ) → n ≡ 0 → out ≡ partOver t n out
+unfolding partOver
+empty-over t n out e = rw e (go t)
+  where
+    go : (t : ℕ) → out ≡ partOver t 0 out
+    go zero = refl
+    go (suc t) = refl
+
+pub made-over : (t n : ℕ) (out : List ℕ) → (t ≡ 0 → ⊥) → (n ≡ 0 → ⊥) → {made : List ℕ} → made ≡ places t n ++ (0 ∷ []) → made ≡ partOver t n out
+unfolding partOver
+made-over zero n out p q e = absurd (p refl)
+made-over (suc t) zero out p q e = absurd (q refl)
+made-over (suc t) (suc n) out p q e = e
 
 -- a buffer with the first front + 1 numbers written
 abbrev written : ℕ → List ℕ → List ℕ → List ℕ
@@ -111,13 +130,42 @@ module _ {n : ℕ} {l : Level} {out : List ℕ} (R : LevelPlaces n l out) {front
           rest = rw (← front-is, ← rest-is, drop-at (take front part) (take (n - front) rest) front long) B;
         })
 
+    -- and all that stands in its room
+    pub level-over : (rest : List ℕ) → part ≡ partOver (l .t) front (take (front + 1 - 0) out)
+        → rest ≡ partOver (l .t) (n - front) (take (length (written front part out) - front) (drop front (written front part out)))
+        → take front (written front part out) ++ (rest ++ drop (length (written front part out) - front) (drop front (written front part out))) ≡ levelOver (l .t) (sizeA l) n out
+    unfolding levelOver
+    level-over rest f g =
+        let w : List ℕ = written front part out in
+        let none : drop (length w - front) (drop front w) ≡ [] = rw (← length-drop front w) (drop-length (drop front w)) in
+        let all : take (length w - front) (drop front w) ≡ drop front w = rw (← length-drop front w) (take-length (drop front w)) in
+        let same : w ≡ partOver (l .t) (sizeA l) (take (sizeA l + 1) out) ++ drop (sizeA l + 1) out =
+        rw (← front-is, from-start (front + 1)) (ap (λ p. p ++ drop (front + 1) out) (rw (from-start (front + 1)) at f)) in
+        rw (none, append-nil rest, g, all) (rw (← front-is) (ap (λ v. take front v ++ partOver (l .t) (n - front) (drop front v)) (rw (← front-is) at same)))
+
 -- In turn l the levels before it have their places in order.
 pub record Tabled (level : ℕ → Level) (n : ℕ) (d out : List ℕ) (l : ℕ) : Type 0 where
+  pub over : out ≡ tablesOver level n l d
   pub long : length out ≡ length d
   pub done : (j : ℕ) → j < l → LevelOrder (level j) (take n (drop (j * n) out))
 
+tables-none : (level : ℕ → Level) (n : ℕ) (d : List ℕ) → d ≡ tablesOver level n 0 d
+unfolding tablesOver
+tables-none level n d = refl
+
+tables-next : (level : ℕ → Level) (n l : ℕ) (d out part : List ℕ) → out ≡ tablesOver level n l d
+    → part ≡ levelOver (level l .t) (sizeA (level l)) n (take (l * n + n + 1 - l * n) (drop (l * n) out))
+    → take (l * n) out ++ (part ++ drop (l * n + n + 1 - l * n) (drop (l * n) out)) ≡ tablesOver level n (l + 1) d
+unfolding tablesOver
+tables-next level n l d out part e f =
+    let one : l * n + n + 1 - l * n ≡ n + 1 = omega arith in
+    let new : take (l * n) out ++ (part ++ drop (l * n + n + 1 - l * n) (drop (l * n) out)) ≡ nextOver (level l) n (l * n) out = rw (f, one) refl in
+    let step : nextOver (level l) n (l * n) out ≡ tablesOver level n (suc l) d = ap (nextOver (level l) n (l * n)) e in
+    let count : suc l ≡ l + 1 = omega arith in
+    new ∙ (step ∙ ap (λ i. tablesOver level n i d) count)
+
 pub tabled-start : (level : ℕ → Level) (n : ℕ) (d : List ℕ) → Tabled level n d d 0
-tabled-start level n d = record { long = refl; done = λ j h. absurd (omega arith) }
+tabled-start level n d = record { over = tables-none level n d; long = refl; done = λ j h. absurd (omega arith) }
 
 -- what stands before place m is as it was
 kept-before : (m i n : ℕ) (v w : List ℕ) → i + n ≤ m → m ≤ length v → take n (drop i (take m v ++ w)) ≡ take n (drop i v)
@@ -130,9 +178,11 @@ kept-before m i n v w h k =
 
 pub tabled-turn : {level : ℕ → Level} {n : ℕ} {d out : List ℕ} {l : ℕ} → Tabled level n d out l → l * n + n < length out
     → (part : List ℕ) → length part ≡ length (take (l * n + n + 1 - l * n) (drop (l * n) out)) → LevelOrder (level l) (take n part)
+    → part ≡ levelOver (level l .t) (sizeA (level l)) n (take (l * n + n + 1 - l * n) (drop (l * n) out))
     → Tabled level n d (take (l * n) out ++ (part ++ drop (l * n + n + 1 - l * n) (drop (l * n) out))) (l + 1)
-tabled-turn {level} {n} {d} {out} {l} T room part h O =
+tabled-turn {level} {n} {d} {out} {l} T room part h O q =
     record {
+      over = tables-next level n l d out part (T .over) q;
       long = length-inside out part (l * n) (l * n + n + 1 - l * n) h ∙ T .long;
       done = λ j k. each j (eq-or-lt-of-le (le-of-suc-le-suc (rw add-one at k)));
     }
@@ -276,3 +326,9 @@ module _ {k : Block} {d : List ℕ} (R : BlockPlaces k d) {n s : ℕ} (e : n ≡
               let r : j * n + n ≤ length out = omega (arith, room-low j b, T .long, R .room) in
               rw q (r, own-order l m (rw (length-take, length-drop) (omega arith)) (T .done j (omega arith)));
         }
+
+    pub block-over : k .count / s ≤ i → i ≤ k .count / s → out ≡ blockOver k d
+    unfolding blockOver
+    block-over h g =
+        let last : i ≡ k .count / s = omega arith in
+        rw (← e, ← f) (T .over ∙ rw last refl)

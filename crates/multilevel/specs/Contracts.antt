@@ -1,8 +1,8 @@
 -- What the functions that code and read levels require and promise: nothing of 01 is stated here.
-use Prim.Native.Nat.{ℕ, zero, suc, _+_, _*_, _≤_, _<_, _/_, _%_}
+use Prim.Native.Nat.{ℕ, zero, suc, _+_, _-_, _*_, _≤_, _<_, _/_, _%_}
 use mathlib.Core.Path.{_≡_}
 use mathlib.Core.Bool.{Bool, true, false, cond}
-use mathlib.Core.List.{List, [], _∷_}
+use mathlib.Core.List.{List, [], _∷_, _++_}
 use lib.ListN.{length, getD, take, drop}
 use Rattle.patterns.specs.declared.Pattern.{Pattern}
 use Rattle.component.specs.Bits.{Bits}
@@ -14,6 +14,7 @@ use Rattle.component.specs.Register.{after}
 use Rattle.component.specs.Codeword.{encode, codeword, tailBits}
 use Rattle.component.specs.Decoding.{codedLength, segment, decode}
 use Rattle.patterns.specs.Contracts.{patternOf, Held}
+use Rattle.interleaver.specs.Tables.{places}
 use Rattle.lists.specs.Lists.{table}
 use lib.Seq.{sets}
 use Rattle.block.specs.Block.{oneAxis}
@@ -265,3 +266,31 @@ pub record LevelPlaces (n : ℕ) (l : Level) (out : List ℕ) : Type 0 where
 pub record BlockPlaces (k : Block) (out : List ℕ) : Type 0 where
   pub fits : BlockFits k
   pub room : 6 * k .cells < length out
+
+-- What making a part's table leaves in its room: its places and a 0, or what stood there if the part is not interleaved or has no bits.
+unfoldable pub partOver : ℕ → ℕ → List ℕ → List ℕ
+partOver zero n out = out
+partOver (suc t) zero out = out
+partOver (suc t) (suc n) out = places (suc t) (suc n) ++ (0 ∷ [])
+
+-- The same of a level with n coded bits, a of them part A's, in a room with part A's table in it: part B's from where its 0 stood.
+abbrev pub restOver : ℕ → ℕ → ℕ → List ℕ → List ℕ
+restOver t a n out = take a out ++ partOver t (n - a) (drop a out)
+
+unfoldable pub levelOver : ℕ → ℕ → ℕ → List ℕ → List ℕ
+levelOver t a n out = restOver t a n (partOver t a (take (a + 1) out) ++ drop (a + 1) out)
+
+-- The same of m levels, their tables one after the other.
+abbrev pub nextOver : Level → ℕ → ℕ → List ℕ → List ℕ
+nextOver l n at out = take at out ++ (levelOver (l .t) (sizeA l) n (take (n + 1) (drop at out)) ++ drop (n + 1) (drop at out))
+
+unfoldable pub tablesOver : (ℕ → Level) → ℕ → ℕ → List ℕ → List ℕ
+tablesOver level n zero out = out
+tablesOver level n (suc m) out = nextOver (level m) n (m * n) (tablesOver level n m out)
+
+-- The same of a block's levels, in HMmix of every second one.
+abbrev pub digitsOver : List Level → ℕ → ℕ → ℕ → List ℕ → List ℕ
+digitsOver ls n s count out = tablesOver (λ i. levelAt ls (s * i)) n (count / s) out
+
+unfoldable pub blockOver : Block → List ℕ → List ℕ
+blockOver k out = digitsOver (k .levels) (cond (oneAxis k) (k .cells) (2 * k .cells)) (cond (oneAxis k) 2 1) (k .count) out

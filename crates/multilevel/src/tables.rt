@@ -13,8 +13,9 @@ ghost use lib.ListN.{take};
 ghost use Rattle.lists.specs.Buffers.{Long};
 ghost use Rattle.block.specs.Block.{oneAxis};
 ghost use Rattle.block.specs.Fits.{BlockFits};
+ghost use Rattle.block.specs.Reading.{sizeA};
 ghost use Rattle.labels.specs.Contracts.{Ordered};
-ghost use Rattle.multilevel.specs.Contracts.{LevelOrder, BlockOrder, PartPlaces, LevelPlaces, BlockPlaces};
+ghost use Rattle.multilevel.specs.Contracts.{LevelOrder, BlockOrder, PartPlaces, LevelPlaces, BlockPlaces, partOver, levelOver, blockOver};
 
 // A place for each coded bit of the largest block, and one number more.
 pub const MOST_PLACES: usize = MOST_BITS + 1;
@@ -43,6 +44,7 @@ pub fn small_place_buffer() -> [u16; SMALL_PLACES]
 fn part_places(t: usize, n: usize, out: &mut [u16])
     requires { ⌜ PartPlaces t n (now out) ⌝ }
     ensures { λ r. ⌜ Ordered t n (take n (now (out .exit))) ⌝ }
+    ensures { λ r. ⌜ now (out .exit) ≡ partOver t n (now (out .entry)) ⌝ }
 {
     if t == 0 {
         return;
@@ -57,6 +59,7 @@ fn part_places(t: usize, n: usize, out: &mut [u16])
 fn level_places(l: Level, n: usize, out: &mut [u16])
     requires { ⌜ LevelPlaces n l (now out) ⌝ }
     ensures { λ r. ⌜ LevelOrder l (take n (now (out .exit))) ⌝ }
+    ensures { λ r. ⌜ now (out .exit) ≡ levelOver (l .t) (sizeA l) n (now (out .entry)) ⌝ }
 {
     let patterna = l.patterna;
     let front = coded_length(patterna, l.bitsa);
@@ -89,6 +92,7 @@ fn sharing(k: Block) -> usize
 pub fn block_places(k: Block, out: &mut [u16])
     requires { ⌜ BlockPlaces k (now out) ⌝ }
     ensures { λ r. ⌜ BlockOrder k (now (out .exit)) ⌝ }
+    ensures { λ r. ⌜ now (out .exit) ≡ blockOver k (now (out .entry)) ⌝ }
 {
     let levels = k.levels;
     let n = level_bits(k);

@@ -8,7 +8,7 @@ block-places-requires : tie.Need-block-places-requires
 block-places-requires c κs = record { fits = c .before .before .before .pre .fits; room = omega (arith, c .before .place-buffer .ensures .long, c .before .before .before .pre .fits .most) }
 
 code-streams-requires : tie.Need-code-streams-requires
-code-streams-requires c κs = (c .before .before .before .before .before .before .before .pre, c .before .before .before .block-places .ensures)
+code-streams-requires c κs = (c .before .before .before .before .before .before .before .pre, c .before .before .before .block-places .ensures .0)
 
 returns : tie.Need-returns
 returns c = c .before .code-streams .ensures

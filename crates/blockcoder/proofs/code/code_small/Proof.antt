@@ -10,7 +10,7 @@ block-places-requires c κs =
     record { fits = P .0 .fits; room = omega (arith, c .before .small-place-buffer .ensures .long, P .1) }
 
 code-ordered-requires : tie.Need-code-ordered-requires
-code-ordered-requires c κs = (c .before .before .before .before .before .before .before .pre .0, c .before .before .before .block-places .ensures)
+code-ordered-requires c κs = (c .before .before .before .before .before .before .before .pre .0, c .before .before .before .block-places .ensures .0)
 
 returns : tie.Need-returns
 returns c = c .before .code-ordered .ensures

@@ -10,7 +10,7 @@ block-places-requires c κs =
     record { fits = P .0 .fits; room = omega (arith, c .before .small-place-buffer .ensures .long, P .1) }
 
 read-ordered-requires : tie.Need-read-ordered-requires
-read-ordered-requires c κs = (c .before .before .before .before .before .before .before .pre .0, c .before .before .before .block-places .ensures)
+read-ordered-requires c κs = (c .before .before .before .before .before .before .before .pre .0, c .before .before .before .block-places .ensures .0)
 
 returns : tie.Need-returns
 returns c = c .before .before .read-ordered .ensures

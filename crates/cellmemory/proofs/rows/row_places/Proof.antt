@@ -2,7 +2,7 @@
 use native.Mathlib.Omega.{arith}
 use borrow.Author.Needs.{needs}
 use Rattle.settings.specs.Lengths.{nMux}
-use Rattle.cellmemory.proofs.Turns.{places-room, row-ordered}
+use Rattle.cellmemory.proofs.Turns.{places-room, row-ordered, row-over}
 use Rattle.cellmemory.proofs.rows.row_places.Statement.{statement}
 use Rattle.cellmemory.proofs.rows.row_places.Tie as tie
 
@@ -20,7 +20,7 @@ make-places-requires c κs = places-room _ _ _ (c .before .before .before .pre) 
 
 returns : tie.Need-returns
 unfolding nMux
-returns c = row-ordered _ _ _ (c .before .before .before .before .before .before .pre) (c .before .before .before .before .n-mux .ensures) _ (c .before .before .make-places .ensures)
+returns c = (row-ordered _ _ _ (c .before .before .before .before .before .before .pre) (c .before .before .before .before .n-mux .ensures) _ (c .before .before .make-places .ensures), row-over _ _ _ (c .before .before .before .before .before .before .pre) (c .before .before .before .before .n-mux .ensures) _ (c .before .before .make-places .ensures))
 
 pub row-places-spec : {M : Type 1} → statement M
 row-places-spec = tie.close (tie.spec (λ c κs. search needs) add-make-places (λ c. search needs) (λ c. search needs) part-make-places-end make-places-requires (λ c. search needs) returns)

@@ -78,7 +78,7 @@ code-frame-requires : tie.Need-code-frame-requires Inv-loop μ-loop
 code-frame-requires c κs =
     let w = c .before .before .before .before .before .before .loop .inv in (
       coding-fits _ _ _ _ _ _ _ _ _ _ w (c .before .before .before .before .before .loop-test .taken),
-      (coding-order _ _ _ _ _ _ _ _ _ _ w (rw (c .before .before .before .before .before .before .before .before .before .before .before .before .before .before .msc-block .ensures) at (c .before .before .before .before .before .before .before .before .before .before .before .before .block-places .ensures)), coding-rows _ _ _ _ _ _ _ _ _ _ w (c .before .before .before .before .before .before .before .before .row-places .ensures)),
+      (coding-order _ _ _ _ _ _ _ _ _ _ w (rw (c .before .before .before .before .before .before .before .before .before .before .before .before .before .before .msc-block .ensures) at (c .before .before .before .before .before .before .before .before .before .before .before .before .block-places .ensures .0)), coding-rows _ _ _ _ _ _ _ _ _ _ w (c .before .before .before .before .before .before .before .before .row-places .ensures .0)),
     )
 
 next-state-requires : tie.Need-next-state-requires Inv-loop μ-loop

@@ -34,14 +34,14 @@ row-places-requires c κs =
 take-row-requires : tie.Need-take-row-requires Inv-loop μ-loop
 take-row-requires c κs =
     let w = c .before .before .before .before .loop .inv in
-    (row-lent _ _ _ _ _ _ _ _ _ _ _ w (c .before .before .before .loop-test .taken), row-rows _ _ _ _ _ _ _ _ _ _ _ w (c .before .before .before .before .before .before .row-places .ensures))
+    (row-lent _ _ _ _ _ _ _ _ _ _ _ w (c .before .before .before .loop-test .taken), row-rows _ _ _ _ _ _ _ _ _ _ _ w (c .before .before .before .before .before .before .row-places .ensures .0))
 
 read-finished-requires : tie.Need-read-finished-requires Inv-loop μ-loop
 read-finished-requires c κs =
     let w = c .before .before .before .before .before .before .before .before .before .before .loop .inv in
     let r = c .before .before .before .before .before in (
       row-finish _ _ _ _ _ _ _ _ _ _ _ w (c .before .before .before .before .before .before .before .before .before .loop-test .taken) _ (r .take-row .ensures) (r .take-row .kept .1 .1 .1 .0),
-      row-order _ _ _ _ _ _ _ _ _ _ _ w (rw (c .before .before .before .before .before .before .before .before .before .before .before .before .before .before .before .before .before .before .msc-block .ensures) at (c .before .before .before .before .before .before .before .before .before .before .before .before .before .before .before .before .block-places .ensures)),
+      row-order _ _ _ _ _ _ _ _ _ _ _ w (rw (c .before .before .before .before .before .before .before .before .before .before .before .before .before .before .before .before .before .before .msc-block .ensures) at (c .before .before .before .before .before .before .before .before .before .before .before .before .before .before .before .before .block-places .ensures .0)),
     )
 
 loop-again : tie.Need-loop-again Inv-loop μ-loop

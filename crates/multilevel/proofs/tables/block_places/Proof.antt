@@ -3,7 +3,7 @@ use Prim.Native.Nat.{_-_, _≤_}
 use native.Mathlib.Omega.{arith}
 use borrow.Author.Needs.{needs}
 use Rattle.multilevel.specs.Contracts.{levelAt}
-use Rattle.multilevel.proofs.Orders.{firstLevel, some-share, turns-low, level-low, places-low, Tabled, tabled-start, tabled-turn, next-room, level-places, block-ordered}
+use Rattle.multilevel.proofs.Orders.{firstLevel, some-share, turns-low, level-low, places-low, Tabled, tabled-start, tabled-turn, next-room, level-places, block-ordered, block-over}
 use Rattle.multilevel.proofs.tables.block_places.Statement.{statement}
 use Rattle.multilevel.proofs.tables.block_places.Tie as tie
 
@@ -58,13 +58,13 @@ add-i c = omega (arith, turns-low (c .before .before .before .before .before .be
 
 loop-again : tie.Need-loop-again Inv-loop μ-loop
 unfolding levelAt
-loop-again c = (omega arith, tabled-turn (c .before .before .before .before .before .before .loop .inv .1) (next-room (c .before .before .before .before .before .before .before .before .before .before .before .before .pre) (c .before .before .before .before .before .before .before .before .before .level-bits .ensures) (c .before .before .before .before .before .before .before .before .sharing .ensures) (c .before .before .before .before .before .before .loop .inv .1) (c .before .before .before .before .before .loop-test .taken)) (c .before .before .level-places .last .1 .1 .0) (c .before .before .level-places .kept .1 .1 .0) (c .before .before .level-places .ensures))
+loop-again c = (omega arith, tabled-turn (c .before .before .before .before .before .before .loop .inv .1) (next-room (c .before .before .before .before .before .before .before .before .before .before .before .before .pre) (c .before .before .before .before .before .before .before .before .before .level-bits .ensures) (c .before .before .before .before .before .before .before .before .sharing .ensures) (c .before .before .before .before .before .before .loop .inv .1) (c .before .before .before .before .before .loop-test .taken)) (c .before .before .level-places .last .1 .1 .0) (c .before .before .level-places .kept .1 .1 .0) (c .before .before .level-places .ensures .0) (c .before .before .level-places .ensures .1))
 
 same-length : tie.Need-same-length Inv-loop μ-loop
 same-length c = c .before .loop .inv .1 .long
 
 returns : tie.Need-returns Inv-loop μ-loop
-returns c = block-ordered (c .before .before .before .before .before .before .before .pre) (c .before .before .before .before .level-bits .ensures) (c .before .before .before .sharing .ensures) (c .before .loop .inv .1) (search needs)
+returns c = (block-ordered (c .before .before .before .before .before .before .before .pre) (c .before .before .before .before .level-bits .ensures) (c .before .before .before .sharing .ensures) (c .before .loop .inv .1) (search needs), block-over (c .before .before .before .before .before .before .before .pre) (c .before .before .before .before .level-bits .ensures) (c .before .before .before .sharing .ensures) (c .before .loop .inv .1) (search needs) (c .before .loop .inv .0))
 
 pub block-places-spec : {M : Type 1} → statement M
 block-places-spec = tie.close (tie.spec Inv-loop μ-loop level-bits-requires (λ c κs. search needs) div-count loop-holds mul-level-places mul-level-places-2 array-copy-out-level-places mul-level-places-3 mul-level-places-4 add-level-places add-level-places-2 mul-level-places-5 (λ c. search needs) (λ c. search needs) part-level-places-end level-places-requires add-i (λ c. search needs) loop-again same-length returns)

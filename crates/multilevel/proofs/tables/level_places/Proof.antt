@@ -1,7 +1,7 @@
 -- `tables::level_places` meets its contract. Assumes nothing.
 use native.Mathlib.Omega.{arith}
 use borrow.Author.Needs.{needs}
-use Rattle.multilevel.proofs.Orders.{counts-front, front-low, places-a, behind-written, places-b, level-ordered}
+use Rattle.multilevel.proofs.Orders.{counts-front, front-low, places-a, behind-written, places-b, level-ordered, level-over}
 use Rattle.multilevel.proofs.tables.level_places.Statement.{statement}
 use Rattle.multilevel.proofs.tables.level_places.Tie as tie
 
@@ -33,7 +33,12 @@ part-places-requires-2 : tie.Need-part-places-requires-2
 part-places-requires-2 c κs = places-b (c .before .before .before .before .before .before .before .before .pre) (c .before .before .before .before .before .coded-length .ensures) (c .before .before .before .part-places .last .1 .1 .0) (c .before .before .before .part-places .kept .1 .1 .0)
 
 returns : tie.Need-returns
-returns c = level-ordered (c .before .before .before .before .before .before .before .before .before .before .before .pre) (c .before .before .before .before .before .before .before .before .coded-length .ensures) (c .before .before .before .before .before .before .part-places .last .1 .1 .0) (c .before .before .before .before .before .before .part-places .kept .1 .1 .0) (c .before .before .part-places2 .last .1 .1 .0) (c .before .before .part-places2 .kept .1 .1 .0) (c .before .before .before .before .before .before .part-places .ensures) (c .before .before .part-places2 .ensures)
+returns c =
+    let p = c .before .before .before .before .before .before .part-places in
+    let q = c .before .before .part-places2 in (
+      level-ordered (c .before .before .before .before .before .before .before .before .before .before .before .pre) (c .before .before .before .before .before .before .before .before .coded-length .ensures) (p .last .1 .1 .0) (p .kept .1 .1 .0) (q .last .1 .1 .0) (q .kept .1 .1 .0) (p .ensures .0) (q .ensures .0),
+      level-over (c .before .before .before .before .before .before .before .before .before .before .before .pre) (c .before .before .before .before .before .before .before .before .coded-length .ensures) (p .last .1 .1 .0) (p .kept .1 .1 .0) (q .last .1 .1 .0) (p .ensures .1) (q .ensures .1),
+    )
 
 pub level-places-spec : {M : Type 1} → statement M
 level-places-spec = tie.close (tie.spec coded-length-requires add-part-places (λ c. search needs) (λ c. search needs) part-part-places-end part-places-requires sub-part-places-2 mul-part-places sub-part-places-3 part-part-places-start-2 (λ c. search needs) part-places-requires-2 (λ c. search needs) returns)
