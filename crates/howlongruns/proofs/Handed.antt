@@ -18,11 +18,10 @@ use Rattle.channels.specs.Sdc.{sdcBlock}
 use Rattle.channels.specs.Msc.{mscBlock}
 use Rattle.superframe.specs.declared.State.{State}
 use Rattle.superframe.specs.Call.{part, parts, facBytes}
-use Rattle.superframe.specs.Code.{stateOf}
 use Rattle.superframe.specs.Read.{ReadCall, readOf, answerNumber, answerFrames, answerOf, readAccepted, readRefused}
 use Rattle.superframe.specs.Runs.{Bits, noBits, bitsOf, reading, reads, handed}
 use Rattle.superframe.specs.SingleCalls.{HandsOut, finishedOf}
-use Rattle.superframe.proofs.Calls.{bytes-fit}
+use Rattle.superframe.proofs.Calls.{bytes-fit, read-keeps}
 use Rattle.superframe.proofs.Accepted.{single-calls}
 use Rattle.howlongruns.specs.BytesCoded.{framesHanded}
 use Rattle.howlongruns.proofs.Frames.{Good, good-append}
@@ -46,16 +45,8 @@ part-long n i l e h = length-take-le n (drop (n * i) l) (rw (length-drop (n * i)
     go (suc (suc zero)) h = omega arith
     go (suc (suc (suc i))) h = absurd (omega arith)
 
--- a call keeps settings and table, and an accepted one says how many frames it finishes
+-- an accepted call says how many frames it finishes
 module _ (state : State) (memory : List ℕ) (c : ReadCall) where
-  keeps : readOf state memory c .reading .state .scheme ≡ state .scheme
-  unfolding readOf readAccepted readRefused stateOf
-  keeps = go (eqb (answerNumber (answerOf state memory c)) 0)
-    where
-      go : (b : Bool) → cond b (readAccepted state memory c) (readRefused state memory c) .reading .state .scheme ≡ state .scheme
-      go true = refl
-      go false = refl
-
   finished : answerNumber (readOf state memory c .reading .answer) ≡ 0 → answerFrames (readOf state memory c .reading .answer) ≡ length (finishedOf state memory c)
   unfolding readOf readAccepted readRefused finishedOf answerFrames answerNumber
   finished = go (eqb (answerNumber (answerOf state memory c)) 0) refl
@@ -86,7 +77,7 @@ unfolding framesHanded
 handed-good s state memory [] e = tt {0}
 handed-good s state memory (c ∷ cs) e =
     go (reads reading state memory c) refl (framesHanded (readOf state memory c .reading .state) (readOf state memory c .memory) cs)
-    (handed-good s (readOf state memory c .reading .state) (readOf state memory c .memory) cs (keeps state memory c ∙ e))
+    (handed-good s (readOf state memory c .reading .state) (readOf state memory c .memory) cs (read-keeps state memory c ∙ e))
   where
     go : (b : Bool) → reads reading state memory c ≡ b → (rest : List (List ℕ)) → Good (s .settings) rest → Good (s .settings) (cond b (some state memory c ++ rest) rest)
     go true h rest g = good-append (s .settings) (some state memory c) rest (subst (λ t. Good (t .settings) (some state memory c)) e (some-good state memory c h)) g
@@ -100,7 +91,7 @@ handed-bits s state memory (c ∷ cs) e =
     let y = readOf state memory c in
     go (reads reading state memory c) (framesHanded (y .reading .state) (y .memory) cs) (map (bitsOf (facBlock (state .scheme))) (parts facBytes (y .fac)))
     (bitsOf (sdcBlock (state .scheme)) (y .sdc)) (handed (y .reading .state) (y .memory) cs)
-    (handed-bits s (y .reading .state) (y .memory) cs (keeps state memory c ∙ e))
+    (handed-bits s (y .reading .state) (y .memory) cs (read-keeps state memory c ∙ e))
   where
     go : (b : Bool) (rest f : List (List ℕ)) (d : List ℕ) (later : Bits) → map (bitsOf (mscBlock s)) rest ≡ later .frames
         → map (bitsOf (mscBlock s)) (cond b (some state memory c ++ rest) rest)

@@ -1,4 +1,4 @@
-pub mod More
+pub mod OneMoreCall
 pub mod Plans
 pub mod Stretch
 pub mod Followed

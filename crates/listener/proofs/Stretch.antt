@@ -30,7 +30,7 @@ use Rattle.superframe.proofs.WholeRuns.{closed-all}
 use Rattle.superframe.proofs.Accepted.{coding, whole-runs}
 use Rattle.listener.specs.Following.{Step, Air, tuned, andThen, feeding, passed}
 use Rattle.listener.specs.Theorems.{zeroFrame, Right}
-use Rattle.listener.proofs.More.{afterCodes, afterReads, codes-keep, reads-keep, codes-more, sent-more, brought-more, refusals-more, reads-more, handed-more, count-more, unread, fed-more, left-more, fed-last, accepts-last, unread-last}
+use Rattle.listener.proofs.OneMoreCall.{afterCodes, afterReads, codes-keep, reads-keep, codes-more, sent-more, brought-more, refusals-more, reads-more, handed-more, count-more, unread, fed-more, left-more, fed-last, accepts-last, unread-last}
 
 -- Coder and listener j steps after a reset to a scheme.
 pub record Since (s : Scheme) (j : ℕ) (a : Air) : Type 0 where

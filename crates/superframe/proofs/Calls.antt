@@ -1,7 +1,7 @@
 -- Refusal 0 as facts and back, and what accepted and refused calls yield, one equation each. Assumes nothing.
 use Prim.Native.Nat.{ℕ, zero, suc, _*_, _<_}
 use mathlib.Core.Path.{_≡_, refl}
-use mathlib.Core.Bool.{Bool, true, false, not, _&&_}
+use mathlib.Core.Bool.{Bool, true, false, cond, not, _&&_}
 use mathlib.Core.List.{List}
 use native.Mathlib.Omega.{arith}
 use lib.ListN.{length}
@@ -21,7 +21,7 @@ use Rattle.superframe.specs.declared.Answer.the-variants.{Finished, Refu
 use Rattle.superframe.specs.Call.{memoryLength, memoryCell, inOrder}
 use Rattle.superframe.specs.Interleaving.{finishedFrames}
 use Rattle.superframe.specs.Reset.{resetRefusal, resetOf, startState, startMemory}
-use Rattle.superframe.specs.Code.{CodeCall, byteLengths, cellLengths, sparesZero, codeRefusal, codeAccepted, codeRefused, codeOf, progressOf}
+use Rattle.superframe.specs.Code.{CodeCall, byteLengths, cellLengths, sparesZero, codeRefusal, codeAccepted, codeRefused, codeOf, progressOf, stateOf}
 use Rattle.superframe.specs.Read.{ReadCall, answerNumber, rowsOf, pointTests, givenTests, orderRefusal, answerOf, readAccepted, readRefused, readOf}
 use Rattle.superframe.specs.Contracts.{Fits, Ordered, BytesFit, CellsFit, CodeFits, ReadFits}
 use Rattle.lists.proofs.Bools.{both, and-left, and-right}
@@ -201,3 +201,20 @@ module _ (state : State) (memory : List ℕ) (c : ReadCall) where
   pub read-refuses : (r b : ℕ) → answerOf state memory c ≡ Refused r b → 0 < r → readOf state memory c ≡ readRefused state memory c
   unfolding readOf answerNumber
   read-refuses r b h p = rw (h, ne-eqb r 0 (λ e. omega arith))
+
+-- A call keeps settings and table.
+pub code-keeps : (state : State) (memory : List ℕ) (c : CodeCall) → codeOf state memory c .done .state .scheme ≡ state .scheme
+unfolding codeOf codeAccepted codeRefused stateOf
+code-keeps state memory c = go (eqb (codeRefusal state memory c) 0)
+  where
+    go : (b : Bool) → cond b (codeAccepted state memory c) (codeRefused (codeRefusal state memory c) state memory c) .done .state .scheme ≡ state .scheme
+    go true = refl
+    go false = refl
+
+pub read-keeps : (state : State) (memory : List ℕ) (c : ReadCall) → readOf state memory c .reading .state .scheme ≡ state .scheme
+unfolding readOf readAccepted readRefused stateOf
+read-keeps state memory c = go (eqb (answerNumber (answerOf state memory c)) 0)
+  where
+    go : (b : Bool) → cond b (readAccepted state memory c) (readRefused state memory c) .reading .state .scheme ≡ state .scheme
+    go true = refl
+    go false = refl

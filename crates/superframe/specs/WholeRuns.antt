@@ -70,6 +70,7 @@ pub record WholeRuns : Type 0 where
       (run : Run) (reader : Begun)
       → reader .scheme ≡ run .begun .scheme
       → (calls : List ReadCall)
-      × (Fed reading (standardCells run) (stateAt reader) (memoryAt reader) calls × (readCount reading (stateAt reader) (memoryAt reader) calls ≡ length (bits run .sdc)))
+      × (Fed reading (standardCells run) (stateAt reader) (memoryAt reader) calls
+      × (readCount reading (stateAt reader) (memoryAt reader) calls ≡ length (bits run .sdc)))
   -- A Code call of a run is refused by 9, 10 or 11 only.
   pub refuses : (run : Run) → every (map runNumber (refusals (stateAt (run .begun)) (memoryAt (run .begun)) (run .calls))) ≡ true

@@ -6,7 +6,6 @@ use mathlib.Core.Logic.{_⊎_, inl, inr}
 use mathlib.Core.Bool.{Bool, true, false, cond}
 use mathlib.Core.List.{List, [], _∷_, _++_, map, append-assoc}
 use lib.ListN.{take, drop}
-use lib.Dec.{eqb}
 use Rattle.settings.specs.Sizes.{frameBytes}
 use Rattle.channels.specs.declared.Scheme.{Scheme}
 use Rattle.channels.specs.Fac.{facBlock}
@@ -14,9 +13,10 @@ use Rattle.channels.specs.Sdc.{sdcBlock}
 use Rattle.channels.specs.Msc.{mscBlock}
 use Rattle.superframe.specs.Call.{parts, facBytes}
 use Rattle.superframe.specs.declared.State.{State}
-use Rattle.superframe.specs.Code.{CodeCall, codeRefusal, codeAccepted, codeRefused, codeOf, stateOf}
-use Rattle.superframe.specs.Read.{ReadCall, answerFrames, answerNumber, answerOf, readAccepted, readRefused, readOf}
+use Rattle.superframe.specs.Code.{CodeCall, codeOf}
+use Rattle.superframe.specs.Read.{ReadCall, answerFrames, readOf}
 use Rattle.superframe.specs.Runs.{reading, Bits, noBits, bitsOf, SuperFrame, codes, brought, sent, refusals, reads, readCount, handed, Feeds, unreadAfter, Fed, Accepts}
+use Rattle.superframe.proofs.Calls.{code-keeps, read-keeps}
 use Rattle.listener.specs.Following.{andThen}
 
 -- A state and a memory, and those after a list of calls.
@@ -32,23 +32,7 @@ unfoldable pub afterReads : State → List ℕ → List ReadCall → At
 afterReads st me [] = record { state = st; memory = me }
 afterReads st me (r ∷ rs) = afterReads (readOf st me r .reading .state) (readOf st me r .memory) rs
 
--- a call keeps settings and table
-code-keeps : (st : State) (me : List ℕ) (c : CodeCall) → codeOf st me c .done .state .scheme ≡ st .scheme
-unfolding codeOf codeAccepted codeRefused stateOf
-code-keeps st me c = go (eqb (codeRefusal st me c) 0)
-  where
-    go : (b : Bool) → cond b (codeAccepted st me c) (codeRefused (codeRefusal st me c) st me c) .done .state .scheme ≡ st .scheme
-    go true = refl
-    go false = refl
-
-read-keeps : (st : State) (me : List ℕ) (r : ReadCall) → readOf st me r .reading .state .scheme ≡ st .scheme
-unfolding readOf readAccepted readRefused stateOf
-read-keeps st me r = go (eqb (answerNumber (answerOf st me r)) 0)
-  where
-    go : (b : Bool) → cond b (readAccepted st me r) (readRefused st me r) .reading .state .scheme ≡ st .scheme
-    go true = refl
-    go false = refl
-
+-- calls keep settings and table
 pub codes-keep : (st : State) (me : List ℕ) (cs : List CodeCall) → afterCodes st me cs .state .scheme ≡ st .scheme
 unfolding afterCodes
 codes-keep st me [] = refl
