@@ -72,6 +72,7 @@ fn sdc_bits(mode: u8, row: u8, occupancy: u8) -> u64 {
     settings::formulas::sdc_bits(row, n) as u64
 }
 
+// The bits of an SDC block or of a frame, as the group asks.
 fn count(group: u8, mode: u8, row: u8, occupancy: u8) -> u64 {
     if group == SDC {
         return sdc_bits(mode, row, occupancy);
@@ -93,6 +94,7 @@ fn end_line() {
     io::write_all(STDOUT_FILENO, b"\n");
 }
 
+// A row of a table: its name, and a count for each occupancy that the group uses.
 fn write_row(table: u8, row: u8) {
     let group = table / 4;
     let mode = table % 4;

@@ -7,10 +7,12 @@ use vectors::digests::taken;
 
 const XS: [u16; 8] = [0, 1, 2, 285, 1000, 2000, 3577, 65535];
 
+// The digest with one number more.
 fn take(d: u64, v: u32) -> u64 {
     taken(d, v as u64)
 }
 
+// The digest with all lengths, and with all sizes.
 fn take_lengths(d: u64, l: Lengths) -> u64 {
     let a = take(d, l.refusal as u32);
     let b = take(a, l.n1 as u32);
@@ -29,11 +31,13 @@ fn take_sizes(d: u64, z: Sizes) -> u64 {
     take(f, z.memory)
 }
 
+// The digest with all that is answered for settings.
 fn one(d: u64, s: Settings) -> u64 {
     let a = take_lengths(d, settings::answers::lengths(s));
     take_sizes(a, settings::answers::sizes(s))
 }
 
+// Settings with eight values of x, allowed and not, under every value of the fields below, each one past its last allowed.
 fn some_x(start: u64, s: Settings) -> u64 {
     let mut d = start;
     let mut t = s;
@@ -106,6 +110,7 @@ fn over_levela(start: u64, s: Settings) -> u64 {
     d
 }
 
+// Settings with every x up to one past the most cells, under every protection level of part A.
 fn every_x(start: u64, s: Settings) -> u64 {
     let mut d = start;
     let mut t = s;
@@ -135,6 +140,7 @@ fn write_number(n: u64) {
     io::write_all(STDOUT_FILENO, b" ");
 }
 
+// A line: mode, occupancy, MSC mode and the digest of all settings with them.
 fn write_digest(mode: u8, occupancy: u8, msc: u8) {
     let s = Settings {
         mode,
@@ -155,6 +161,7 @@ fn write_digest(mode: u8, occupancy: u8, msc: u8) {
     io::write_all(STDOUT_FILENO, b"\n");
 }
 
+// A line for each MSC mode and occupancy, allowed and not.
 fn over_msc(mode: u8, occupancy: u8) {
     let mut msc = 0;
     while msc < 5 {

@@ -4,6 +4,7 @@ use libc::STDIN_FILENO;
 use libc::STDOUT_FILENO;
 ghost use Prim.Native.Nat.{_≤_};
 
+// A byte of the input as a number that leaves room for the end of the input.
 fn wide(byte: u8) -> u16
     ensures { λ r. ⌜ r ≤ 255 ⌝ }
 {
