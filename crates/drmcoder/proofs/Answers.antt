@@ -16,7 +16,7 @@ use Rattle.drmcoder.specs.ReadOn.{readOnYields, readOnAnswered, readOnBy
 use Rattle.drmcoder.specs.Bytes.{settingsOf, stateOf}
 use Rattle.drmcoder.specs.Calls.{stateAfter, stateRead, answerWord, resetYields, codeYields, readYields, resetAnswered, resetBytes, codeAnswered, codeBytes, readAnswered, readBytes}
 use Rattle.drmcoder.specs.Preview.{previewYields, previewAnswered, previewBytes}
-use Rattle.drmcoder.proofs.Tests.{both-right}
+use Rattle.drmcoder.proofs.TwoLengths.{both-right}
 
 pub reset-right : (state settings table : List ℕ) (memory : List ℕ) (old : State) (s : Settings) (y : ResetYield) (r : ℕ) (state′ : List ℕ)
     → length state ≡ 208 → length settings ≡ 10 → old ≡ stateOf state → s ≡ settingsOf settings → y ≡ resetOf old (schemeOf s table) memory

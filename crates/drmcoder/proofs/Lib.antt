@@ -1,5 +1,5 @@
 pub mod Stores
-pub mod Tests
+pub mod TwoLengths
 pub mod Answers
 pub mod SettingsGiven
 pub mod Planned

@@ -11,7 +11,7 @@ use Rattle.plan.specs.Rules.{rulesOf}
 use Rattle.plan.specs.Answers.{answerOf}
 use Rattle.drmcoder.specs.Numbers.{Numbers, yielded}
 use Rattle.drmcoder.specs.Plans.{planInto, planBytes}
-use Rattle.drmcoder.proofs.Tests.{both-right}
+use Rattle.drmcoder.proofs.TwoLengths.{both-right}
 
 pub plan-stored : (a : Answer) (d : List ℕ) → a .refusal ≡ 0 → length d ≡ 2 → yielded 0 (sets d 0 (a .place ∷ a .mark ∷ [])) ≡ planInto a d
 unfolding planInto

@@ -15,7 +15,7 @@ use Rattle.holdcalls.specs.Restore.{restoreOf}
 use Rattle.drmcoder.specs.Bytes.{settingsOf, stateOf}
 use Rattle.drmcoder.specs.Calls.{stateAfter, resetYields, resetAnswered}
 use Rattle.drmcoder.specs.Restores.{storeBytes, restoreBytes}
-use Rattle.drmcoder.proofs.Tests.{both-right}
+use Rattle.drmcoder.proofs.TwoLengths.{both-right}
 
 pub store-right : (form : Form) (state memory file : List ℕ) (old : State) (y : ConvertYield) → length state ≡ 208 → old ≡ stateOf state
     → y ≡ storeOf form old memory file → y ≡ storeBytes form state memory file

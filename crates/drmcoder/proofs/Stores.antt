@@ -19,7 +19,7 @@ use Rattle.drmcoder.specs.Bytes.{settingsOf}
 use Rattle.drmcoder.specs.Numbers.{Numbers, yielded, lengthsInto, lengthsBytes, sizesInto, sizesBytes}
 use Rattle.drmcoder.specs.Grids.{gridSizesInto, gridSizesBytes}
 use Rattle.drmcoder.specs.Holds.{fileSizesInto, holdSizesBytes}
-use Rattle.drmcoder.proofs.Tests.{both-right}
+use Rattle.drmcoder.proofs.TwoLengths.{both-right}
 
 pub lengths-stored : (l : Lengths) (d : List ℕ) → l .refusal ≡ 0 → length d ≡ 5
     → yielded 0 (sets d 0 (l .n1 ∷ l .n2 ∷ l .l1 ∷ l .l2 ∷ l .vspp ∷ [])) ≡ lengthsInto l d

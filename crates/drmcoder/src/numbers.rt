@@ -7,6 +7,7 @@ ghost use mathlib.Core.Path.{_≡_};
 ghost use lib.ListN.{length};
 ghost use Rattle.drmcoder.specs.Numbers.{yielded, lengthsInto, lengthsBytes, sizesInto, sizesBytes};
 
+// Answers into the caller's numbers, which a refusal leaves as they were.
 fn put_lengths(l: Lengths, numbers: &mut [u16]) -> u8
     requires { ⌜ length (now numbers) ≡ 5 ⌝ }
     ensures { λ r. ⌜ yielded r (now (numbers .exit)) ≡ lengthsInto l (now (numbers .entry)) ⌝ }

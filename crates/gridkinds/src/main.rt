@@ -2,6 +2,7 @@
 use grid::calls::place;
 use libc::STDOUT_FILENO;
 use settings::Settings;
+use settings::tables::FAC_NUMBERS;
 ghost use Prim.Native.Nat.{_<_};
 
 // The mode with occupancy 3; no other setting moves a place.
@@ -48,8 +49,9 @@ fn write_kinds(carriers: usize, grid: &[i16])
     }
 }
 
+// The grid of each mode with occupancy 3: blank cells, of which only the kinds are written.
 fn mode_a() {
-    let fac = [0i16; 390];
+    let fac = [0i16; 3 * FAC_NUMBERS];
     let sdc = [0i16; 810];
     let msc = [0i16; 17754];
     let mut grid = [0i16; 30915];
@@ -58,7 +60,7 @@ fn mode_a() {
 }
 
 fn mode_b() {
-    let fac = [0i16; 390];
+    let fac = [0i16; 3 * FAC_NUMBERS];
     let sdc = [0i16; 644];
     let msc = [0i16; 14026];
     let mut grid = [0i16; 27945];
@@ -67,7 +69,7 @@ fn mode_b() {
 }
 
 fn mode_c() {
-    let fac = [0i16; 390];
+    let fac = [0i16; 3 * FAC_NUMBERS];
     let sdc = [0i16; 576];
     let msc = [0i16; 11064];
     let mut grid = [0i16; 25020];
@@ -76,7 +78,7 @@ fn mode_c() {
 }
 
 fn mode_d() {
-    let fac = [0i16; 390];
+    let fac = [0i16; 3 * FAC_NUMBERS];
     let sdc = [0i16; 304];
     let msc = [0i16; 7358];
     let mut grid = [0i16; 19224];

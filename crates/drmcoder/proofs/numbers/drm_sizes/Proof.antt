@@ -1,6 +1,6 @@
 use borrow.Author.Needs.{needs}
 use Rattle.drmcoder.specs.Numbers.{sizesBytes}
-use Rattle.drmcoder.proofs.Tests.{first-wrong, second-wrong}
+use Rattle.drmcoder.proofs.TwoLengths.{first-wrong, second-wrong}
 use Rattle.drmcoder.proofs.Stores.{sizes-right}
 use Rattle.drmcoder.proofs.numbers.drm_sizes.Statement.{statement}
 use Rattle.drmcoder.proofs.numbers.drm_sizes.Tie as tie

@@ -1,6 +1,6 @@
 use borrow.Author.Needs.{needs}
 use Rattle.drmcoder.specs.Restores.{restoreBytes}
-use Rattle.drmcoder.proofs.Tests.{first-wrong, second-wrong}
+use Rattle.drmcoder.proofs.TwoLengths.{first-wrong, second-wrong}
 use Rattle.drmcoder.proofs.Restored.{restore-right}
 use Rattle.drmcoder.proofs.restores.restore_bytes.Statement.{statement}
 use Rattle.drmcoder.proofs.restores.restore_bytes.Tie as tie
