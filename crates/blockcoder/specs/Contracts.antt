@@ -52,12 +52,16 @@ pub record ReadsCandidate (k : Block) (cells : List ℤ) (bits : List ℕ) : Typ
   pub whole : length cells ≡ 2 * k .cells
   pub long : length bits ≡ bitCount k
 
+-- What reading a block finds: bits that give the cells, or that no bits do.
+unfoldable pub foundOf : Bool → Found
+foundOf b = cond b Given NoBits
+
 -- A block is read: where some bits give the cells the bytes are those bits packed, else they are as they were.
 pub record BlockRead (k : Block) (cells : List ℤ) (bytes : List ℕ) (answer : Found) (bytes' : List ℕ) : Type 0 where
   pub answered : answer ≡ foundOf (given k cells)
   pub written : bytes' ≡ cond (given k cells) (bytesRead k cells) bytes
 
--- ThreeBits of whole cells, the first n1 cells of which are part A's.
+-- Labels of whole cells, the first n1 cells of which are part A's.
 pub record MapsParts (c n1 : ℕ) (labels : List ℕ) (out : List ℤ) : Type 0 where
   pub known : c < 5
   pub same : length out ≡ length labels
@@ -66,7 +70,7 @@ pub record MapsParts (c n1 : ℕ) (labels : List ℕ) (out : List ℤ) : Type 0 
   pub high : length labels ≤ 16384
   pub low : ThreeBits labels
 
--- ThreeBits of both axes, a number a cell, the first n1 of which are part A's.
+-- Labels of both axes, a number a cell, the first n1 of which are part A's.
 pub record MapsAxesParts (c n1 : ℕ) (re im : List ℕ) (out : List ℤ) : Type 0 where
   pub known : c < 5
   pub same : length out ≡ 2 * length re
@@ -75,10 +79,6 @@ pub record MapsAxesParts (c n1 : ℕ) (re im : List ℕ) (out : List ℤ) : Type
   pub high : length re ≤ 16384
   pub lowReal : ThreeBits re
   pub lowImaginary : ThreeBits im
-
--- What reading a block finds: bits that give the cells, or that no bits do.
-unfoldable pub foundOf : Bool → Found
-foundOf b = cond b Given NoBits
 
 -- What handing the candidate's bytes out requires: as many bytes, and as many coordinates of the candidate as of the cells.
 pub record HandsOut (candidate : List ℕ) (given cells : List ℤ) (bytes : List ℕ) : Type 0 where

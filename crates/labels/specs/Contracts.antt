@@ -46,7 +46,7 @@ pub record Scatters (weight : ℕ) (places labels out : List ℕ) : Type 0 where
   pub same : length out ≡ length labels
   pub weighs : Weight weight
 
--- ThreeBits that a level's bits can be added to: few enough for the interleaver, and below 256 with the weight.
+-- Labels that a level's bits can be added to: few enough for the interleaver, and below 256 with the weight.
 pub record Room (t weight : ℕ) (labels : List ℕ) : Type 0 where
   pub small : t < 64
   pub high : length labels ≤ 12236
