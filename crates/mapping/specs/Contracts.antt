@@ -13,7 +13,7 @@ use Rattle.block.specs.Mapping.{constellation}
 use Rattle.block.specs.Points.{onAxis}
 use Rattle.cellbytes.specs.CellBytes.{signed}
 
--- ThreeBits of at most three level bits.
+-- Labels of at most three level bits.
 pub record ThreeBits (l : List ℕ) : Type 0 where
   pub low : (k : ℕ) → getD l k 0 < 8
 
