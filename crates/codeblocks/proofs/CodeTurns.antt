@@ -12,6 +12,8 @@ use borrow.Rule.Slice.PartMut.{putMid, post-is}
 use Rattle.multilevel.specs.Contracts.{BlockOrder}
 use Rattle.lists.specs.Lists.{table}
 use Rattle.lists.specs.Buffers.{Long}
+use Rattle.lists.specs.Bytes.{bytesFor}
+use Rattle.settings.specs.Formulas.{roundUp}
 use Rattle.lists.proofs.Tables.{length-table, table-add, map-table}
 use Rattle.lists.proofs.Parts.{length-start, part-again}
 use Rattle.cellbytes.specs.CellBytes.{bytes}
@@ -158,6 +160,10 @@ module _ (state : State) (msc : List ℕ) (memory₀ : List ℕ) (cells₀ : Lis
     -- Frame i and its row lie within their buffers.
     pub coding-within : i < 3 → (len * i + len ≤ length msc) × (n * i + n ≤ length cells)
     coding-within h = (part-within len i 3 (length msc) h (w .lent .input ∙ rw (w .bytes-are)), part-below n i 3 (length cells) h rows-within)
+
+    pub coding-few : i < 3 → len * i + len ≤ 13767
+    unfolding frameBytes bytesFor roundUp
+    coding-few h = let a = w .lent .fits .allowed .settings in omega (arith, coding-within h .0, w .lent .input, a .frameMost, a .ranges .muxMost)
 
     -- every frame has the same places
     pub coding-order : {order : List ℕ} → BlockOrder (mscBlock (state .scheme)) order → BlockOrder (mscBlock (after .scheme)) order

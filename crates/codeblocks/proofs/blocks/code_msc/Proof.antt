@@ -3,7 +3,7 @@ use Prim.Native.Nat.{_-_}
 use native.Mathlib.Omega.{arith}
 use borrow.Author.Needs.{needs}
 use Rattle.channels.proofs.Msc.{msc-fits}
-use Rattle.codeblocks.proofs.CodeTurns.{Coding, coding-start, coding-within, coding-fits, coding-order, coding-rows, coding-turn, coding-end, rows-within, rest-long}
+use Rattle.codeblocks.proofs.CodeTurns.{Coding, coding-start, coding-within, coding-few, coding-fits, coding-order, coding-rows, coding-turn, coding-end, rows-within, rest-long}
 use Rattle.codeblocks.proofs.blocks.code_msc.Statement.{statement}
 use Rattle.codeblocks.proofs.blocks.code_msc.Tie as tie
 
@@ -36,13 +36,13 @@ loop-holds : tie.Need-loop-holds Inv-loop μ-loop
 loop-holds c = coding-start _ _ _ _ _ _ (c .before .before .before .before .before .before .before .before .before .before .before .before .before .before .pre) (c .before .before .before .before .before .before .before .before .before .before .slot-size .ensures) (c .before .before .before .before .before .before .before .before .before .frame-bytes .ensures)
 
 mul-code-frame : tie.Need-mul-code-frame Inv-loop μ-loop
-mul-code-frame c = let h = coding-within _ _ _ _ _ _ _ _ _ _ (c .before .before .before .loop .inv) (c .before .before .loop-test .taken) in search needs
+mul-code-frame c = let h = coding-few _ _ _ _ _ _ _ _ _ _ (c .before .before .before .loop .inv) (c .before .before .loop-test .taken) in search needs
 
 mul-code-frame-2 : tie.Need-mul-code-frame-2 Inv-loop μ-loop
-mul-code-frame-2 c = let h = coding-within _ _ _ _ _ _ _ _ _ _ (c .before .before .before .loop .inv) (c .before .before .loop-test .taken) in search needs
+mul-code-frame-2 c = let h = coding-few _ _ _ _ _ _ _ _ _ _ (c .before .before .before .loop .inv) (c .before .before .loop-test .taken) in search needs
 
 add-code-frame : tie.Need-add-code-frame Inv-loop μ-loop
-add-code-frame c = let h = coding-within _ _ _ _ _ _ _ _ _ _ (c .before .before .before .loop .inv) (c .before .before .loop-test .taken) in search needs
+add-code-frame c = let h = coding-few _ _ _ _ _ _ _ _ _ _ (c .before .before .before .loop .inv) (c .before .before .loop-test .taken) in search needs
 
 sub-code-frame : tie.Need-sub-code-frame Inv-loop μ-loop
 sub-code-frame c = let h = coding-within _ _ _ _ _ _ _ _ _ _ (c .before .before .before .loop .inv) (c .before .before .loop-test .taken) in search needs
