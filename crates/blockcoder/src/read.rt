@@ -37,7 +37,7 @@ pub fn read_ordered(k: Block, places: &[u16], cells: &[i16], bytes: &mut [u8]) -
 }
 
 // The same of a small block, with places of its own.
-fn read_small(k: Block, cells: &[i16], bytes: &mut [u8]) -> Found
+pub fn read_small(k: Block, cells: &[i16], bytes: &mut [u8]) -> Found
     requires { ⌜ BlockLent k (now bytes) (now cells) × (k .cells ≤ 846) ⌝ }
     ensures { λ r. ⌜ BlockRead k (now (cells .entry)) (now (bytes .entry)) r (now (bytes .exit)) ⌝ }
 {

@@ -3,8 +3,8 @@ use crate::Frames;
 use block::Block;
 use block::buffers::coordinate_buffer;
 use blockcoder::Found;
-use blockcoder::read::read_block;
 use blockcoder::read::read_ordered;
+use blockcoder::read::read_small;
 use cellbytes::cells::to_numbers;
 use cellmemory::buffers::row_buffer;
 use cellmemory::rows::next_state;
@@ -17,6 +17,7 @@ use multilevel::tables::block_places;
 use multilevel::tables::place_buffer;
 use settings::answers;
 use superframe::State;
+ghost use Prim.Native.Nat.{_≤_};
 ghost use Rattle.cellbytes.specs.CellBytes.{numbers};
 ghost use Rattle.block.specs.Fits.{BlockLent};
 ghost use Rattle.channels.specs.Msc.{mscBlock};
@@ -36,12 +37,12 @@ fn given_ordered(k: Block, places: &[u16], cells: &[i16], bytes: &mut [u8]) -> b
     false
 }
 
-// The same, with places of its own.
+// The same of a small block, with places of its own.
 pub fn read_given(k: Block, cells: &[i16], bytes: &mut [u8]) -> bool
-    requires { ⌜ BlockLent k (now bytes) (now cells) ⌝ }
+    requires { ⌜ BlockLent k (now bytes) (now cells) × (k .cells ≤ 846) ⌝ }
     ensures { λ r. ⌜ GivenRead k (now (cells .entry)) (now (bytes .entry)) r (now (bytes .exit)) ⌝ }
 {
-    let found = read_block(k, cells, bytes);
+    let found = read_small(k, cells, bytes);
     if let Found::Given = found {
         return true;
     }

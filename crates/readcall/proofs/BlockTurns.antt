@@ -10,6 +10,7 @@ use lib.ListN.{length, getD, length-append, length-map, length-replicate, take, 
 use lib.IntN.{ℤ}
 use Rattle.lists.specs.Lists.{table}
 use Rattle.lists.proofs.Tables.{length-table, table-add}
+use Rattle.settings.specs.Accepted.{Accepted}
 use Rattle.settings.specs.Sizes.{sdcBytes}
 use Rattle.block.specs.declared.Block.{Block}
 use Rattle.block.specs.Reading.{given}
@@ -34,6 +35,15 @@ use Rattle.frames.specs.declared.Frames.{Frames}
 use Rattle.readcall.specs.Contracts.{BlocksLent, BlocksRead, blocksOf}
 use Rattle.readcall.specs.declared.Blocks.{Blocks}
 use Rattle.frames.proofs.FrameTurns.{place-more}
+
+-- FAC and SDC blocks are small
+pub fac-small : (s : Scheme) → facBlock s .cells ≤ 846
+unfolding facBlock facCells
+fac-small s = omega arith
+
+pub sdc-small : (s : Scheme) → Accepted (s .settings) → sdcBlock s .cells ≤ 846
+unfolding sdcBlock
+sdc-small s a = a .ranges .sdcMost
 
 -- FAC blocks are recovered from nine bytes.
 fac-recovers : (s : Scheme) → Allowed (s .table) → Recovers (facBlock s) 9

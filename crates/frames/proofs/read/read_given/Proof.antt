@@ -5,10 +5,10 @@ use Rattle.frames.proofs.read.read_given.Statement.{statement}
 use Rattle.frames.proofs.read.read_given.Tie as tie
 
 returns : tie.Need-returns
-returns c = given-yes _ _ _ _ _ (c .before .before .before .before .read-block .ensures) (c .enum-told .given .1)
+returns c = given-yes _ _ _ _ _ (c .before .before .before .before .read-small .ensures) (c .enum-told .given .1)
 
 returns-2 : tie.Need-returns-2
-returns-2 c = given-no _ _ _ _ _ (c .before .before .before .before .read-block .ensures) (c .enum-told2 .given .1)
+returns-2 c = given-no _ _ _ _ _ (c .before .before .before .before .read-small .ensures) (c .enum-told2 .given .1)
 
 pub read-given-spec : {M : Type 1} → statement M
 read-given-spec =

@@ -1,14 +1,14 @@
 -- `places::read_blocks` meets its contract. Assumes nothing.
 use borrow.Author.Needs.{needs}
 use Rattle.channels.proofs.Lent.{sdc-lent}
-use Rattle.readcall.proofs.BlockTurns.{fac-lent-is, rows-lent, sdc-long, blocks-read}
+use Rattle.readcall.proofs.BlockTurns.{fac-lent-is, rows-lent, sdc-long, sdc-small, blocks-read}
 use Rattle.readcall.proofs.places.read_blocks.Statement.{statement}
 use Rattle.readcall.proofs.places.read_blocks.Tie as tie
 
 read-given-requires : tie.Need-read-given-requires
 read-given-requires c κs =
     let p = c .before .before .before .before .before .before .before .before .before .before .pre in
-    rw (c .before .sdc-block .ensures) (sdc-lent (p .fits .allowed) (sdc-long _ _ _ p) (p .cells .sdclong))
+    rw (c .before .sdc-block .ensures) (sdc-lent (p .fits .allowed) (sdc-long _ _ _ p) (p .cells .sdclong), sdc-small _ (p .fits .allowed .settings))
 
 returns : tie.Need-returns
 returns c =

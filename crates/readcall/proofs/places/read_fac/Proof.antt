@@ -8,7 +8,7 @@ use Rattle.channels.specs.Fac.{facBlock}
 use Rattle.channels.proofs.Lent.{fac-lent}
 use Rattle.cellmemory.proofs.Laid.{length-mid}
 use Rattle.frames.specs.Contracts.{PlacesRead}
-use Rattle.readcall.proofs.BlockTurns.{facs-to, fac-start, fac-turn, fac-end}
+use Rattle.readcall.proofs.BlockTurns.{fac-small, facs-to, fac-start, fac-turn, fac-end}
 use Rattle.readcall.proofs.places.read_fac.Statement.{statement}
 use Rattle.readcall.proofs.places.read_fac.Tie as tie
 
@@ -26,9 +26,11 @@ loop-holds c =
 read-given-requires : tie.Need-read-given-requires Inv-loop μ-loop
 read-given-requires c κs =
     let l = c .before .before .before .before .loop in
-    rw (c .before .before .fac-block .ensures)
-    (fac-lent _ (c .before .before .before .before .before .before .pre .0) (length-mid (9 * l .i) 9 _ (omega (arith, l .inv .1, c .before .before .before .loop-test .taken)))
-    (length-mid (130 * l .i) 130 _ (omega (arith, c .before .before .before .before .before .before .pre .1, c .before .before .before .loop-test .taken))))
+    rw (c .before .before .fac-block .ensures) (
+      fac-lent _ (c .before .before .before .before .before .before .pre .0) (length-mid (9 * l .i) 9 _ (omega (arith, l .inv .1, c .before .before .before .loop-test .taken)))
+          (length-mid (130 * l .i) 130 _ (omega (arith, c .before .before .before .before .before .before .pre .1, c .before .before .before .loop-test .taken))),
+      fac-small _,
+    )
 
 loop-again : tie.Need-loop-again Inv-loop μ-loop
 loop-again c =
