@@ -2,7 +2,7 @@
 use Prim.Native.Nat.{ℕ, zero, suc, _+_, _<_}
 use mathlib.Core.List.{List, [], _∷_, _++_}
 use native.Mathlib.Omega.{arith}
-use lib.ListN.{drop}
+use lib.ListN.{take, drop}
 use lib.Seq.{getD-drop}
 use Rattle.component.specs.Bits.{Bits}
 
@@ -30,3 +30,10 @@ bits-append {l = b ∷ l} H K = bits-cons (bits-head H) (bits-append (bits-rest 
 -- the bits from a place on
 pub bits-drop : {l : List ℕ} (n : ℕ) → Bits l → Bits (drop n l)
 bits-drop {l} n H = record { bit = λ k. rw (getD-drop n l k 0) (H .bit (n + k)) }
+
+-- the bits before a place
+pub bits-take : {l : List ℕ} (n : ℕ) → Bits l → Bits (take n l)
+bits-take {l = []} zero H = bits-nil
+bits-take {l = []} (suc n) H = bits-nil
+bits-take {l = b ∷ l} zero H = bits-nil
+bits-take {l = b ∷ l} (suc n) H = bits-cons (bits-head H) (bits-take n (bits-rest H))

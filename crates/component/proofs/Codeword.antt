@@ -38,7 +38,8 @@ pub kept-cons : (c b : ℕ) (bs : List ℕ) → kept c (b ∷ bs) ≡ kept c (b 
 unfolding kept
 kept-cons c b bs = pick (eqb (c % 2) 1) b (kept (c / 2) bs)
 
-length-pick : (n : ℕ) (b : ℕ) (l : List ℕ) → n < 2 → length (cond (eqb n 1) (b ∷ l) l) ≡ n + length l
+-- one more bit, if n says so
+pub length-pick : (n : ℕ) (b : ℕ) (l : List ℕ) → n < 2 → length (cond (eqb n 1) (b ∷ l) l) ≡ n + length l
 length-pick zero b l h = omega arith
 length-pick (suc zero) b l h = omega arith
 length-pick (suc (suc n)) b l h = absurd (omega arith)

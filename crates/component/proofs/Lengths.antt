@@ -48,7 +48,8 @@ unfolding columnAfter
 columnAfter-add p i zero n = rw zero-add
 columnAfter-add p i (suc m) n = rw suc-add (columnAfter-add p (following p i) m n)
 
-columnAfter-low : (p : List ℕ) (i n : ℕ) → i + n < length p → columnAfter p i n ≡ i + n
+-- within a round the columns follow one another
+pub columnAfter-low : (p : List ℕ) (i n : ℕ) → i + n < length p → columnAfter p i n ≡ i + n
 unfolding columnAfter following
 columnAfter-low p i zero h = rw add-zero
 columnAfter-low p i (suc n) h =
@@ -65,7 +66,8 @@ columnAfter-round {p} S =
     ∙ columnAfter-add p 0 (length p - 1) 1
     ∙ rw (l, le-ltb (length p - 1 + 1) (length p) (omega arith))
 
-columnAfter-rounds : {p : List ℕ} → Sound p → (c : ℕ) → columnAfter p 0 (length p * c) ≡ 0
+-- and after some rounds
+pub columnAfter-rounds : {p : List ℕ} → Sound p → (c : ℕ) → columnAfter p 0 (length p * c) ≡ 0
 unfolding columnAfter
 columnAfter-rounds S zero = rw mul-zero
 columnAfter-rounds {p} S (suc c) =

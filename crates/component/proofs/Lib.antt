@@ -4,5 +4,8 @@ pub mod Register
 pub mod Codeword
 pub mod Decoding
 pub mod Lengths
+pub mod Spread
+pub mod Rounds
 mod Encoding
+mod Parts
 mod Reading

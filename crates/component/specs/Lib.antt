@@ -3,3 +3,4 @@ pub mod Register
 pub mod Codeword
 pub mod Decoding
 pub mod Coding
+pub mod Rounds

@@ -4,13 +4,13 @@ use Rattle.patterns.proofs.Patterns.{lent}
 use Rattle.component.proofs.code.encode.Statement.{statement}
 use Rattle.component.proofs.code.encode.Tie as tie
 
-encode-columns-requires : tie.Need-encode-columns-requires
-encode-columns-requires c κs = let s = c .before .before .before .before .before .before in rw (lent (s .args .pattern)) (s .pre .1)
+encode-segment-requires : tie.Need-encode-segment-requires
+encode-segment-requires c κs = let s = c .before .before .before .before .before .before in rw (lent (s .args .pattern)) (s .pre .1)
 
 returns : tie.Need-returns
 returns c =
     let s = c .before .before .before .before .before .before .before .before .before in
-    rw (lent (s .args .pattern)) at (c .before .before .encode-columns .ensures)
+    rw (lent (s .args .pattern)) at (c .before .before .encode-segment .ensures)
 
 pub encode-spec : {M : Type 1} → statement M
 encode-spec =
@@ -19,6 +19,6 @@ encode-spec =
     (λ c. search needs)
     (λ c. search needs)
     (λ c. search needs)
-    encode-columns-requires
+    encode-segment-requires
     (λ c. search needs)
     returns)
