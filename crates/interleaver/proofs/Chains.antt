@@ -1,13 +1,12 @@
--- The places as a table that two chains make: each number of the walk is laid at the table's end, which goes on where the number is below n.
+-- The places as a table that four chains make: each number of the walk is laid at the table's end, which goes on where the number is below n.
 -- Assumes nothing.
 use mathlib.Core.Path.{_≡_, refl, sym, ap, _∙_}
 use mathlib.Core.Logic.{_⊎_, inl, inr}
 use mathlib.Core.List.{List, [], _∷_, _++_}
 use Prim.Native.Nat.{ℕ, zero, suc, _+_, _-_, _*_, _/_, _%_, _^_, _≤_, _<_}
-use native.Mathlib.Nat.{add-zero, mod-eq-of-lt, eq-or-lt-of-le, le-of-suc-le-suc, mul-le-mul, div-add-mod, mul-add-mod-self-left}
+use native.Mathlib.Nat.{add-zero, mod-eq-of-lt, mod-lt, eq-or-lt-of-le, le-of-suc-le-suc, mul-le-mul, div-add-mod, mul-add-mod-self-left}
 use native.Mathlib.Numerals.{add-one}
 use native.Mathlib.Omega.{arith}
-use lib.Bits.{bitAnd, and-mask}
 use lib.ListN.{length, getD, set, length-set, length-append, List·getD-append}
 use lib.Seq.{ext-getD, getD-set-same, getD-set-other, getD-append-add}
 use borrow.Author.Tests.{lt-ltb, le-ltb}
@@ -16,9 +15,9 @@ use Rattle.lists.specs.Lists.{table}
 use Rattle.lists.proofs.Tables.{length-table, getD-table}
 use Rattle.interleaver.specs.Interleaving.{size, offset, step, place}
 use Rattle.interleaver.specs.Deinterleaving.{Cycles, Interleaves}
-use Rattle.interleaver.specs.Tables.{places, Keeps, Kept, Tabulates}
+use Rattle.interleaver.specs.Tables.{places, Keeps, Kept, Leads, Tabulates}
 use Rattle.interleaver.proofs.Cycle.{spread}
-use Rattle.interleaver.proofs.Places.{visit, visit-zero, visit-suc, visit-low, visited, visit-end, sized, large, again-here, place-walk, place-once}
+use Rattle.interleaver.proofs.Places.{visit, visit-zero, visit-suc, visit-low, visited, visit-end, sized, size-four, large, again-here, place-walk, place-once}
 
 -- Two steps in one: x ↦ t × t × x + (t × q + q), modulo s.
 two-steps : (t q s x : ℕ) → (t * t * x + (t * q + q)) % s ≡ (t * ((t * x + q) % s) + q) % s
@@ -55,62 +54,102 @@ module _ (t n : ℕ) (c : Cycles t n) where
           let more = rw e at (count-more (visit t n) n 1 (size n - 1)) in
           absurd (omega (arith, twice, first, more))
 
-  -- s is even.
-  size-even : size n % 2 ≡ 0
-  size-even = go (sized t n c .digits) (sized t n c .power) (large t n c)
+  -- s is a multiple of 4.
+  size-fours : size n % 4 ≡ 0
+  size-fours = go (sized t n c .digits) (sized t n c .power) (large t n c)
     where
-      go : (k : ℕ) → size n ≡ 2 ^ k → 3 ≤ k → size n % 2 ≡ 0
+      go : (k : ℕ) → size n ≡ 2 ^ k → 3 ≤ k → size n % 4 ≡ 0
       go zero e h = absurd (omega arith)
-      go (suc k) e h = omega (arith, e)
+      go (suc zero) e h = absurd (omega arith)
+      go (suc (suc k)) e h = omega (arith, e)
 
--- The chains in turn i: the numbers that the walk comes to after i steps and after one more.
-record Chained (t n x y i : ℕ) : Type 0 where
-  even : x ≡ visit t n i
-  odd : y ≡ visit t n (suc i)
+-- A factor and an addend that take m steps of the walk at once.
+Strides : (t n m factor addend : ℕ) → Type 0
+Strides t n m factor addend = (j : ℕ) → (factor * visit t n j + addend) % size n ≡ visit t n (m + j)
+
+-- What takes m steps gives what takes twice as many.
+stride-twice : (t n m a b : ℕ) → Strides t n m a b → Strides t n (m + m) (a * a) (a * b + b)
+unfolding Strides
+stride-twice t n m a b h j =
+    two-steps a b (size n) (visit t n j) ∙ ap (λ (x : ℕ). (a * x + b) % size n) (h j) ∙ h (m + j) ∙ ap (visit t n) (omega arith)
+
+-- The chains in turn i: the numbers that the walk comes to after i steps and after one, two and three more.
+record Chained (t n x y z w i : ℕ) : Type 0 where
+  first : x ≡ visit t n i
+  second : y ≡ visit t n (suc i)
+  third : z ≡ visit t n (suc (suc i))
+  fourth : w ≡ visit t n (suc (suc (suc i)))
+
+-- What takes four steps of the walk at once.
+abbrev four : ℕ → ℕ
+four t = t * t * (t * t)
+
+abbrev far : ℕ → ℕ → ℕ
+far t q = t * t * (t * q + q) + (t * q + q)
 
 module _ (t n s q : ℕ) (h : Interleaves t n) (e : s ≡ size n) (f : q ≡ s / 4 - 1) where
-  -- One chain starts at 0, the other at q.
-  chained-start : Chained t n 0 q 0
-  unfolding step offset
-  chained-start =
-      let z = sized t n (h .cycles) in
-      let g : q ≡ offset n = rw (← e) f in
-      let none : t * 0 + offset n ≡ offset n = omega arith in
-      let first : step t n 0 ≡ offset n = ap (λ (x : ℕ). x % size n) none ∙ mod-eq-of-lt {n = offset n} {m = size n} (omega (arith, z .enough)) in
-      record { even = sym (visit-zero t n); odd = g ∙ sym (visit-suc t n 0 ∙ ap (step t n) (visit-zero t n) ∙ first) }
+  -- t and q take one step.
+  stride-one : Strides t n 1 t q
+  unfolding Strides step offset
+  stride-one j = rw (f, e) (sym (visit-suc t n j) ∙ ap (visit t n) (omega arith))
 
-  -- As s is a power of two, a mask takes the remainder.
-  chain-step : (x j : ℕ) → x ≡ visit t n j → bitAnd (t * t * x + (t * q + q)) (s - 1) ≡ visit t n (suc (suc j))
-  unfolding step offset
-  chain-step x j g =
-      let z = sized t n (h .cycles) in
-      let y = t * t * x + (t * q + q) in
-      let mask : bitAnd y (s - 1) ≡ y % s = rw (e, z .power) (and-mask y (z .digits)) in
-      let o : q ≡ offset n = rw (← e) f in
-      let two : (t * ((t * x + q) % s) + q) % s ≡ step t n (step t n (visit t n j)) = rw (o, e, g) in
-      mask ∙ two-steps t q s x ∙ two ∙ sym (visit-suc t n (suc j) ∙ ap (step t n) (visit-suc t n j))
+  -- A chain goes on.
+  chain-turn : (m a b : ℕ) → Strides t n m a b → (x x′ j k : ℕ) → x ≡ visit t n j → m + j ≡ k → x′ ≡ (a * x + b) % s → x′ ≡ visit t n k
+  unfolding Strides
+  chain-turn m a b w x x′ j k g i l = l ∙ rw (g, e) (w j ∙ ap (visit t n) i)
 
-  chained-turn : (x y i : ℕ) → Chained t n x y i → Chained t n (bitAnd (t * t * x + (t * q + q)) (s - 1)) (bitAnd (t * t * y + (t * q + q)) (s - 1)) (i + 2)
-  chained-turn x y i w =
-      let g : suc (suc i) ≡ i + 2 = omega arith in
-      rw (← g) (record { even = chain-step x i (w .even); odd = chain-step y (suc i) (w .odd) })
+  -- The chains start at 0, at q, and one and two steps further.
+  chained-start : (z w : ℕ) → z ≡ (t * q + q) % s → w ≡ (t * z + q) % s → Chained t n 0 q z w 0
+  chained-start z w k l =
+      let low : q < s = omega (arith, e, f, size-four t n (h .cycles)) in
+      let none : (t * 0 + q) % s ≡ q = ap (λ (x : ℕ). x % s) {x = t * 0 + q} {y = q} (omega arith) ∙ mod-eq-of-lt {n = q} {m = s} low in
+      let turn = chain-turn 1 t q stride-one in
+      let first = sym (visit-zero t n) in
+      let second = turn 0 q 0 1 first (omega arith) (sym none) in
+      let third = turn q z 1 2 second (omega arith) k in
+      record { first = first; second = second; third = third; fourth = turn z w 2 3 third (omega arith) l }
+
+  -- Each goes on by four steps.
+  chained-turn : {x y z w x′ y′ z′ w′ i : ℕ} → x′ ≡ (four t * x + far t q) % s → y′ ≡ (four t * y + far t q) % s → z′ ≡ (four t * z + far t q) % s
+      → w′ ≡ (four t * w + far t q) % s → Chained t n x y z w i → Chained t n x′ y′ z′ w′ (i + 4)
+  chained-turn {x} {y} {z} {w} {x′} {y′} {z′} {w′} {i} a b k l c =
+      let stride = stride-twice t n 2 (t * t) (t * q + q) (stride-twice t n 1 t q stride-one) in
+      let turn = chain-turn 4 (four t) (far t q) stride in
+      record {
+        first = turn x x′ i (i + 4) (c .first) (omega arith) a;
+        second = turn y y′ (suc i) (suc (i + 4)) (c .second) (omega arith) b;
+        third = turn z z′ (suc (suc i)) (suc (suc (i + 4))) (c .third) (omega arith) k;
+        fourth = turn w w′ (suc (suc (suc i))) (suc (suc (suc (i + 4)))) (c .fourth) (omega arith) l;
+      }
 
   -- Products and sums are far from wrapping.
-  pub twice-fits : (t * t ≤ 3969) × (t * q + q < 2 ^ 20)
-  twice-fits =
-      let z = sized t n (h .cycles) in
-      let low : q ≤ 8191 = omega (arith, e, f, z .least, h .high) in
+  pub strides-fit : (q < 8192) × (t * t ≤ 3969) × (t * q + q < 2 ^ 20) × (four t < 2 ^ 24) × (far t q < 2 ^ 32)
+  strides-fit =
+      let low : q ≤ 8191 = omega (arith, e, f, sized t n (h .cycles) .least, h .high) in
       let square : t * t ≤ 63 * 63 = mul-le-mul {n₂ = 63} {m₂ = 63} (omega arith) (omega arith) in
       let second : t * q ≤ 63 * 8191 = mul-le-mul {n₂ = 63} {m₂ = 8191} (omega arith) low in
-      (omega (arith, square), omega (arith, second, low))
+      let fourth : t * t * (t * t) ≤ 3969 * 3969 = mul-le-mul {n₂ = 3969} {m₂ = 3969} (omega (arith, square)) (omega (arith, square)) in
+      let further : t * t * (t * q + q) ≤ 3969 * 1048575 = mul-le-mul {n₂ = 3969} {m₂ = 1048575} (omega (arith, square)) (omega (arith, second, low)) in
+      (omega (arith, low), omega (arith, square), omega (arith, second, low), omega (arith, fourth), omega (arith, further, second, low))
 
-  chain-fits : (x j : ℕ) → x ≡ visit t n j → (x < 32768) × (t * t * x < 2 ^ 27)
-  chain-fits x j g =
+  -- Numbers below s are small, and may be led on from.
+  low-small : {x : ℕ} → x < s → x < 32768
+  low-small l = omega (arith, e, sized t n (h .cycles) .least, h .high)
+
+  low-leads : {a b x : ℕ} → a < 2 ^ 24 → b < 2 ^ 32 → x < s → Leads a b s x
+  low-leads {a} {b} {x} k m l =
       let z = sized t n (h .cycles) in
-      let low : x < size n = rw g (visit-low t n (h .cycles) j) in
-      let below : x ≤ 32767 = omega (arith, low, z .least, h .high) in
-      let first : t * t * x ≤ 3969 * 32767 = mul-le-mul {n₂ = 3969} {m₂ = 32767} (twice-fits .0) below in
-      (omega (arith, below), omega (arith, first))
+      let product : a * x ≤ 16777215 * 32767 = mul-le-mul {n₂ = 16777215} {m₂ = 32767} (omega arith) (omega (arith, low-small l)) in
+      record { digits = z .digits; power = e ∙ z .power; fits = omega (arith, product, m) }
+
+  -- So may q and the number after it.
+  pub leads-second : Leads t q s q
+  leads-second = low-leads (omega (arith, h .small)) (omega (arith, strides-fit .0)) (omega (arith, e, f, size-four t n (h .cycles)))
+
+  pub leads-third : {z : ℕ} → z ≡ (t * q + q) % s → Leads t q s z
+  leads-third k =
+      let low = mod-lt (t * q + q) {m = s} (omega (arith, e, size-four t n (h .cycles))) in
+      low-leads (omega (arith, h .small)) (omega (arith, strides-fit .0)) (rw k low)
 
 -- The first j numbers of the walk were laid at the end of d one after the other: the places among them stand there.
 record Laid (t n : ℕ) (d out : List ℕ) (j end : ℕ) : Type 0 where
@@ -191,86 +230,114 @@ module _ (t n : ℕ) (c : Cycles t n) (d : List ℕ) (room : length d ≡ n + 1)
           getD-set-other out n i 0 0 (omega arith) ∙ w .done i (omega (arith, whole))
           ∙ sym (List·getD-append ps (0 ∷ []) 0 i (omega (arith, size-is)) ∙ getD-table 0 (place t n) n i g)
 
--- The loop that makes the table, in turn i: i steps of the walk were taken and their numbers laid, and the chains stand at the next two.
-pub record Making (t n s q : ℕ) (d out : List ℕ) (x y end i : ℕ) : Type 0 where
+-- The loop that makes the table, in turn i: i steps of the walk were taken and their numbers laid, and the chains stand at the next four.
+pub record Making (t n s q : ℕ) (d out : List ℕ) (x y z w end i : ℕ) : Type 0 where
   tabulates : Tabulates t n d
   size-is : s ≡ size n
   offset-is : q ≡ s / 4 - 1
   within : i ≤ s
-  pairs : i % 2 ≡ 0
-  chains : Chained t n x y i
+  fours : i % 4 ≡ 0
+  chains : Chained t n x y z w i
   laid : Laid t n d out i end
 
 -- At first no step was taken.
-pub making-start : {t n s q : ℕ} {d : List ℕ} → Tabulates t n d → s ≡ size n → q ≡ s / 4 - 1 → Making t n s q d d 0 q 0 0
-making-start {t} {n} {s} {q} {d} h e f =
+pub making-start : {t n s q z w : ℕ} {d : List ℕ} → Tabulates t n d → s ≡ size n → q ≡ s / 4 - 1 → z ≡ (t * q + q) % s → w ≡ (t * z + q) % s
+    → Making t n s q d d 0 q z w 0 0
+making-start {t} {n} {s} {q} {z} {w} {d} h e f k l =
     record {
       tabulates = h;
       size-is = e;
       offset-is = f;
       within = omega arith;
-      pairs = refl;
-      chains = chained-start t n s q (h .fits) e f;
+      fours = refl;
+      chains = chained-start t n s q (h .fits) e f z w k l;
       laid = laid-start t n (h .fits .cycles) d (h .room);
     }
 
-module _ {t n s q : ℕ} {d out : List ℕ} {x y end i : ℕ} (w : Making t n s q d out x y end i) where
+module _ {t n s q : ℕ} {d out : List ℕ} {x y z w end i : ℕ} (v : Making t n s q d out x y z w end i) where
   fits : Interleaves t n
-  fits = w .tabulates .fits
-
-  -- What each turn multiplies and adds is far from wrapping.
-  pub making-fits : (1 ≤ s) × (s < 2 ^ 16) × (t * t * x < 2 ^ 27) × (t * t * y < 2 ^ 27) × (t * q + q < 2 ^ 20)
-  making-fits =
-      let z = sized t n (fits .cycles) in (
-        omega (arith, w .size-is, z .enough, fits .cycles .low),
-        omega (arith, w .size-is, z .least, fits .high),
-        chain-fits t n s q fits (w .size-is) (w .offset-is) x i (w .chains .even) .1,
-        chain-fits t n s q fits (w .size-is) (w .offset-is) y (suc i) (w .chains .odd) .1,
-        twice-fits t n s q fits (w .size-is) (w .offset-is) .1,
-      )
+  fits = v .tabulates .fits
 
   -- When all steps were taken there is room for the 0, and with it the table is whole.
   pub making-room : n < length out
-  making-room = omega (arith, w .laid .long, w .tabulates .room)
+  making-room = omega (arith, v .laid .long, v .tabulates .room)
 
   pub making-long : length (set out n 0) ≡ length d
-  making-long = length-set out n 0 ∙ w .laid .long
+  making-long = length-set out n 0 ∙ v .laid .long
 
   pub making-end : s ≤ i → set out n 0 ≡ places t n ++ (0 ∷ [])
-  making-end l = laid-end t n (fits .cycles) d (w .tabulates .room) (omega (arith, w .within, w .size-is)) (w .laid)
+  making-end l = laid-end t n (fits .cycles) d (v .tabulates .room) (omega (arith, v .within, v .size-is)) (v .laid)
+
+  -- The chains are below s,
+  low : (u j : ℕ) → u ≡ visit t n j → u < s
+  low u j g = rw (g, v .size-is) (visit-low t n (fits .cycles) j)
+
+  -- and may go on.
+  leads : (u j : ℕ) → u ≡ visit t n j → Leads (four t) (far t q) s u
+  leads u j g =
+      let b = strides-fit t n s q fits (v .size-is) (v .offset-is) in
+      low-leads t n s q fits (v .size-is) (v .offset-is) (b .3) (b .4) (low u j g)
+
+  pub making-leads : Leads (four t) (far t q) s x × Leads (four t) (far t q) s y × Leads (four t) (far t q) s z × Leads (four t) (far t q) s w
+  making-leads = (leads x _ (v .chains .first), leads y _ (v .chains .second), leads z _ (v .chains .third), leads w _ (v .chains .fourth))
 
   module _ (l : i < s) where
-    -- There is room for the first of a turn's two numbers,
-    pub making-first : Keeps x end out
-    making-first =
+    -- The steps of a turn are steps of the walk.
+    turn-within : i + 4 ≤ size n
+    turn-within = omega (arith, v .fours, v .size-is, size-fours t n (fits .cycles))
+
+    pub making-small : i + 4 < 2 ^ 16
+    making-small = omega (arith, turn-within, sized t n (fits .cycles) .least, fits .high)
+
+    -- There is room for a number where those before it were laid,
+    keeps : {u j end′ : ℕ} {out′ : List ℕ} → u ≡ visit t n j → j < i + 4 → Laid t n d out′ j end′ → Keeps u end′ out′
+    keeps {u} {j} g m a =
         record {
-          small = omega (arith, chain-fits t n s q fits (w .size-is) (w .offset-is) x i (w .chains .even) .0);
-          room = laid-room t n (fits .cycles) d (w .tabulates .room) (omega (arith, w .size-is)) (w .laid);
+          small = omega (arith, low-small t n s q fits (v .size-is) (v .offset-is) (low u j g));
+          room = laid-room t n (fits .cycles) d (v .tabulates .room) (omega (arith, turn-within)) a;
         }
 
-    module _ {end′ : ℕ} {out′ : List ℕ} (a : Kept n x end out end′ out′) where
-      laid-first : Laid t n d out′ (suc i) end′
-      laid-first = laid-turn t n (fits .cycles) d (w .tabulates .room) (omega (arith, w .size-is)) (w .chains .even) (w .laid) a
+    -- and with it laid the next one's turn comes.
+    lay : {u j end′ end″ : ℕ} {out′ out″ : List ℕ} → u ≡ visit t n j → j < i + 4 → Laid t n d out′ j end′ → Kept n u end′ out′ end″ out″
+        → Laid t n d out″ (suc j) end″
+    lay g m a k = laid-turn t n (fits .cycles) d (v .tabulates .room) (omega (arith, turn-within)) g a k
 
-      -- and for the second.
-      pub making-second : Keeps y end′ out′
-      making-second =
-          record {
-            small = omega (arith, chain-fits t n s q fits (w .size-is) (w .offset-is) y (suc i) (w .chains .odd) .0);
-            room = laid-room t n (fits .cycles) d (w .tabulates .room) (omega (arith, w .size-is)) laid-first;
-          }
+    pub making-first : Keeps x end out
+    making-first = keeps (v .chains .first) (omega arith) (v .laid)
 
-      -- With both laid, and both chains two steps further, the next turn begins.
-      pub making-turn : {end″ : ℕ} {out″ : List ℕ} → Kept n y end′ out′ end″ out″
-          → Making t n s q d out″ (bitAnd (t * t * x + (t * q + q)) (s - 1)) (bitAnd (t * t * y + (t * q + q)) (s - 1)) end″ (i + 2)
-      making-turn {end″} {out″} b =
-          let g : suc (suc i) ≡ i + 2 = omega arith in
-          record {
-            tabulates = w .tabulates;
-            size-is = w .size-is;
-            offset-is = w .offset-is;
-            within = omega (arith, w .pairs, w .size-is, size-even t n (fits .cycles));
-            pairs = omega (arith, w .pairs);
-            chains = chained-turn t n s q fits (w .size-is) (w .offset-is) x y i (w .chains);
-            laid = rw g at (laid-turn t n (fits .cycles) d (w .tabulates .room) (omega (arith, w .size-is)) (w .chains .odd) laid-first b);
-          }
+    module _ {end₁ : ℕ} {out₁ : List ℕ} (k₁ : Kept n x end out end₁ out₁) where
+      laid-first : Laid t n d out₁ (suc i) end₁
+      laid-first = lay (v .chains .first) (omega arith) (v .laid) k₁
+
+      pub making-second : Keeps y end₁ out₁
+      making-second = keeps (v .chains .second) (omega arith) laid-first
+
+      module _ {end₂ : ℕ} {out₂ : List ℕ} (k₂ : Kept n y end₁ out₁ end₂ out₂) where
+        laid-second : Laid t n d out₂ (suc (suc i)) end₂
+        laid-second = lay (v .chains .second) (omega arith) laid-first k₂
+
+        pub making-third : Keeps z end₂ out₂
+        making-third = keeps (v .chains .third) (omega arith) laid-second
+
+        module _ {end₃ : ℕ} {out₃ : List ℕ} (k₃ : Kept n z end₂ out₂ end₃ out₃) where
+          laid-third : Laid t n d out₃ (suc (suc (suc i))) end₃
+          laid-third = lay (v .chains .third) (omega arith) laid-second k₃
+
+          pub making-fourth : Keeps w end₃ out₃
+          making-fourth = keeps (v .chains .fourth) (omega arith) laid-third
+
+          -- With the four laid, and each chain four steps further, the next turn begins.
+          pub making-turn : {x′ y′ z′ w′ end₄ : ℕ} {out₄ : List ℕ} → Kept n w end₃ out₃ end₄ out₄
+              → x′ ≡ (four t * x + far t q) % s → y′ ≡ (four t * y + far t q) % s → z′ ≡ (four t * z + far t q) % s
+              → w′ ≡ (four t * w + far t q) % s → Making t n s q d out₄ x′ y′ z′ w′ end₄ (i + 4)
+          making-turn k₄ a b c e =
+              let g : suc (suc (suc (suc i))) ≡ i + 4 = omega arith in
+              record {
+                tabulates = v .tabulates;
+                size-is = v .size-is;
+                offset-is = v .offset-is;
+                within = omega (arith, turn-within, v .size-is);
+                fours = omega (arith, v .fours);
+                chains = chained-turn t n s q fits (v .size-is) (v .offset-is) a b c e (v .chains);
+                laid = rw g at (lay (v .chains .fourth) (omega arith) laid-third k₄);
+              }

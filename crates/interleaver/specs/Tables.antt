@@ -1,5 +1,5 @@
 -- The places as a table, and what making it requires and promises: nothing of 01 is stated here.
-use Prim.Native.Nat.{ℕ, _+_, _<_}
+use Prim.Native.Nat.{ℕ, _+_, _*_, _^_, _<_}
 use mathlib.Core.Path.{_≡_}
 use mathlib.Core.Bool.{cond}
 use mathlib.Core.List.{List}
@@ -22,6 +22,12 @@ pub record Keeps (x end : ℕ) (out : List ℕ) : Type 0 where
 pub record Kept (n x end : ℕ) (out : List ℕ) (end′ : ℕ) (out′ : List ℕ) : Type 0 where
   pub advanced : end′ ≡ cond (ltb x n) (end + 1) end
   pub written : out′ ≡ set out end x
+
+-- What going on along the walk requires: s is a power of two, and products and sums are far from wrapping.
+pub record Leads (factor addend s x : ℕ) : Type 0 where
+  pub digits : ℕ
+  pub power : s ≡ 2 ^ digits
+  pub fits : factor * x + addend < 2 ^ 63
 
 -- Room for the places and one number more.
 pub record Tabulates (t n : ℕ) (out : List ℕ) : Type 0 where
