@@ -4,15 +4,12 @@ ghost use Prim.Native.Nat.{_*_, _<_};
 ghost use lib.ListN.{length};
 ghost use Rattle.cellbytes.specs.CellBytes.{signed, fourBits, cellByte, realOf, imaginaryOf, numbers, bytes};
 
-// Four bits as a number.
+// Four bits as a number: with the highest turned over they are 8 more. No branch, which would follow the cells.
 fn signed_bits(n: u8) -> i16
     requires { ⌜ n < 16 ⌝ }
     ensures { λ r. ⌜ r ≡ signed n ⌝ }
 {
-    if n < 8 {
-        return n as i16;
-    }
-    -1 - (15 - n) as i16
+    (n ^ 8) as i16 - 8
 }
 
 // A number's four lowest bits.
