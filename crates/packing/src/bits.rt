@@ -5,25 +5,48 @@ ghost use lib.ListN.{length, getD};
 ghost use Rattle.component.specs.Bits.{Bits};
 ghost use Rattle.lists.specs.Lists.{table};
 ghost use Rattle.block.specs.Packing.{bitAt, unpacked, digits, packed, spareZero};
-ghost use Rattle.packing.specs.Contracts.{UnpacksWhole, Unpacks, Packs};
+ghost use Rattle.packing.specs.Contracts.{halfBit, halfPut, UnpacksWhole, Unpacks, Packs};
 
-// The bits of whole bytes, eight a turn.
+// The four bits of each of the sixteen half bytes, highest first.
+fn half_bits() -> [u8; 64]
+    ensures { λ r. ⌜ r ≡ table halfBit 0 64 ⌝ }
+{
+    let mut bits = [0u8; 64];
+    let mut k: usize = 0;
+    while k < 64 {
+        bits[k] = (((k / 4) >> (3 - k % 4)) % 2) as u8;
+        k += 1;
+    }
+    bits
+}
+
+// The bits of a half byte, from place `at` on. All four are read before one is stored, so that a processor moves them at once.
+fn put_half(bits: &[u8; 64], half: usize, out: &mut [u8], at: usize)
+    requires { ⌜ (half < 16) × (at + 4 ≤ length (now out)) ⌝ }
+    ensures { λ r. ⌜ now (out .exit) ≡ halfPut (now (bits .entry)) half (now (out .entry)) at ⌝ }
+{
+    let a = bits[4 * half];
+    let b = bits[4 * half + 1];
+    let c = bits[4 * half + 2];
+    let d = bits[4 * half + 3];
+    out[at] = a;
+    out[at + 1] = b;
+    out[at + 2] = c;
+    out[at + 3] = d;
+}
+
+// The bits of whole bytes, eight a turn: by a table of half bytes, which is small enough to be made for a block of a few bytes.
 fn unpack_whole(bytes: &[u8], out: &mut [u8])
     requires { ⌜ UnpacksWhole (now bytes) (now out) ⌝ }
     ensures { λ r. ⌜ now (out .exit) ≡ unpacked (length (now (out .entry))) (now (bytes .entry)) ⌝ }
 {
+    let bits = half_bits();
     let n = out.len() / 8;
     let mut k = 0;
     while k < n {
-        let byte = bytes[k];
-        out[8 * k] = byte / 128 % 2;
-        out[8 * k + 1] = byte / 64 % 2;
-        out[8 * k + 2] = byte / 32 % 2;
-        out[8 * k + 3] = byte / 16 % 2;
-        out[8 * k + 4] = byte / 8 % 2;
-        out[8 * k + 5] = byte / 4 % 2;
-        out[8 * k + 6] = byte / 2 % 2;
-        out[8 * k + 7] = byte % 2;
+        let byte = bytes[k] as usize;
+        put_half(&bits, byte / 16, out, 8 * k);
+        put_half(&bits, byte % 16, out, 8 * k + 4);
         k += 1;
     }
 }
