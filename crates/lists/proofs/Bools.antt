@@ -40,6 +40,15 @@ pub and-right : (a b : Bool) → (a && b) ≡ true → b ≡ true
 and-right true b h = h
 and-right false b h = absurd (never-both false h refl)
 
+-- tests put together in another order, and one put together with one that holds
+pub and-assoc : (a b c : Bool) → ((a && b) && c) ≡ (a && (b && c))
+and-assoc true b c = refl
+and-assoc false b c = refl
+
+pub and-true : (b : Bool) → b ≡ (b && true)
+and-true true = refl
+and-true false = refl
+
 -- one of two tests holds, and of two of which none does each fails
 pub or-right : (a b : Bool) → b ≡ true → (a || b) ≡ true
 or-right true b h = refl

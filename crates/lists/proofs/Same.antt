@@ -16,7 +16,7 @@ use lib.Signed.{mag}
 use mir.Syntax.{w16}
 use mir.Val.{SFits, toZ, ofZ}
 use mir.Facts.{toZ-ofZ}
-use Rattle.lists.proofs.Bools.{never-both, and-left, and-right}
+use Rattle.lists.proofs.Bools.{never-both, and-left, and-right, and-assoc, and-true}
 use Rattle.lists.specs.Same.{sameNumber, sameNumbers}
 
 -- a number is the number that it is
@@ -63,23 +63,21 @@ pub same-read : (v w : ℤ) (r : Bool) → mag v < 2 ^ 15 → mag w < 2 ^ 15 →
 same-read v w r f g e =
     e ∙ rw (toZ-ofZ {w = w16} (sfits-of {w = w16} {z = v} f), toZ-ofZ {w = w16} (sfits-of {w = w16} {z = w} g))
 
-module _ (x y : List ℤ) (i : ℕ) (h : i < length x) (k : length x ≡ length y) where
-  -- the lists from place i on
-  from-place : sameNumbers (drop i x) (drop i y) ≡ sameNumber (getD x i (pos 0)) (getD y i (pos 0)) && sameNumbers (drop (i + 1) x) (drop (i + 1) y)
+-- before the turn at place i of a loop that looks at every place: b, and the lists from there on are equal, exactly if the whole ones are
+module _ (x y : List ℤ) (i : ℕ) (b : Bool) (k : length x ≡ length y) where
+  from-place : i < length x
+      → sameNumbers (drop i x) (drop i y) ≡ sameNumber (getD x i (pos 0)) (getD y i (pos 0)) && sameNumbers (drop (i + 1) x) (drop (i + 1) y)
   unfolding sameNumbers
-  from-place = rw (drop-cons x i (pos 0) h, drop-cons y i (pos 0) (omega arith), add-one i)
+  from-place h = rw (drop-cons x i (pos 0) h, drop-cons y i (pos 0) (omega arith), add-one i)
 
-  -- equal numbers there, and other ones
-  pub same-here : sameNumber (getD x i (pos 0)) (getD y i (pos 0)) ≡ true → sameNumbers (drop (i + 1) x) (drop (i + 1) y) ≡ sameNumbers (drop i x) (drop i y)
-  same-here e = rw (from-place, e)
+  pub same-turn : (r : Bool) → i < length x → r ≡ sameNumber (getD x i (pos 0)) (getD y i (pos 0))
+      → ((b && r) && sameNumbers (drop (i + 1) x) (drop (i + 1) y)) ≡ (b && sameNumbers (drop i x) (drop i y))
+  same-turn r h e = and-assoc b r _ ∙ rw (e, from-place h)
 
-  pub other-here : sameNumber (getD x i (pos 0)) (getD y i (pos 0)) ≡ false → false ≡ sameNumbers (drop i x) (drop i y)
-  other-here e = rw (from-place, e)
-
--- nothing left
-pub same-end : (x y : List ℤ) (i : ℕ) → length x ≤ i → length x ≡ length y → true ≡ sameNumbers (drop i x) (drop i y)
-unfolding sameNumbers
-same-end x y i h k = rw (drop-of-length-le x {i = i} h, drop-of-length-le y {i = i} (omega arith))
+  -- nothing is left
+  pub same-end : length x ≤ i → b ≡ (b && sameNumbers (drop i x) (drop i y))
+  unfolding sameNumbers
+  same-end h = and-true b ∙ rw (drop-of-length-le x {i = i} h, drop-of-length-le y {i = i} (omega arith))
 
 -- the four lowest binary digits of a number are a number themselves
 pub low-digits : (n : ℕ) → toZ w16 (bitAnd n 15) ≡ pos (n % 16)

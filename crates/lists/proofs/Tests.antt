@@ -7,14 +7,7 @@ use native.Mathlib.Numerals.{add-one}
 use native.Mathlib.Omega.{arith}
 use Rattle.lists.specs.Lists.{table}
 use Rattle.lists.specs.Bools.{every}
-
-and-assoc : (a b c : Bool) → ((a && b) && c) ≡ (a && (b && c))
-and-assoc true b c = refl
-and-assoc false b c = refl
-
-and-true : (b : Bool) → b ≡ (b && true)
-and-true true = refl
-and-true false = refl
+use Rattle.lists.proofs.Bools.{and-assoc, and-true}
 
 -- tests by pairs
 pub every-pairs : (f : ℕ → Bool) (k n : ℕ) → every (table f (2 * k) (2 * n)) ≡ every (table (λ i. f (2 * i) && f (2 * i + 1)) k n)
