@@ -1,7 +1,7 @@
 -- The candidate's bits: levels read from the cells, both parts joined, and dispersal undone. Assumes nothing.
-use Prim.Native.Nat.{ℕ, _+_, _-_, _*_, _/_, _≤_, _<_}
-use mathlib.Core.Path.{_≡_, sym, ap, ap₂, _∙_}
-use mathlib.Core.Bool.{Bool, true, false, cond}
+use Prim.Native.Nat.{ℕ, _+_, _-_, _*_, _/_, _%_, _^_, _≤_}
+use mathlib.Core.Path.{_≡_, refl, sym, ap, ap₂, _∙_}
+use mathlib.Core.Bool.{Bool, true, false}
 use mathlib.Core.List.{List, _++_}
 use native.Mathlib.Omega.{arith}
 use lib.IntN.{ℤ}
@@ -9,56 +9,73 @@ use lib.ListN.{length, take, drop}
 use lib.Seq.{length-take-le, drop-at}
 use Rattle.lists.specs.Lists.{table}
 use Rattle.lists.proofs.Parts.{from-start, to-end, length-start, length-written, length-second, both-written}
-use Rattle.block.specs.Reading.{labelsOf, streamIn, unmapped, inputsA, inputsB, candidate}
+use Rattle.block.specs.Reading.{labelsOf, taken, streamIn, unmapped, candidate}
 use Rattle.block.specs.declared.Block.{Block}
 use Rattle.block.specs.Dispersal.{dispersed, dispersedParts}
 use Rattle.block.specs.Mapping.{constellation}
 use Rattle.block.specs.Block.{levelsOf, pointsOf, oneAxis}
-use Rattle.mapping.specs.Contracts.{Unmaps}
-use Rattle.multilevel.specs.Contracts.{BlockOrder, bitsBefore, digitAt, ReadsLevels}
-use Rattle.multilevel.proofs.Totals.{all-bits, count-is, three, fits-level}
+use Rattle.mapping.specs.Labels.{axisLabels}
+use Rattle.mapping.specs.Contracts.{Unmaps, UnmapsAxes}
+use Rattle.multilevel.specs.Contracts.{levelAt, bitsBefore, readOver}
+use Rattle.multilevel.proofs.Totals.{all-bits, count-is, levels-table}
+use Rattle.multilevel.proofs.PartsRead.{inputsIn, read-all, read-pairs}
 use Rattle.blockcoder.specs.Contracts.{ReadsCells, CellsRead, ReadsCandidate}
 use Rattle.block.proofs.Dispersal.{length-dispersed}
+use Rattle.blockcoder.proofs.Axes.{twice}
 
--- at most three digits
-digits-low : (one : Bool) (s l : ℕ) → s ≤ 3 → l < cond one (2 * s) s → digitAt one l < 3
-unfolding digitAt
-digits-low true s l h k = omega arith
-digits-low false s l h k = omega arith
+-- the streams of a pair of levels, one from each axis
+axis-streams : (labels : List ℕ) (i : ℕ)
+    → (streamIn true labels (2 * i) ≡ taken (2 ^ i) (axisLabels 0 labels)) × (streamIn true labels (1 + 2 * i) ≡ taken (2 ^ i) (axisLabels 1 labels))
+unfolding streamIn axisLabels
+axis-streams labels i =
+    let e : 2 * i / 2 ≡ i = omega arith in
+    let f : 2 * i % 2 ≡ 0 = omega arith in
+    let g : (1 + 2 * i) / 2 ≡ i = omega arith in
+    let h : (1 + 2 * i) % 2 ≡ 1 = omega arith in
+    (rw (e, f), rw (g, h))
 
 module _ {k : Block} {cells : List ℤ} {a b : List ℕ} (R : ReadsCells k cells a b) where
-  -- the levels can be read from the labels of the block's coordinates
-  pub reads-both : {order labels p : List ℕ} → BlockOrder k order → labels ≡ p → length p ≡ length cells → ReadsLevels k order labels a b
-  reads-both {order} {labels} O g h =
-      let F = R .fits in
-      let e : length labels ≡ 2 * k .cells = rw g (h ∙ R .long) in
-      let half : 2 * k .cells / 2 ≡ k .cells = omega arith in
-      record {
-        ordered = λ l m n f. O .each l m n (rw (e, half) at f);
-        few = F .few;
-        room = F .room;
-        fits = λ l m. rw (e, half) (fits-level F l m);
-        digits = λ l m. digits-low (oneAxis k) (F .streams) l (three F) (rw (← F .levels, count-is F) m);
-        whole = rw e (omega arith);
-        long = (R .parts .longA, R .parts .longB);
-        short = (omega (arith, R .parts .longA, all-bits F, F .short), omega (arith, R .parts .longB, all-bits F, F .short));
-        high = omega (arith, e, F .most);
-      }
-
-  -- coordinates of the block's cells, to labels
-  pub unmaps : {out : List ℕ} → length out ≡ length cells → Unmaps (k .constellation) cells out
-  unmaps e = record { known = R .fits .known; whole = rw (R .long) (omega arith); same = e }
-
   pub cells-low : length cells ≤ 12236
   cells-low = omega (arith, R .long, R .fits .most)
 
-  -- what is read from them
-  pub read-both : {a′ b′ labels : List ℕ} → labels ≡ labelsOf (constellation (k .constellation)) cells
-      → a′ ≡ inputsA (levelsOf k) (table (streamIn (oneAxis k) labels) 0 (k .count))
-      → b′ ≡ inputsB (levelsOf k) (table (streamIn (oneAxis k) labels) 0 (k .count))
-      → CellsRead k cells a′ b′
-  unfolding unmapped pointsOf
-  read-both e p q = record { partA = rw (count-is (R .fits)) (rw e at p); partB = rw (count-is (R .fits)) (rw e at q) }
+  -- coordinates of the block's cells, to labels of both axes, or of each
+  pub unmaps : {out : List ℕ} → length out ≡ length cells → Unmaps (k .constellation) cells out
+  unmaps e = record { known = R .fits .known; whole = rw (R .long) (omega arith); same = e }
+
+  pub unmaps-axes : {re im : List ℕ} → length re ≡ k .cells → length im ≡ k .cells → UnmapsAxes (k .constellation) cells re im
+  unmaps-axes e f = record { known = R .fits .known; same = rw e (R .long); both = f ∙ sym e }
+
+  -- the bits that are read are those of the block's levels
+  block-inputs : (b : Bool) {n : ℕ} {v : List ℕ} → n ≡ k .count
+      → v ≡ inputsIn b (table (levelAt (k .levels)) 0 n) (table (streamIn (oneAxis k) (labelsOf (constellation (k .constellation)) cells)) 0 n)
+      → v ≡ inputsIn b (levelsOf k) (unmapped (pointsOf k) (oneAxis k) (length (levelsOf k)) cells)
+  unfolding unmapped pointsOf oneAxis
+  block-inputs b e f = rw (count-is (R .fits), levels-table k (R .fits .room), ← e) f
+
+  module _ (one : oneAxis k ≡ false) {labels : List ℕ} (e : labels ≡ labelsOf (constellation (k .constellation)) cells) where
+    both-read : (b : Bool) (v : List ℕ) {v′ : List ℕ} → length v ≡ bitsBefore (k .levels) b (k .count) → v′ ≡ readOver (k .levels) b labels 0 1 1 (k .count) v
+        → v′ ≡ inputsIn b (levelsOf k) (unmapped (pointsOf k) (oneAxis k) (length (levelsOf k)) cells)
+    unfolding streamIn
+    both-read b v h f =
+        block-inputs b refl (f ∙ read-all (k .levels) b _ labels (k .count) v h (λ i m. rw (one, e)))
+
+    -- what is read from the labels of both axes
+    pub read-both : {a′ b′ : List ℕ} → a′ ≡ readOver (k .levels) false labels 0 1 1 (k .count) a → b′ ≡ readOver (k .levels) true labels 0 1 1 (k .count) b → CellsRead k cells a′ b′
+    read-both f g = record { partA = both-read false a (R .parts .longA) f; partB = both-read true b (R .parts .longB) g }
+
+  module _ (one : oneAxis k ≡ true) {re im : List ℕ} (e : re ≡ axisLabels 0 (labelsOf (constellation (k .constellation)) cells))
+      (f : im ≡ axisLabels 1 (labelsOf (constellation (k .constellation)) cells)) where
+    axes-read : (b : Bool) (v : List ℕ) {u v′ : List ℕ} → length v ≡ bitsBefore (k .levels) b (k .count) → u ≡ readOver (k .levels) b re 0 2 1 (k .count / 2) v
+        → v′ ≡ readOver (k .levels) b im 1 2 1 (k .count / 2) u → v′ ≡ inputsIn b (levelsOf k) (unmapped (pointsOf k) (oneAxis k) (length (levelsOf k)) cells)
+    axes-read b v h g p =
+        let t = twice (R .fits) one in
+        block-inputs b t
+        (p ∙ rw g (read-pairs (k .levels) b _ re im (k .count / 2) v (rw t h) (λ i m. rw (one, e, f) (axis-streams (labelsOf (constellation (k .constellation)) cells) i))))
+
+    -- what is read from the labels of the real axis and then from those of the imaginary one
+    pub read-axes : {a₁ b₁ a₂ b₂ : List ℕ} → a₁ ≡ readOver (k .levels) false re 0 2 1 (k .count / 2) a → b₁ ≡ readOver (k .levels) true re 0 2 1 (k .count / 2) b
+        → a₂ ≡ readOver (k .levels) false im 1 2 1 (k .count / 2) a₁ → b₂ ≡ readOver (k .levels) true im 1 2 1 (k .count / 2) b₁ → CellsRead k cells a₂ b₂
+    read-axes p q r s = record { partA = axes-read false a (R .parts .longA) p r; partB = axes-read true b (R .parts .longB) q s }
 
 -- x in place of the first n elements: what follows them
 rest-part : (x v : List ℕ) (n : ℕ) → length x ≡ n → take (length (x ++ drop (n - 0) v) - n) (drop n (x ++ drop (n - 0) v)) ≡ drop n v

@@ -2,7 +2,7 @@
 use Prim.Native.Nat.{ℕ, _-_, _*_, _/_, _≤_, _<_}
 use mathlib.Core.Path.{_≡_, sym, ap, _∙_}
 use mathlib.Core.Logic.{_⊎_, inl, inr}
-use mathlib.Core.Bool.{true, false, cond}
+use mathlib.Core.Bool.{true, false}
 use mathlib.Core.List.{List, _++_}
 use native.Mathlib.Omega.{arith}
 use lib.ListN.{length, getD, take, drop, List·getD-eq-default}
@@ -24,13 +24,14 @@ use Rattle.mapping.specs.Labels.{coordinates}
 use Rattle.mapping.specs.Contracts.{ThreeBits}
 use Rattle.block.specs.Block.{levelsOf, pointsOf, oneAxis, bitCount, streamsOf, cellsOf, cellsFrom}
 use Rattle.multilevel.specs.Contracts.{bitsBefore, streamAt, stepped, BlockOrder, CodesLevels}
-use Rattle.multilevel.proofs.Totals.{total-A, all-bits, streams-are, count-is, three, codes-levels, length-streamAt, number-low}
+use Rattle.multilevel.proofs.Totals.{total-A, all-bits, streams-are, length-streamAt, number-low}
 use Rattle.block.proofs.Lists.{bits-take}
 use Rattle.block.proofs.Packing.{length-unpacked}
 use Rattle.block.proofs.Dispersal.{length-dispersedParts, bits-dispersedParts, from-first}
 use Rattle.packing.specs.Contracts.{Unpacks}
 use Rattle.blockcoder.specs.Contracts.{cellsBy, CodesParts, CodesBits, MapsParts, MapsAxesParts}
 use Rattle.block.specs.Fits.{BlockLent}
+use Rattle.blockcoder.proofs.Axes.{few, both-levels, axis, cells-low, pairs, twice, axis-levels}
 use Rattle.blockcoder.proofs.Woven.{mapped-labels, labels-woven}
 
 -- the labels of at most three levels are labels of level bits
@@ -46,18 +47,12 @@ labels-low ls a b l s m n h = record { low = λ k. go k (below-or k n) }
 
 -- levels that go to both axes
 module _ {k : Block} {a b : List ℕ} {out : List ℤ} (C : CodesParts k a b out) (one : oneAxis k ≡ false) where
-  both : length out ≡ cond (oneAxis k) (k .cells) (2 * k .cells)
-  both = rw one (C .cells)
-
   pub out-low : length out ≤ 12236
   out-low = omega (arith, C .cells, C .fits .most)
 
-  few : k .count ≤ 3
-  few = omega (arith, sym (count-is (C .fits)) ∙ rw one at (C .fits .levels), three (C .fits))
-
   -- they can be coded
   pub codes-both : {order labels : List ℕ} → BlockOrder k order → length labels ≡ length out → CodesLevels (oneAxis k) (k .levels) 0 1 (k .count) order a b labels
-  codes-both O e = codes-levels (C .fits) (C .parts) both out-low (C .inputA) (C .inputB) O 1 0 (k .count) (omega arith) (omega arith) (omega arith) few (omega arith) e
+  codes-both O e = record { few = both-levels (C .fits) one (C .parts) O (e ∙ C .cells); inputA = C .inputA; inputB = C .inputB }
 
   module _ {labels : List ℕ} (e : labels ≡ table (labelAt (stepped (streamAt (k .levels) a b) 0 1 (k .count))) 0 (length out)) where
     same-count : length labels ≡ length out
@@ -72,7 +67,7 @@ module _ {k : Block} {a b : List ℕ} {out : List ℤ} (C : CodesParts k a b out
           whole = rw (same-count, C .cells) (omega arith);
           part = rw same-count (omega (arith, C .cells, C .fits .part));
           high = rw same-count (omega (arith, out-low));
-          low = rw e (labels-low (k .levels) a b 0 1 (k .count) (length out) few);
+          low = rw e (labels-low (k .levels) a b 0 1 (k .count) (length out) (few (C .fits) one));
         }
 
     -- to the cells
@@ -83,25 +78,9 @@ module _ {k : Block} {a b : List ℕ} {out : List ℤ} (C : CodesParts k a b out
 
 -- levels that go to one axis
 module _ {k : Block} {a b : List ℕ} {out : List ℤ} (C : CodesParts k a b out) (one : oneAxis k ≡ true) where
-  axis : k .cells ≡ cond (oneAxis k) (k .cells) (2 * k .cells)
-  axis = rw one
-
-  cells-low : k .cells ≤ 12236
-  cells-low = omega (arith, C .fits .most)
-
-  count : k .count ≡ 2 * C .fits .streams
-  count = sym (count-is (C .fits)) ∙ rw one at (C .fits .levels)
-
-  pairs : k .count / 2 ≤ 3
-  pairs = omega (arith, count, three (C .fits))
-
-  twice : 2 * (k .count / 2) ≡ k .count
-  twice = omega (arith, count)
-
   -- those of the real axis can be coded, and those of the imaginary one
   pub codes-axis : {order labels : List ℕ} → BlockOrder k order → (l : ℕ) → l ≤ 1 → length labels ≡ k .cells → CodesLevels (oneAxis k) (k .levels) l 2 (k .count / 2) order a b labels
-  codes-axis O l h e =
-      codes-levels (C .fits) (C .parts) axis cells-low (C .inputA) (C .inputB) O 2 l (k .count / 2) (omega arith) (omega arith) h pairs (omega (arith, twice)) e
+  codes-axis O l h e = record { few = axis-levels (C .fits) one (C .parts) O l h e; inputA = C .inputA; inputB = C .inputB }
 
   module _ {re im : List ℕ}
       (e : re ≡ table (labelAt (stepped (streamAt (k .levels) a b) 0 2 (k .count / 2))) 0 (k .cells))
@@ -120,9 +99,9 @@ module _ {k : Block} {a b : List ℕ} {out : List ℤ} (C : CodesParts k a b out
           same = rw real-count (C .cells);
           both = imaginary-count ∙ sym real-count;
           part = rw real-count (C .fits .part);
-          high = rw real-count (omega (arith, cells-low));
-          lowReal = rw e (labels-low (k .levels) a b 0 2 (k .count / 2) (k .cells) pairs);
-          lowImaginary = rw f (labels-low (k .levels) a b 1 2 (k .count / 2) (k .cells) pairs);
+          high = rw real-count (omega (arith, cells-low (C .fits) one));
+          lowReal = rw e (labels-low (k .levels) a b 0 2 (k .count / 2) (k .cells) (pairs (C .fits) one));
+          lowImaginary = rw f (labels-low (k .levels) a b 1 2 (k .count / 2) (k .cells) (pairs (C .fits) one));
         }
 
     -- to the cells
@@ -133,8 +112,8 @@ module _ {k : Block} {a b : List ℕ} {out : List ℤ} (C : CodesParts k a b out
         let S = streamAt (k .levels) a b in
         let w : weave re im ≡ table (labelAt (woven (stepped S 0 1 (k .count)))) 0 (2 * k .cells) =
         rw (e, f)
-        (labels-woven S (k .cells) (k .count / 2) (λ i h. length-streamAt (C .fits) (C .parts) axis cells-low (C .inputA) (C .inputB) i (omega (arith, twice)))
-        ∙ ap (λ m. table (labelAt (woven (stepped S 0 1 m))) 0 (2 * k .cells)) twice) in
+        (labels-woven S (k .cells) (k .count / 2) (λ i h. length-streamAt (C .fits) (C .parts) (axis (C .fits) one) (cells-low (C .fits) one) (C .inputA) (C .inputB) i (omega (arith, twice (C .fits) one)))
+        ∙ ap (λ m. table (labelAt (woven (stepped S 0 1 m))) 0 (2 * k .cells)) (twice (C .fits) one)) in
         g ∙ rw (w, streams-are (C .fits) a b) (mapped-labels (constellation (k .constellation)) (2 * k .cells) _)
 
 -- the dispersed bits of a block

@@ -1,3 +1,4 @@
+pub mod Axes
 pub mod Woven
 pub mod Coding
 pub mod CellsRead

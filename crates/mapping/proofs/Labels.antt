@@ -1,5 +1,5 @@
 -- Coordinates back to the labels of their level bits, by their place among 7, 5, .. -7. Assumes nothing.
-use Prim.Native.Nat.{ℕ, zero, suc, _+_, _*_, _%_, _^_, _≤_, _<_}
+use Prim.Native.Nat.{ℕ, zero, suc, _+_, _*_, _/_, _%_, _^_, _≤_, _<_}
 use mathlib.Core.Bool.{Bool, true, false, cond}
 use mathlib.Core.Path.{_≡_, refl, sym, _∙_}
 use mathlib.Core.List.{List, [], _∷_}
@@ -17,8 +17,9 @@ use Rattle.lists.proofs.Tables.{Filled, filled-start, filled-turn, filled-end, 
 use Rattle.block.specs.Mapping.{Constellation, coordinate, qam4, qam16, standard64, symmetric64, constellation, axis}
 use Rattle.lists.specs.Same.{sameNumber}
 use Rattle.block.specs.Reading.{placeOf, labelsOf}
-use Rattle.mapping.specs.Labels.{labelsBy}
+use Rattle.mapping.specs.Labels.{labelsBy, axisLabels}
 use Rattle.lists.proofs.Same.{sameNumber-true}
+use Rattle.block.proofs.Mapping.{length-numbers}
 use Rattle.mapping.proofs.Coordinates.{axis-even, axis-odd}
 
 -- a rule of both axes
@@ -164,3 +165,27 @@ unfolding labelsOf
 done {c} {cells} {d} {out} {k} P e h =
     let n : 2 * k ≡ length cells = omega (arith, P .whole) in
     filled-end 0 _ d out (length cells) e (rw n at (P .filled))
+
+-- before the turn at cell k of the labels of one axis
+pub record Axis (c a : ℕ) (cells : List ℤ) (d out : List ℕ) (k : ℕ) : Type 0 where
+  pub whole : k ≤ length d
+  pub filled : Filled 0 (λ i. getD (labelsOf (constellation c) cells) (2 * i + a) 0) d out k
+
+pub axis-start : (c a : ℕ) (cells : List ℤ) (d : List ℕ) → Axis c a cells d d 0
+axis-start c a cells d = record { whole = omega arith; filled = filled-start 0 _ d }
+
+pub axis-turn : {c a : ℕ} {cells : List ℤ} {d out : List ℕ} {k : ℕ} → Axis c a cells d out k → a < 2 → k < length d → length cells ≡ 2 * length d
+    → (j r : ℕ) → j ≡ 2 * k + a → r ≡ placeOf (axis (constellation c) a) (getD cells j (pos 0)) → Axis c a cells d (set out k r) (k + 1)
+unfolding labelsOf
+axis-turn {c} {a} {cells} {d} {out} {k} P h m n j r g e =
+    let K = constellation c in
+    let f = getD-table 0 (λ j. placeOf (axis K j) (getD cells j (pos 0))) (length cells) (2 * k + a) (omega arith) in
+    record { whole = omega arith; filled = filled-turn 0 _ d out k r m (rw g at e ∙ sym (rw (axis-of K k a h) at f)) (P .filled) }
+
+pub axis-done : {c a : ℕ} {cells : List ℤ} {d out : List ℕ} {k : ℕ} → Axis c a cells d out k → length d ≤ k → length cells ≡ 2 * length d
+    → out ≡ axisLabels a (labelsOf (constellation c) cells)
+unfolding axisLabels
+axis-done {c} {a} {cells} {d} {out} {k} P h n =
+    let e : length (labelsOf (constellation c) cells) / 2 ≡ length d = omega (arith, length-numbers (constellation c) cells) in
+    let f : k ≡ length d = omega (arith, P .whole) in
+    rw e (filled-end 0 _ d out _ refl (rw f at (P .filled)))

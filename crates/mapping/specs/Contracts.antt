@@ -38,6 +38,12 @@ pub record Unmaps (c : ℕ) (cells : List ℤ) (out : List ℕ) : Type 0 where
   pub same : length out ≡ length cells
   pub whole : length cells % 2 ≡ 0
 
+-- A constellation, whole cells, and room for a number of each axis for each cell.
+pub record UnmapsAxes (c : ℕ) (cells : List ℤ) (re im : List ℕ) : Type 0 where
+  pub known : c < 5
+  pub same : length cells ≡ 2 * length re
+  pub both : length im ≡ length re
+
 -- Number v is the one that a table holds at its four lowest binary digits.
 abbrev pub inTable : List ℤ → ℤ → Bool
 inTable known v = eqb (ofZ w16 v) (ofZ w16 (getD known (bitAnd (ofZ w16 v) 15) (pos 0)))

@@ -1,5 +1,5 @@
 -- The labels i0 + 2 × i1 + 4 × i2 of level bits, and coordinates. 01 "Mapping"; 001 clause 7.4.
-use Prim.Native.Nat.{ℕ}
+use Prim.Native.Nat.{ℕ, _+_, _*_, _/_}
 use mathlib.Core.List.{List}
 use lib.ListN.{length, getD}
 use lib.IntN.{ℤ, pos}
@@ -14,3 +14,7 @@ coordinates k labels = table (λ j. getD (axis k j) (getD labels j 0) (pos 0)) 0
 -- The labels of a labelling by a coordinate's place among 7, 5, .. -7; 0 stands for what is none of these.
 unfoldable pub labelsBy : List ℤ → List ℕ
 labelsBy l = table (λ i. placeOf l (getD standard64 i (pos 0))) 0 9
+
+-- The labels of one axis, a number a cell: axis 0 is the real, axis 1 the imaginary one.
+unfoldable pub axisLabels : ℕ → List ℕ → List ℕ
+axisLabels a labels = table (λ k. getD labels (2 * k + a) 0) 0 (length labels / 2)

@@ -9,8 +9,8 @@ ghost use mir.Val.{ofZ};
 ghost use Rattle.lists.specs.Lists.{table};
 ghost use Rattle.block.specs.Mapping.{standard64, constellation, axis, weave};
 ghost use Rattle.block.specs.Reading.{placeOf, labelsOf};
-ghost use Rattle.mapping.specs.Labels.{coordinates, labelsBy};
-ghost use Rattle.mapping.specs.Contracts.{Maps, MapsAxes, Unmaps};
+ghost use Rattle.mapping.specs.Labels.{coordinates, labelsBy, axisLabels};
+ghost use Rattle.mapping.specs.Contracts.{Maps, MapsAxes, Unmaps, UnmapsAxes};
 
 // The coordinates of an axis by the number of its level bits, filled up with zeros to eight.
 const QAM4: [i16; 8] = [1, -1, 0, 0, 0, 0, 0, 0];
@@ -161,6 +161,22 @@ pub fn unmap_cells(c: u8, cells: &[i16], out: &mut [u8])
     while k < n {
         out[2 * k] = label_of(&real, cells[2 * k]);
         out[2 * k + 1] = label_of(&imaginary, cells[2 * k + 1]);
+        k += 1;
+    }
+}
+
+// The same, where each axis has labels of its own.
+pub fn unmap_axes(c: u8, cells: &[i16], re: &mut [u8], im: &mut [u8])
+    requires { ⌜ UnmapsAxes c (now cells) (now re) (now im) ⌝ }
+    ensures { λ r. ⌜ now (re .exit) ≡ axisLabels 0 (labelsOf (constellation c) (now (cells .entry))) ⌝ }
+    ensures { λ r. ⌜ now (im .exit) ≡ axisLabels 1 (labelsOf (constellation c) (now (cells .entry))) ⌝ }
+{
+    let real = axis_labels(c, 0);
+    let imaginary = axis_labels(c, 1);
+    let mut k = 0;
+    while k < re.len() {
+        re[k] = label_of(&real, cells[2 * k]);
+        im[k] = label_of(&imaginary, cells[2 * k + 1]);
         k += 1;
     }
 }

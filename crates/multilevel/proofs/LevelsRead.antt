@@ -1,23 +1,17 @@
--- A block's levels read one after the other into parts A and B. Assumes nothing.
-use Prim.Native.Nat.{ℕ, zero, suc, _+_, _-_, _*_, _/_, _%_, _^_, _≤_, _<_}
-use mathlib.Core.Path.{_≡_, refl, sym, ap, _∙_}
-use mathlib.Core.Bool.{Bool, true, false, cond}
-use mathlib.Core.List.{List, [], _++_, append-nil, append-assoc}
-use native.Mathlib.Nat.{add-zero, zero-add}
-use native.Mathlib.Numerals.{add-one}
+-- Levels read one after the other into parts A and B. Assumes nothing.
+use Prim.Native.Nat.{ℕ, suc, _+_, _-_, _*_, _≤_, _<_}
+use mathlib.Core.Path.{_≡_, refl, sym, _∙_}
+use mathlib.Core.Bool.{Bool, true, false}
+use mathlib.Core.List.{List, _++_, append-assoc}
 use native.Mathlib.Omega.{arith}
-use lib.ListN.{length, take, drop, length-append}
-use lib.Seq.{sets, sets-eq, length-sets, length-take-le, take-at, take-all, drop-drop}
-use Rattle.lists.specs.Lists.{table}
-use Rattle.block.specs.Fits.{LevelFits}
-use Rattle.block.specs.Reading.{taken, streamIn, inputA, inputB, inputsA, inputsB}
+use lib.ListN.{length, take, drop}
+use lib.Seq.{sets, sets-eq, length-sets, drop-drop}
+use Rattle.block.specs.Reading.{taken, inputA, inputB}
 use Rattle.component.proofs.Decoding.{length-decode}
 use Rattle.block.specs.declared.Level.{Level}
-use Rattle.block.specs.declared.Block.{Block}
-use Rattle.block.specs.Block.{levelsOf, oneAxis}
-use Rattle.multilevel.specs.Contracts.{levelAt, bitsIn, bitsBefore, ReadsLevel, LevelRead, ReadsAt, ReadAt, digitAt, axisLabels, ReadsLevels, ReadsStream, takenOver}
-use Rattle.multilevel.proofs.Totals.{levels-table}
-use Rattle.multilevel.proofs.Partition.{before-mono, part-is, part-long, ends-a, ends-b}
+use Rattle.multilevel.specs.Contracts.{levelAt, bitsIn, bitsBefore, LevelThere, FewLevels, ReadsLevel, LevelRead, ReadsAt, ReadAt, digitAt, inputIn, readOver}
+use Rattle.multilevel.proofs.Partition.{part-is, part-long, ends-a, ends-b}
+use Rattle.multilevel.proofs.Turns.{Turn, first-turn, level-there, next-turn}
 
 -- a part of v from d on, written over, is stored in v
 pub stored-part : (x v : List ℕ) (s n d : ℕ) → s ≡ d → length x ≡ n → d + n ≤ length v
@@ -34,6 +28,11 @@ length-inputA l y = length-decode _ 0 0 (l .bitsa) _
 length-inputB : (l : Level) (y : List ℕ) → length (inputB l y) ≡ l .bitsb
 unfolding inputB
 length-inputB l y = length-decode _ _ 0 (l .bitsb) _
+
+pub length-inputIn : (b : Bool) (l : Level) (y : List ℕ) → length (inputIn b l y) ≡ bitsIn b l
+unfolding inputIn bitsIn
+length-inputIn true l y = length-inputB l y
+length-inputIn false l y = length-inputA l y
 
 module _ {one : Bool} {ls : List Level} {l w : ℕ} {order labels coded a b : List ℕ} (R : ReadsAt one ls l w order labels coded a b)
     {s r : ℕ} (es : s ≡ bitsBefore ls false l) (er : r ≡ bitsBefore ls true l) where
@@ -55,6 +54,7 @@ module _ {one : Bool} {ls : List Level} {l w : ℕ} {order labels coded a b : Li
       → ReadAt ls l (taken w labels) a b
       (take s a ++ (a′ ++ drop (s + levelAt ls l .bitsa - s) (drop s a)))
       (take r b ++ (b′ ++ drop (r + levelAt ls l .bitsb - r) (drop r b)))
+  unfolding inputIn
   read-at {a′} {b′} L =
       let y = taken w labels in
       let la : length a′ ≡ levelAt ls l .bitsa = rw (L .partA) (length-inputA (levelAt ls l) y) in
@@ -64,162 +64,51 @@ module _ {one : Bool} {ls : List Level} {l w : ℕ} {order labels coded a b : Li
         partB = stored-part b′ b r (levelAt ls l .bitsb) (bitsBefore ls true l) er lb (rw er at (ends-b (R .level) er)) ∙ rw (L .partB);
       }
 
--- f k, f (k + 1), .., n of them, one after the other
-unfoldable pub joined : (ℕ → List ℕ) → ℕ → ℕ → List ℕ
-joined f k zero = []
-joined f k (suc n) = f k ++ joined f (suc k) n
-
-joined-more : (f : ℕ → List ℕ) (k n : ℕ) → joined f k (n + 1) ≡ joined f k n ++ f (k + n)
-unfolding joined
-joined-more f k zero = rw add-zero (append-nil (f k))
-joined-more f k (suc n) =
-    let e : suc n + 1 ≡ suc (n + 1) = omega arith in
-    let g : k + suc n ≡ suc k + n = omega arith in
-    rw (e, g) (ap (λ v. f k ++ v) (joined-more f (suc k) n) ∙ sym (append-assoc (f k) (joined f (suc k) n) (f (suc k + n))))
-
--- the bits read in part A are those of the levels one after the other, and in part B
-inputsA-joined : (g : ℕ → Level) (h : ℕ → List ℕ) (k n : ℕ) → inputsA (table g k n) (table h k n) ≡ joined (λ i. inputA (g i) (h i)) k n
-unfolding inputsA joined table
-inputsA-joined g h k zero = refl
-inputsA-joined g h k (suc n) = ap (λ v. inputA (g k) (h k) ++ v) (inputsA-joined g h (suc k) n)
-
-inputsB-joined : (g : ℕ → Level) (h : ℕ → List ℕ) (k n : ℕ) → inputsB (table g k n) (table h k n) ≡ joined (λ i. inputB (g i) (h i)) k n
-unfolding inputsB joined table
-inputsB-joined g h k zero = refl
-inputsB-joined g h k (suc n) = ap (λ v. inputB (g k) (h k) ++ v) (inputsB-joined g h (suc k) n)
-
--- what is stored behind the first d elements comes behind them
-take-stored : (x v : List ℕ) (d : ℕ) → d + length x ≤ length v → take (d + length x) (sets v d x) ≡ take d v ++ x
-take-stored x v d h =
-    rw (sets-eq x v d h) (take-at (take d v ++ x) (drop (d + length x) v) (d + length x) (rw (length-append, length-take-le d v (omega arith))))
-
--- one part before the turn at level l: the bits of the levels before it are in place
-pub record Placed (f : ℕ → List ℕ) (ls : List Level) (b : Bool) (d v : List ℕ) (l : ℕ) : Type 0 where
-  pub same : length v ≡ length d
-  pub first : take (bitsBefore ls b l) v ≡ joined f 0 l
-
-placed-start : (f : ℕ → List ℕ) (ls : List Level) (b : Bool) (d : List ℕ) → Placed f ls b d d 0
-unfolding bitsBefore joined
-placed-start f ls b d = record { same = refl; first = refl }
-
-placed-turn : {f : ℕ → List ℕ} {ls : List Level} {b : Bool} {d v : List ℕ} {l : ℕ} → Placed f ls b d v l
-    → length (f l) ≡ bitsIn b (levelAt ls l) → bitsBefore ls b (suc l) ≤ length d
-    → {v′ : List ℕ} → v′ ≡ sets v (bitsBefore ls b l) (f l) → Placed f ls b d v′ (l + 1)
-unfolding bitsBefore
-placed-turn {f} {ls} {b} {d} {v} {l} P e h {v′} k =
-    let n : bitsBefore ls b (l + 1) ≡ bitsBefore ls b l + length (f l) = rw (add-one l, e) in
+-- a level has places in parts that are as long
+same-there : {one : Bool} {ls : List Level} {n l : ℕ} {order a b a′ b′ : List ℕ} → LevelThere one ls n order a b l → length a′ ≡ length a → length b′ ≡ length b
+    → LevelThere one ls n order a′ b′ l
+same-there L e f =
     record {
-      same = rw k (length-sets v (bitsBefore ls b l) (f l)) ∙ P .same;
-      first = rw (n, k, joined-more f 0 l, zero-add l, ← P .first) (take-stored (f l) v (bitsBefore ls b l) (omega (arith, P .same, e)));
+      room = L .room;
+      ordered = L .ordered;
+      there = L .there;
+      fits = L .fits;
+      withinA = omega (arith, L .withinA, e);
+      withinB = omega (arith, L .withinB, f);
+      short = (omega (arith, L .short .0, e), omega (arith, L .short .1, f));
+      high = L .high;
     }
 
-placed-done : {f : ℕ → List ℕ} {ls : List Level} {b : Bool} {d v : List ℕ} {l m : ℕ} → Placed f ls b d v l → l ≡ m
-    → length d ≡ bitsBefore ls b m → v ≡ joined f 0 m
-placed-done {f} {ls} {b} {d} {v} {l} {m} P e h =
-    rw e at (sym (take-all (bitsBefore ls b l) v (rw e (omega (arith, P .same)))) ∙ P .first)
+-- before the turn at level l, with m levels left: reading these leads to what reading all leads to
+pub record Reading (one : Bool) (ls : List Level) (order labels a₀ b₀ : List ℕ) (first s count : ℕ) (a b : List ℕ) (l w m : ℕ) : Type 0 where
+  pub turn : Turn one ls (length labels) order a₀ b₀ first s count l w m
+  pub sameA : length a ≡ length a₀
+  pub sameB : length b ≡ length b₀
+  pub wholeA : readOver ls false labels l s w m a ≡ readOver ls false labels first s 1 count a₀
+  pub wholeB : readOver ls true labels l s w m b ≡ readOver ls true labels first s 1 count b₀
 
--- both parts
-pub record Reading (k : Block) (ys : ℕ → List ℕ) (a₀ b₀ a b : List ℕ) (l : ℕ) : Type 0 where
-  pub turns : l ≤ k .count
-  pub partA : Placed (λ i. inputA (levelAt (k .levels) i) (ys i)) (k .levels) false a₀ a l
-  pub partB : Placed (λ i. inputB (levelAt (k .levels) i) (ys i)) (k .levels) true b₀ b l
+module _ {one : Bool} {ls : List Level} {order labels a₀ b₀ : List ℕ} {first s count : ℕ} where
+  pub start : FewLevels one ls first s count order a₀ b₀ labels → Reading one ls order labels a₀ b₀ first s count a₀ b₀ first 1 count
+  start F = record { turn = first-turn F; sameA = refl; sameB = refl; wholeA = refl; wholeB = refl }
 
-pub start : (k : Block) (ys : ℕ → List ℕ) (a b : List ℕ) → Reading k ys a b a b 0
-start k ys a b = record { turns = omega arith; partA = placed-start _ (k .levels) false a; partB = placed-start _ (k .levels) true b }
+  module _ {a b : List ℕ} {l w m : ℕ} (R : Reading one ls order labels a₀ b₀ first s count a b l w m) where
+    -- what reading the level requires
+    pub reads-at : 0 < m → {coded : List ℕ} → length labels ≤ 12236 → length coded ≡ 12236 → ReadsAt one ls l w order labels coded a b
+    reads-at h g e = record { level = same-there (level-there (R .turn) h) (R .sameA) (R .sameB); buffer = omega arith; weighs = R .turn .weighs }
 
-module _ {k : Block} {order labels a₀ b₀ : List ℕ} (R : ReadsLevels k order labels a₀ b₀) where
-  -- reading one more level requires the same of the buffers as they are then
-  pub reads-stream : {coded a b : List ℕ} {l : ℕ} → Reading k (streamIn (oneAxis k) labels) a₀ b₀ a b l → l < k .count → length coded ≡ 12236
-      → ReadsStream k l order labels coded a b
-  reads-stream L h e =
-      record {
-        all = record {
-          ordered = R .ordered;
-          few = R .few;
-          room = R .room;
-          fits = R .fits;
-          digits = R .digits;
-          whole = R .whole;
-          long = (L .partA .same ∙ R .long .0, L .partB .same ∙ R .long .1);
-          short = (omega (arith, L .partA .same, R .short .0), omega (arith, L .partB .same, R .short .1));
-          high = R .high;
-        };
-        known = h;
-        buffer = omega (arith, e, R .high);
-      }
+    -- and the turn
+    pub turned : 0 < m → {a′ b′ : List ℕ} → ReadAt ls l (taken w labels) a b a′ b′ → Reading one ls order labels a₀ b₀ first s count a′ b′ (l + s) (2 * w) (m - 1)
+    unfolding readOver
+    turned h E =
+        let f : m ≡ suc (m - 1) = omega arith in
+        record {
+          turn = next-turn (R .turn) h;
+          sameA = rw (E .partA) (length-sets a (bitsBefore ls false l) (inputIn false (levelAt ls l) (taken w labels))) ∙ R .sameA;
+          sameB = rw (E .partB) (length-sets b (bitsBefore ls true l) (inputIn true (levelAt ls l) (taken w labels))) ∙ R .sameB;
+          wholeA = rw (E .partA) (rw f at (R .wholeA));
+          wholeB = rw (E .partB) (rw f at (R .wholeB));
+        }
 
-  pub turn : {a b : List ℕ} {l : ℕ} → Reading k (streamIn (oneAxis k) labels) a₀ b₀ a b l → l < k .count
-      → {a′ b′ : List ℕ} → ReadAt (k .levels) l (streamIn (oneAxis k) labels l) a b a′ b′ → Reading k (streamIn (oneAxis k) labels) a₀ b₀ a′ b′ (l + 1)
-  unfolding bitsIn
-  turn {l = l} L h E =
-      record {
-        turns = omega arith;
-        partA = placed-turn (L .partA) (length-inputA _ _) (omega (arith, before-mono (k .levels) false (suc l) (k .count) (omega arith), R .long .0)) (E .partA);
-        partB = placed-turn (L .partB) (length-inputB _ _) (omega (arith, before-mono (k .levels) true (suc l) (k .count) (omega arith), R .long .1)) (E .partB);
-      }
-
-  pub done : {a b : List ℕ} {l : ℕ} → Reading k (streamIn (oneAxis k) labels) a₀ b₀ a b l → k .count ≤ l
-      → (a ≡ inputsA (levelsOf k) (table (streamIn (oneAxis k) labels) 0 (k .count))) × (b ≡ inputsB (levelsOf k) (table (streamIn (oneAxis k) labels) 0 (k .count)))
-  done {l = l} L h =
-      let e : l ≡ k .count = omega (arith, L .turns) in
-      rw (levels-table k (R .room)) (
-        placed-done (L .partA) e (R .long .0) ∙ sym (inputsA-joined (levelAt (k .levels)) (streamIn (oneAxis k) labels) 0 (k .count)),
-        placed-done (L .partB) e (R .long .1) ∙ sym (inputsB-joined (levelAt (k .levels)) (streamIn (oneAxis k) labels) 0 (k .count)),
-      )
-
-module _ {k : Block} {l : ℕ} {order labels coded a b : List ℕ} (R : ReadsStream k l order labels coded a b) where
-  -- what reading the level from its labels, of both axes or of one, requires
-  reads-at : {w : ℕ} (d : ℕ) → w ≡ 2 ^ d → (own : List ℕ) → LevelFits (length own) (levelAt (k .levels) l) → length own ≤ length labels
-      → length own ≡ cond (oneAxis k) (length labels / 2) (length labels) → ReadsAt (oneAxis k) (k .levels) l w order own coded a b
-  reads-at d e own f m g =
-      let A = R .all in
-      record {
-        level = record {
-          room = A .ordered l (R .known) (length own) g .0;
-          ordered = A .ordered l (R .known) (length own) g .1;
-          there = omega (arith, R .known, A .few);
-          fits = f;
-          withinA = omega (arith, before-mono (k .levels) false (suc l) (k .count) (R .known), A .long .0);
-          withinB = omega (arith, before-mono (k .levels) true (suc l) (k .count) (R .known), A .long .1);
-          short = A .short;
-          high = omega (arith, m, A .high);
-        };
-        buffer = omega (arith, m, R .buffer);
-        weighs = record { digit = d; power = e };
-      }
-
-  pub reads-both : {w : ℕ} → oneAxis k ≡ false → w ≡ 2 ^ l → ReadsAt (oneAxis k) (k .levels) l w order labels coded a b
-  reads-both one e = reads-at l e labels (rw one at (R .all .fits l (R .known))) (omega arith) (rw one)
-
-  pub reads-axis : {w : ℕ} → oneAxis k ≡ true → w ≡ 2 ^ (l / 2) → {own : List ℕ} → length own ≡ length labels / 2 → ReadsAt (oneAxis k) (k .levels) l w order own coded a b
-  reads-axis one e {own} m = reads-at (l / 2) e own (rw m (rw one at (R .all .fits l (R .known)))) (omega (arith, m)) (rw one m)
-
-  pub digit-both : oneAxis k ≡ false → l < 3
-  unfolding digitAt
-  digit-both one = rw one at (R .all .digits l (R .known))
-
-  pub digit-axis : oneAxis k ≡ true → l / 2 < 3
-  unfolding digitAt
-  digit-axis one = rw one at (R .all .digits l (R .known))
-
--- and then it is read from its stream
-module _ {ls : List Level} {a b a′ b′ : List ℕ} {l w : ℕ} (one : Bool) (labels : List ℕ) where
-  pub read-both : one ≡ false → w ≡ 2 ^ l → ReadAt ls l (taken w labels) a b a′ b′ → ReadAt ls l (streamIn one labels l) a b a′ b′
-  unfolding streamIn
-  read-both o e R = rw (o, ← e) R
-
-  pub read-axis : one ≡ true → w ≡ 2 ^ (l / 2) → (own : List ℕ) → own ≡ axisLabels (l % 2) labels
-      → ReadAt ls l (taken w own) a b a′ b′ → ReadAt ls l (streamIn one labels l) a b a′ b′
-  unfolding streamIn axisLabels
-  read-axis o e own f R = rw (o, ← e, ← f) R
-
--- and the working buffer has its coded bits
-module _ (lv : Level) (l w : ℕ) (coded : List ℕ) (one : Bool) (labels : List ℕ) {coded′ : List ℕ} where
-  pub over-both : one ≡ false → w ≡ 2 ^ l → coded′ ≡ takenOver lv (taken w labels) coded → coded′ ≡ takenOver lv (streamIn one labels l) coded
-  unfolding streamIn
-  over-both o e f = rw (o, ← e) f
-
-  pub over-axis : one ≡ true → w ≡ 2 ^ (l / 2) → (own : List ℕ) → own ≡ axisLabels (l % 2) labels
-      → coded′ ≡ takenOver lv (taken w own) coded → coded′ ≡ takenOver lv (streamIn one labels l) coded
-  unfolding streamIn axisLabels
-  over-axis o e own f g = rw (o, ← e, ← f) g
+    pub done : m ≤ 0 → (a ≡ readOver ls false labels first s 1 count a₀) × (b ≡ readOver ls true labels first s 1 count b₀)
+    unfolding readOver
+    done h = let f : m ≡ 0 = omega arith in (rw f at (R .wholeA), rw f at (R .wholeB))

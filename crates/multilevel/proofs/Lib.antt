@@ -2,7 +2,9 @@ pub mod Parts
 pub mod OneLevel
 pub mod Partition
 pub mod Totals
+pub mod Turns
 pub mod Summing
 pub mod OneRead
 pub mod LevelsRead
+pub mod PartsRead
 pub mod Orders

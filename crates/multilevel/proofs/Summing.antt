@@ -1,16 +1,14 @@
 -- Streams of levels summed into labels, level by level. Assumes nothing.
-use Prim.Native.Nat.{ℕ, suc, _+_, _*_, _-_, _^_, _≤_, _<_}
+use Prim.Native.Nat.{ℕ, suc, _+_, _*_, _-_, _≤_, _<_}
 use mathlib.Core.Path.{_≡_, sym, _∙_}
 use mathlib.Core.Logic.{_⊎_, inl, inr}
 use mathlib.Core.Bool.{Bool}
 use mathlib.Core.List.{List}
-use native.Mathlib.Nat.{mul-le-mul-left}
 use native.Mathlib.Omega.{arith}
 use lib.ListN.{length, getD, List·getD-eq-default}
-use lib.Pow.{pow-mono}
 use Rattle.component.specs.Bits.{Bits}
 use Rattle.lists.specs.Lists.{table}
-use Rattle.multilevel.specs.Contracts.{levelAt, streamAt, stepped, LevelThere, LevelsThere, none, more, CodesAt, CodesLevels}
+use Rattle.multilevel.specs.Contracts.{levelAt, streamAt, stepped, CodesAt, CodesLevels}
 use Rattle.labels.specs.Contracts.{added}
 use Rattle.lists.proofs.Counting.{below-or}
 use Rattle.lists.proofs.Tables.{length-table, getD-table, table-is}
@@ -18,31 +16,17 @@ use Rattle.labels.proofs.Weights.{weighed-le, added-length, added-at}
 use Rattle.block.specs.Mapping.{labelAt}
 use Rattle.block.specs.declared.Level.{Level}
 use Rattle.block.proofs.Levels.{bits-stream}
-
--- a weight doubled for one level less
-twice : (w k : ℕ) → 2 * w * 2 ^ k ≡ w * 2 ^ suc k
-twice w k = let e : 2 ^ suc k ≡ 2 * 2 ^ k = omega arith in rw e (omega arith)
+use Rattle.multilevel.proofs.Turns.{Turn, first-turn, level-there, weight-low, next-turn}
 
 -- a level's stream is bits
 stream-bits : (ls : List Level) (a b : List ℕ) (l : ℕ) → Bits (streamAt ls a b l)
 unfolding streamAt
 stream-bits ls a b l = bits-stream (levelAt ls l) _ _
 
--- the first of the levels, and the others
-first-there : {one : Bool} {ls : List Level} {n : ℕ} {order a b : List ℕ} {s l m : ℕ} → LevelsThere one ls n order a b s l m → 0 < m → LevelThere one ls n order a b l
-first-there none h = absurd (omega arith)
-first-there (more H R) h = H
-
-others-there : {one : Bool} {ls : List Level} {n : ℕ} {order a b : List ℕ} {s l m : ℕ} → LevelsThere one ls n order a b s l m → 0 < m → LevelsThere one ls n order a b s (l + s) (m - 1)
-others-there none h = absurd (omega arith)
-others-there (more {m = m} H R) h = let e : suc m - 1 ≡ m = omega arith in rw e R
-
 -- before the turn at level l, with m levels left: what is there plus the weight times what is left is the whole
 pub record Summing (one : Bool) (ls : List Level) (order a b : List ℕ) (n first s count : ℕ) (labels : List ℕ) (l w m : ℕ) : Type 0 where
   pub long : length labels ≡ n
-  pub levels : LevelsThere one ls n order a b s l m
-  pub weight : w * 2 ^ m ≤ 8
-  pub near : l + s * m ≤ first + s * count
+  pub turn : Turn one ls n order a b first s count l w m
   pub low : (j : ℕ) → getD labels j 0 < w
   pub whole : (j : ℕ) → j < n
       → getD labels j 0 + w * labelAt (stepped (streamAt ls a b) l s m) j ≡ labelAt (stepped (streamAt ls a b) first s count) j
@@ -54,9 +38,7 @@ start {one} {ls} {order} {a} {b} {first} {s} {count} {d} {labels} C e {n} f =
     f
     (record {
       long = rw e (length-table (λ j. 0) 0 (length d));
-      levels = C .levels;
-      weight = omega (arith, pow-mono {i = count} {j = 3} (C .three));
-      near = omega arith;
+      turn = first-turn (C .few);
       low = λ j. omega (arith, zero-at j (below-or j (length d)));
       whole = λ j h. omega (arith, zero-at j (inl h));
     })
@@ -66,35 +48,25 @@ start {one} {ls} {order} {a} {b} {first} {s} {count} {d} {labels} C e {n} f =
     zero-at j (inr h) = rw e (List·getD-eq-default (table (λ j. 0) 0 (length d)) 0 (rw length-table h))
 
 module _ {one : Bool} {ls : List Level} {order a b : List ℕ} {n first s count : ℕ} {labels : List ℕ} {l w m : ℕ} (S : Summing one ls order a b n first s count labels l w m) (h : 0 < m) where
-  -- the weight is at most 4
-  pub weight-low : w ≤ 4
-  weight-low = let f : 2 ≤ 2 ^ m = pow-mono {i = 1} {j = m} h in omega (arith, S .weight, mul-le-mul-left w f)
-
-  -- the next level can be counted
-  pub next-near : {d : List ℕ} → CodesLevels one ls first s count order a b d → l + s ≤ 16
-  next-near C = omega (arith, S .near, mul-le-mul-left {m = 1} {n = m} s h, mul-le-mul-left {m = count} {n = 3} s (C .three), C .near .0, C .near .1)
-
   -- what coding the level requires
   pub codes-at : {coded d : List ℕ} → CodesLevels one ls first s count order a b d → length d ≡ n → length coded ≡ 12236 → CodesAt one ls l w order a b coded labels
   codes-at C e f =
       record {
-        level = rw (S .long) (first-there (S .levels) h);
+        level = rw (S .long) (level-there (S .turn) h);
         inputA = C .inputA;
         inputB = C .inputB;
-        buffer = omega (arith, C .high, S .long);
-        sums = λ k. omega (arith, S .low k, weight-low);
+        buffer = omega (arith, C .few .high, S .long);
+        sums = λ k. omega (arith, S .low k, weight-low (S .turn) h);
       }
 
   -- and the turn
-  pub turn : {next : List ℕ} → next ≡ added w (streamAt ls a b l) labels → Summing one ls order a b n first s count next (l + s) (2 * w) (m - 1)
+  pub turned : {next : List ℕ} → next ≡ added w (streamAt ls a b l) labels → Summing one ls order a b n first s count next (l + s) (2 * w) (m - 1)
   unfolding stepped labelAt
-  turn {next} e =
+  turned {next} e =
       let f : m ≡ suc (m - 1) = omega arith in
       record {
         long = rw e (added-length w (streamAt ls a b l) labels) ∙ S .long;
-        levels = others-there (S .levels) h;
-        weight = rw (twice w (m - 1)) (rw f at (S .weight));
-        near = omega (arith, rw f at (S .near));
+        turn = next-turn (S .turn) h;
         low = λ j. low-at j (below-or j n);
         whole = λ j k. omega (arith, at j k, rw f at (S .whole j k));
       }

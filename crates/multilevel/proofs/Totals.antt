@@ -24,7 +24,7 @@ use Rattle.block.specs.Fits.{Labels, LevelFits, LevelsFit, none, more, Alike, B
 use Rattle.block.proofs.Lists.{bits-take}
 use Rattle.block.proofs.Levels.{bits-stream, length-stream}
 use Rattle.block.proofs.Mapping.{levelCount, constellation-labels}
-use Rattle.multilevel.specs.Contracts.{BlockOrder, pastLevels, levelAt, bitsIn, bitsBefore, streamAt, stepped, Sums, LevelThere, LevelsThere, none, more, CodesLevels, PartsOf}
+use Rattle.multilevel.specs.Contracts.{BlockOrder, pastLevels, levelAt, bitsIn, bitsBefore, streamAt, stepped, Sums, LevelThere, LevelsThere, none, more, FewLevels, PartsOf}
 use Rattle.multilevel.proofs.Partition.{before-mono}
 
 -- the bits of part A of levels from k on, and of part B
@@ -163,20 +163,12 @@ module _ {k : Block} (F : BlockFits k) where
           let f : s * suc m ≡ s + s * m = mul-suc s m ∙ omega arith in
           more (there l (omega arith)) (all-there s (l + s) m p (omega arith))
 
-    module _ (A : Bits a) (B : Bits b) where
-      -- what coding them requires
-      pub codes-levels : {order labels : List ℕ} → BlockOrder k order → (s l m : ℕ) → 0 < s → s ≤ 2 → l ≤ 1 → m ≤ 3 → l + s * m < k .count + s → length labels ≡ n
-          → CodesLevels (oneAxis k) (k .levels) l s m order a b labels
-      codes-levels O s l m p s2 l1 m3 h g =
-          record {
-            levels = rw g (all-there O s l m p h);
-            three = m3;
-            near = (omega arith, omega arith);
-            inputA = A;
-            inputB = B;
-            high = omega arith;
-          }
+      -- at most three of them
+      pub few-levels : {labels : List ℕ} (s l m : ℕ) → 0 < s → s ≤ 2 → l ≤ 1 → m ≤ 3 → l + s * m < k .count + s → length labels ≡ n
+          → FewLevels (oneAxis k) (k .levels) l s m order a b labels
+      few-levels s l m p s2 l1 m3 h g = record { levels = rw g (all-there s l m p h); three = m3; near = (omega arith, omega arith); high = omega arith }
 
+    module _ (A : Bits a) (B : Bits b) where
       -- a level's stream has n bits
       pub length-streamAt : (l : ℕ) → l < k .count → length (streamAt (k .levels) a b l) ≡ n
       unfolding streamAt bitsBefore bitsIn

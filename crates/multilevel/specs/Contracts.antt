@@ -1,5 +1,5 @@
 -- What the functions that code and read levels require and promise: nothing of 01 is stated here.
-use Prim.Native.Nat.{ℕ, zero, suc, _+_, _-_, _*_, _≤_, _<_, _/_, _%_}
+use Prim.Native.Nat.{ℕ, zero, suc, _+_, _-_, _*_, _≤_, _<_, _/_}
 use mathlib.Core.Path.{_≡_}
 use mathlib.Core.Bool.{Bool, true, false, cond}
 use mathlib.Core.List.{List, [], _∷_, _++_}
@@ -15,7 +15,6 @@ use Rattle.component.specs.Codeword.{encode, codeword, tailBits}
 use Rattle.component.specs.Decoding.{codedLength, segment, decode}
 use Rattle.patterns.specs.Contracts.{patternOf, Held}
 use Rattle.interleaver.specs.Tables.{places}
-use Rattle.lists.specs.Lists.{table}
 use lib.Seq.{sets}
 use Rattle.block.specs.Block.{oneAxis}
 use Rattle.block.specs.Reading.{taken, unmixed, sizeA, sizeB, inputA, inputB}
@@ -92,14 +91,18 @@ pub data LevelsThere (one : Bool) (ls : List Level) (n : ℕ) (order a b : List 
   none : {l : ℕ} → LevelsThere one ls n order a b s l 0
   more : {l m : ℕ} → LevelThere one ls n order a b l → LevelsThere one ls n order a b s (l + s) m → LevelsThere one ls n order a b s l (suc m)
 
--- What coding at most three levels into labels requires.
-pub record CodesLevels (one : Bool) (ls : List Level) (first step many : ℕ) (order a b labels : List ℕ) : Type 0 where
+-- At most three levels from level first on, every step-th, with as many coded bits each as there are labels.
+pub record FewLevels (one : Bool) (ls : List Level) (first step many : ℕ) (order a b labels : List ℕ) : Type 0 where
   pub levels : LevelsThere one ls (length labels) order a b step first many
   pub three : many ≤ 3
   pub near : (first ≤ 2) × (step ≤ 2)
+  pub high : length labels ≤ 12236
+
+-- What coding them into the labels requires.
+pub record CodesLevels (one : Bool) (ls : List Level) (first step many : ℕ) (order a b labels : List ℕ) : Type 0 where
+  pub few : FewLevels one ls first step many order a b labels
   pub inputA : Bits a
   pub inputB : Bits b
-  pub high : length labels ≤ 12236
 
 -- The order of a block's coded bits: for each digit that of its levels, one after the other.
 pub record BlockOrder (k : Block) (order : List ℕ) : Type 0 where
@@ -215,39 +218,23 @@ pub record ReadsAt (one : Bool) (ls : List Level) (l weight : ℕ) (order labels
   pub buffer : length labels ≤ length coded
   pub weighs : Weight weight
 
+-- A level's input bits in part A, or in part B, from its stream.
+unfoldable pub inputIn : Bool → Level → List ℕ → List ℕ
+inputIn b l y = cond b (inputB l y) (inputA l y)
+
+-- The bits v of part A or part B with level l's, from its stream y, at their places.
+abbrev pub inputOver : List Level → Bool → ℕ → List ℕ → List ℕ → List ℕ
+inputOver ls b l y v = sets v (bitsBefore ls b l) (inputIn b (levelAt ls l) y)
+
 -- What it promises: with y as level l's stream, the level's bits at their places in parts A and B, the rest of these as it was.
 pub record ReadAt (ls : List Level) (l : ℕ) (y a b a' b' : List ℕ) : Type 0 where
-  pub partA : a' ≡ sets a (bitsBefore ls false l) (inputA (levelAt ls l) y)
-  pub partB : b' ≡ sets b (bitsBefore ls true l) (inputB (levelAt ls l) y)
+  pub partA : a' ≡ inputOver ls false l y a
+  pub partB : b' ≡ inputOver ls true l y b
 
--- The labels of one axis, a number a cell: axis 0 is the real, axis 1 the imaginary one.
-unfoldable pub axisLabels : ℕ → List ℕ → List ℕ
-axisLabels a labels = table (λ k. getD labels (2 * k + a) 0) 0 (length labels / 2)
-
--- What taking them requires.
-pub record TakesAxis (a : ℕ) (labels out : List ℕ) : Type 0 where
-  pub real : a < 2
-  pub same : length labels ≡ 2 * length out
-
--- What reading a block's levels from the labels requires: every level fits and has a weight of at most 4, and the buffers fit.
-pub record ReadsLevels (k : Block) (order labels a b : List ℕ) : Type 0 where
-  pub ordered : (l : ℕ) → l < k .count → (n : ℕ) → n ≡ cond (oneAxis k) (length labels / 2) (length labels)
-      → (digitAt (oneAxis k) l * n + n ≤ length order)
-      × LevelOrder (levelAt (k .levels) l) (take n (drop (digitAt (oneAxis k) l * n) order))
-  pub few : k .count ≤ 6
-  pub room : k .count ≤ length (k .levels)
-  pub fits : (l : ℕ) → l < k .count → LevelFits (cond (oneAxis k) (length labels / 2) (length labels)) (levelAt (k .levels) l)
-  pub digits : (l : ℕ) → l < k .count → digitAt (oneAxis k) l < 3
-  pub whole : length labels % 2 ≡ 0
-  pub long : (length a ≡ bitsBefore (k .levels) false (k .count)) × (length b ≡ bitsBefore (k .levels) true (k .count))
-  pub short : (length a ≤ 65536) × (length b ≤ 65536)
-  pub high : length labels ≤ 12236
-
--- What reading level l of them requires.
-pub record ReadsStream (k : Block) (l : ℕ) (order labels coded a b : List ℕ) : Type 0 where
-  pub all : ReadsLevels k order labels a b
-  pub known : l < k .count
-  pub buffer : length labels ≤ length coded
+-- The same of m levels from level l on, every s-th: the first of them has weight w in the labels, each further one twice that.
+unfoldable pub readOver : List Level → Bool → List ℕ → ℕ → ℕ → ℕ → ℕ → List ℕ → List ℕ
+readOver ls b labels l s w zero v = v
+readOver ls b labels l s w (suc m) v = readOver ls b labels (l + s) s (2 * w) m (inputOver ls b l (taken w labels) v)
 
 -- What making a part's table of places requires: room for them and one number more.
 pub record PartPlaces (t n : ℕ) (out : List ℕ) : Type 0 where

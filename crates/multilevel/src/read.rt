@@ -2,21 +2,18 @@
 use crate::places::bits_before;
 use crate::places::digit;
 use block::Block;
-use block::HMMIX;
 use block::Level;
-use block::buffers::axis_buffer;
 use block::buffers::cell_buffer;
 use component::code::coded_length;
 use component::code::decode;
 use labels::bits::take_part;
 use patterns::Pattern;
 ghost use mathlib.Core.Path.{_≡_};
-ghost use Prim.Native.Nat.{_^_, _<_};
+ghost use mathlib.Core.Bool.{true, false};
 ghost use lib.ListN.{length};
-ghost use Rattle.lists.specs.Lists.{table};
-ghost use Rattle.block.specs.Reading.{taken, unmixed, streamIn, inputsA, inputsB};
-ghost use Rattle.block.specs.Block.{levelsOf, oneAxis};
-ghost use Rattle.multilevel.specs.Contracts.{levelAt, takenOver, ReadsPart, PartRead, ReadsLevel, LevelRead, ReadsAt, ReadAt, axisLabels, TakesAxis, ReadsStream, ReadsLevels};
+ghost use Rattle.block.specs.Reading.{taken, unmixed};
+ghost use Rattle.block.specs.Block.{oneAxis};
+ghost use Rattle.multilevel.specs.Contracts.{levelAt, takenOver, ReadsPart, PartRead, ReadsLevel, LevelRead, ReadsAt, ReadAt, FewLevels, readOver};
 
 // The input bits of a part, as many as out is long, from the labels; the register behind them.
 fn read_part(
@@ -112,65 +109,29 @@ fn read_at(
     );
 }
 
-// The weight of a digit.
-fn power(digit: usize) -> u8
-    requires { ⌜ digit < 3 ⌝ }
-    ensures { λ r. ⌜ r ≡ 2 ^ digit ⌝ }
-{
-    match digit {
-        0 => 1,
-        1 => 2,
-        _ => 4,
-    }
-}
-
-// The labels of one axis.
-fn take_axis(a: usize, labels: &[u8], out: &mut [u8])
-    requires { ⌜ TakesAxis a (now labels) (now out) ⌝ }
-    ensures { λ r. ⌜ now (out .exit) ≡ axisLabels a (now (labels .entry)) ⌝ }
-{
-    let mut k = 0;
-    while k < out.len() {
-        out[k] = labels[2 * k + a];
-        k += 1;
-    }
-}
-
-// Level l read from the labels, or from those of its axis where each level has one axis only.
-fn read_stream(
+// The bits of `many` levels, from level `first` on, every step-th, read from the labels i0 + 2 × i1 + 4 × i2 of their streams.
+pub fn read_levels(
     k: Block,
-    l: usize,
+    first: usize,
+    step: usize,
+    many: usize,
     places: &[u16],
     labels: &[u8],
-    coded: &mut [u8],
     a: &mut [u8],
     b: &mut [u8],
 )
-    requires { ⌜ ReadsStream k l (now places) (now labels) (now coded) (now a) (now b) ⌝ }
-    ensures { λ r. ⌜ ReadAt (k .levels) l (streamIn (oneAxis k) (now (labels .entry)) l) (now (a .entry)) (now (b .entry)) (now (a .exit)) (now (b .exit)) ⌝ }
-    ensures { λ r. ⌜ now (coded .exit) ≡ takenOver (levelAt (k .levels) l) (streamIn (oneAxis k) (now (labels .entry)) l) (now (coded .entry)) ⌝ }
-{
-    if k.constellation == HMMIX {
-        let mut axis = axis_buffer();
-        let n = labels.len() / 2;
-        take_axis(l % 2, labels, &mut axis[0..n]);
-        read_at(k, l, power(l / 2), places, &axis[0..n], coded, a, b);
-        return;
-    }
-    read_at(k, l, power(l), places, labels, coded, a, b);
-}
-
-// All levels of a block, from the labels of its coordinates.
-pub fn read_levels(k: Block, places: &[u16], labels: &[u8], a: &mut [u8], b: &mut [u8])
-    requires { ⌜ ReadsLevels k (now places) (now labels) (now a) (now b) ⌝ }
-    ensures { λ r. ⌜ now (a .exit) ≡ inputsA (levelsOf k) (table (streamIn (oneAxis k) (now (labels .entry))) 0 (k .count)) ⌝ }
-    ensures { λ r. ⌜ now (b .exit) ≡ inputsB (levelsOf k) (table (streamIn (oneAxis k) (now (labels .entry))) 0 (k .count)) ⌝ }
+    requires { ⌜ FewLevels (oneAxis k) (k .levels) first step many (now places) (now a) (now b) (now labels) ⌝ }
+    ensures { λ r. ⌜ now (a .exit) ≡ readOver (k .levels) false (now (labels .entry)) first step 1 many (now (a .entry)) ⌝ }
+    ensures { λ r. ⌜ now (b .exit) ≡ readOver (k .levels) true (now (labels .entry)) first step 1 many (now (b .entry)) ⌝ }
 {
     let mut coded = cell_buffer();
-    let count = k.count;
-    let mut l = 0;
-    while l < count {
-        read_stream(k, l, places, labels, &mut coded, a, b);
-        l += 1;
+    let mut l = first;
+    let mut weight: u8 = 1;
+    let mut left = many;
+    while 0 < left {
+        read_at(k, l, weight, places, labels, &mut coded, a, b);
+        l += step;
+        weight = 2 * weight;
+        left -= 1;
     }
 }

@@ -1,40 +1,17 @@
 -- `read_cells` meets its contract. Assumes nothing.
-use mathlib.Core.Path.{_∙_}
-use native.Mathlib.Omega.{arith}
 use borrow.Author.Needs.{needs}
-use lib.ListN.{length}
-use Rattle.lists.proofs.Parts.{length-start, part-long, part-room, part-again}
-use Rattle.blockcoder.proofs.CellsRead.{unmaps, cells-low, reads-both, read-both}
+use borrow.Author.Tests.{eq-eqb, ne-eqb}
+use Rattle.block.specs.Block.{oneAxis}
 use Rattle.blockcoder.proofs.candidate.read_cells.Statement.{statement}
 use Rattle.blockcoder.proofs.candidate.read_cells.Tie as tie
 
-unmap-cells-requires : tie.Need-unmap-cells-requires
-unmap-cells-requires c κs = let p = c .before .before .before .before .before .pre .0 in unmaps p (length-start _ _ (omega (arith, cells-low p, c .before .cell-buffer .ensures .long)))
+read-axes-requires : tie.Need-read-axes-requires
+unfolding oneAxis
+read-axes-requires c κs = let p = c .before .before .before .before .before .before .before .pre in ((p .0, eq-eqb _ _ (c .before .before .if1 .taken)), p .1)
 
-part-end : tie.Need-part-read-levels-end
-part-end c =
-    let u = c .before .before .unmap-cells in
-    part-room (c .before .before .before .before .cell-buffer .result) (u .last .1 .1 .0) _ (omega (arith, cells-low (c .before .before .before .before .before .before .before .before .pre .0), c .before .before .before .before .cell-buffer .ensures .long)) (u .kept .1 .1 .0)
-
-read-levels-requires : tie.Need-read-levels-requires
-read-levels-requires c κs =
-    let p = c .before .before .before .before .before .before .before .before .before .before .before .pre .0 in
-    let n = length (c .before .before .before .before .before .before .before .before .before .before .before .args .cells .now) in
-    let u = c .before .before .before .before .before .unmap-cells in
-    let buffer = c .before .before .before .before .before .before .before .cell-buffer .result in
-    reads-both p (c .before .before .before .before .before .before .before .before .before .before .before .pre .1)
-    (part-again buffer (u .last .1 .1 .0) n (omega (arith, cells-low p, c .before .before .before .before .before .before .before .cell-buffer .ensures .long)) (u .kept .1 .1 .0))
-    (part-long buffer (u .last .1 .1 .0) n (omega (arith, cells-low p, c .before .before .before .before .before .before .before .cell-buffer .ensures .long)) (u .kept .1 .1 .0))
-
-returns : tie.Need-returns
-returns c =
-    let p = c .before .before .before .before .before .before .before .before .before .before .before .before .before .before .before .before .pre .0 in
-    let n = length (c .before .before .before .before .before .before .before .before .before .before .before .before .before .before .before .before .args .cells .now) in
-    let u = c .before .before .before .before .before .before .before .before .before .before .unmap-cells in
-    read-both p
-    (part-again (c .before .before .before .before .before .before .before .before .before .before .before .before .cell-buffer .result) (u .last .1 .1 .0) n (omega (arith, cells-low p, c .before .before .before .before .before .before .before .before .before .before .before .before .cell-buffer .ensures .long)) (u .kept .1 .1 .0) ∙ u .ensures)
-    (c .before .before .before .before .read-levels .ensures .0) (c .before .before .before .before .read-levels .ensures .1)
+read-both-requires : tie.Need-read-both-requires
+unfolding oneAxis
+read-both-requires c κs = let p = c .before .before .before .before .before .before .before .pre in ((p .0, ne-eqb _ _ (c .before .before .if1 .left)), p .1)
 
 pub read-cells-spec : {M : Type 1} → statement M
-read-cells-spec =
-    tie.close (tie.spec (λ c κs. search needs) (λ c. search needs) (λ c. search needs) (λ c. omega (arith, cells-low (c .before .before .before .before .pre .0), c .cell-buffer .ensures .long)) unmap-cells-requires (λ c. search needs) (λ c. search needs) part-end read-levels-requires (λ c. search needs) (λ c. search needs) returns)
+read-cells-spec = tie.close (tie.spec read-axes-requires (λ c. search needs) (λ c. search needs) (λ c. c .before .before .before .before .read-axes .ensures) read-both-requires (λ c. search needs) (λ c. search needs) (λ c. c .before .before .before .before .read-both .ensures))

@@ -4,7 +4,8 @@ use native.Mathlib.Omega.{arith}
 use borrow.Author.Needs.{needs}
 use lib.ListN.{length}
 use Rattle.block.specs.Block.{oneAxis}
-use Rattle.multilevel.proofs.Summing.{Summing, start, weight-low, next-near, codes-at, turn, done}
+use Rattle.multilevel.proofs.Turns.{weight-low, next-near}
+use Rattle.multilevel.proofs.Summing.{Summing, start, codes-at, turned, done}
 use Rattle.multilevel.proofs.code.code_levels.Statement.{statement}
 use Rattle.multilevel.proofs.code.code_levels.Tie as tie
 
@@ -22,13 +23,13 @@ code-at-requires : tie.Need-code-at-requires Inv-loop μ-loop
 code-at-requires c κs = codes-at (c .before .before .before .loop .inv .0) (search needs) (c .before .before .before .before .before .before .before .before .before .before .before .before .before .pre) (sym (c .before .before .before .before .before .before .before .clear .kept .0)) (c .before .before .before .loop .inv .1)
 
 add-l : tie.Need-add-l Inv-loop μ-loop
-add-l c = omega (arith, next-near (c .before .before .before .before .before .before .before .loop .inv .0) (c .before .before .before .before .before .before .loop-test .taken) (c .before .before .before .before .before .before .before .before .before .before .before .before .before .before .before .before .before .pre))
+add-l c = omega (arith, next-near (c .before .before .before .before .before .before .before .loop .inv .0 .turn) (c .before .before .before .before .before .before .loop-test .taken) (c .before .before .before .before .before .before .before .before .before .before .before .before .before .before .before .before .before .pre .few))
 
 mul-weight : tie.Need-mul-weight Inv-loop μ-loop
-mul-weight c = omega (arith, weight-low (c .before .before .before .before .before .before .before .loop .inv .0) (c .before .before .before .before .before .before .loop-test .taken))
+mul-weight c = omega (arith, weight-low (c .before .before .before .before .before .before .before .loop .inv .0 .turn) (c .before .before .before .before .before .before .loop-test .taken))
 
 loop-again : tie.Need-loop-again Inv-loop μ-loop
-loop-again c = (turn (c .before .before .before .before .before .before .before .loop .inv .0) (c .before .before .before .before .before .before .loop-test .taken) (c .before .before .before .code-at .ensures .0), c .before .before .before .code-at .kept .1 .1 .1 .1 .1 .1 .0 ∙ c .before .before .before .before .before .before .before .loop .inv .1)
+loop-again c = (turned (c .before .before .before .before .before .before .before .loop .inv .0) (c .before .before .before .before .before .before .loop-test .taken) (c .before .before .before .code-at .ensures .0), c .before .before .before .code-at .kept .1 .1 .1 .1 .1 .1 .0 ∙ c .before .before .before .before .before .before .before .loop .inv .1)
 
 returns : tie.Need-returns Inv-loop μ-loop
 returns c = done (c .before .loop .inv .0) (search needs) (c .before .before .before .before .before .clear .kept .0)
