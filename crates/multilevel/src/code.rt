@@ -7,6 +7,7 @@ use block::buffers::cell_buffer;
 use component::code::Coder;
 use component::code::encode;
 use labels::bits::add_part;
+use lists::bytes::clear;
 ghost use mathlib.Core.Path.{_≡_};
 ghost use lib.ListN.{length};
 ghost use lib.Seq.{sets};
@@ -129,16 +130,6 @@ fn code_at(
         coded,
         labels,
     );
-}
-
-fn clear(labels: &mut [u8])
-    ensures { λ r. ⌜ now (labels .exit) ≡ table (λ j. 0) 0 (length (now (labels .entry))) ⌝ }
-{
-    let mut i = 0;
-    while i < labels.len() {
-        labels[i] = 0;
-        i += 1;
-    }
 }
 
 // The labels i0 + 2 × i1 + 4 × i2 of the streams of `many` levels, from level `first` on, every step-th.

@@ -4,6 +4,7 @@ use native.Mathlib.Omega.{arith}
 use borrow.Author.Needs.{needs}
 use lib.ListN.{length}
 use Rattle.block.specs.Block.{oneAxis}
+use Rattle.lists.proofs.Tables.{replicate-table}
 use Rattle.multilevel.proofs.Turns.{weight-low, next-near}
 use Rattle.multilevel.proofs.Summing.{Summing, start, codes-at, turned, done}
 use Rattle.multilevel.proofs.code.code_levels.Statement.{statement}
@@ -17,7 +18,7 @@ abbrev μ-loop : tie.MeasureT-loop
 μ-loop k first step many places a b labels₀ coded₀ l₀ weight₀ left₀ labels coded l weight left = left
 
 loop-holds : tie.Need-loop-holds Inv-loop μ-loop
-loop-holds c = (start (c .before .before .before .before .before .before .before .before .before .pre) (c .before .before .before .clear .ensures) (c .before .before .before .clear .kept .0), c .cell-buffer .ensures .long)
+loop-holds c = (start (c .before .before .before .before .before .before .before .before .before .pre) (c .before .before .before .clear .ensures ∙ replicate-table 0 0 _) (c .before .before .before .clear .kept .0), c .cell-buffer .ensures .long)
 
 code-at-requires : tie.Need-code-at-requires Inv-loop μ-loop
 code-at-requires c κs = codes-at (c .before .before .before .loop .inv .0) (search needs) (c .before .before .before .before .before .before .before .before .before .before .before .before .before .pre) (sym (c .before .before .before .before .before .before .before .clear .kept .0)) (c .before .before .before .loop .inv .1)
