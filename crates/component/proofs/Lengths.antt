@@ -56,7 +56,7 @@ columnAfter-low p i (suc n) h =
     rw (lt-ltb (i + 1) (length p) (omega arith), columnAfter-low p (i + 1) n (omega arith)) (omega arith)
 
 -- after a round the pattern starts again
-columnAfter-round : {p : List ℕ} → Sound p → columnAfter p 0 (length p) ≡ 0
+pub columnAfter-round : {p : List ℕ} → Sound p → columnAfter p 0 (length p) ≡ 0
 unfolding columnAfter following
 columnAfter-round {p} S =
     let h : 0 < length p = S .some in

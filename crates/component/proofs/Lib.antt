@@ -9,3 +9,7 @@ pub mod Rounds
 mod Encoding
 mod Parts
 mod Reading
+mod Collecting
+mod Division
+mod Dividing
+mod Quotient

@@ -41,7 +41,7 @@ next-at {l} B k =
     rw (e₀, e₁, e₂, e₃, e₄, e₅, e₆) (omega (arith, B .bit k))
 
 -- the register after one more bit
-after-more : (r : ℕ) (l : List ℕ) (n : ℕ) → n < length l → after r (take (suc n) l) ≡ next (after r (take n l)) (getD l n 0)
+pub after-more : (r : ℕ) (l : List ℕ) (n : ℕ) → n < length l → after r (take (suc n) l) ≡ next (after r (take n l)) (getD l n 0)
 unfolding after
 after-more r l n h = rw (take-suc l n 0 h, after-append)
 
@@ -88,7 +88,7 @@ after-start {l} B r (suc m) h n =
     ∙ next-at B m
 
 -- one more column of a round
-coded-more : (p : List ℕ) (i : ℕ) → i < length p → codedLength p 0 (suc i) ≡ codedLength p 0 i + ones (getD p i 0)
+pub coded-more : (p : List ℕ) (i : ℕ) → i < length p → codedLength p 0 (suc i) ≡ codedLength p 0 i + ones (getD p i 0)
 unfolding codedLength
 coded-more p i h =
     let c : columnAfter p 0 i ≡ i = columnAfter-low p 0 i (omega arith) ∙ zero-add i in

@@ -4,3 +4,4 @@ pub mod Codeword
 pub mod Decoding
 pub mod Coding
 pub mod Rounds
+pub mod Division

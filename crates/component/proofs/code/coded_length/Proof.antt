@@ -1,11 +1,12 @@
 -- `coded_length` meets its contract. Assumes nothing.
+use native.Mathlib.Omega.{arith}
 use borrow.Author.Needs.{needs}
 use Rattle.patterns.proofs.Patterns.{lent}
 use Rattle.component.proofs.code.coded_length.Statement.{statement}
 use Rattle.component.proofs.code.coded_length.Tie as tie
 
 count-coded-requires : tie.Need-count-coded-requires
-count-coded-requires c κs = let s = c .before .before .before in rw (lent (s .args .pattern)) (s .pre .0 .sound, s .pre .1)
+count-coded-requires c κs = let s = c .before .before .before in rw (lent (s .args .pattern)) (s .pre .0 .sound, omega (arith, s .pre .1))
 
 returns : tie.Need-returns
 returns c = rw (lent (c .before .before .before .before .args .pattern)) at (c .count-coded .ensures)

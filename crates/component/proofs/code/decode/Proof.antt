@@ -5,8 +5,8 @@ use Rattle.component.proofs.Reading.{widths-lent}
 use Rattle.component.proofs.code.decode.Statement.{statement}
 use Rattle.component.proofs.code.decode.Tie as tie
 
-decode-columns-requires : tie.Need-decode-columns-requires
-decode-columns-requires c κs =
+decode-segment-requires : tie.Need-decode-segment-requires
+decode-segment-requires c κs =
     let s = c .before .before .before .before .before .before .before .before in
     let w = c .before .before .before .before .widths-of .ensures in
     (rw (lent (s .args .pattern)) (s .pre .1), widths-lent (s .args .pattern) _ (s .pre .0) (w .0) (w .1))
@@ -14,7 +14,7 @@ decode-columns-requires c κs =
 returns : tie.Need-returns
 returns c =
     let s = c .before .before .before .before .before .before .before .before .before .before .before in
-    rw (lent (s .args .pattern)) at (c .before .before .decode-columns .ensures)
+    rw (lent (s .args .pattern)) at (c .before .before .decode-segment .ensures)
 
 pub decode-spec : {M : Type 1} → statement M
 decode-spec =
@@ -25,6 +25,6 @@ decode-spec =
     (λ c. search needs)
     (λ c. search needs)
     (λ c. search needs)
-    decode-columns-requires
+    decode-segment-requires
     (λ c. search needs)
     returns)
