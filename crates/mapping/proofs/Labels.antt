@@ -1,26 +1,31 @@
--- Coordinates back to the labels of their level bits, by their place among 7, 5, .. -7. Assumes nothing.
+-- Coordinates back to the labels of their level bits, by their four lowest binary digits. Assumes nothing.
 use Prim.Native.Nat.{ℕ, zero, suc, _+_, _*_, _/_, _%_, _^_, _≤_, _<_}
 use mathlib.Core.Bool.{Bool, true, false, cond}
-use mathlib.Core.Path.{_≡_, refl, sym, _∙_}
-use mathlib.Core.List.{List, [], _∷_}
+use mathlib.Core.Path.{_≡_, refl, sym, ap, _∙_}
+use mathlib.Core.List.{List}
 use native.Mathlib.Omega.{arith}
+use borrow.Author.Needs.{sfits-of}
+use borrow.Author.Tests.{eq-eqb, ne-eqb, eqb-true}
 use lib.ListN.{length, getD, set}
 use lib.Dec.{eqb}
+use lib.Bits.{bitAnd}
 use lib.IntN.{ℤ, pos, negsuc}
 use lib.Signed.{mag}
-use borrow.Author.Needs.{sfits-of}
 use mir.Syntax.{w16}
-use mir.Val.{toZ, ofZ}
+use mir.Val.{SFits, toZ, ofZ}
 use mir.Facts.{toZ-ofZ}
 use Rattle.lists.specs.Lists.{table}
-use Rattle.lists.proofs.Tables.{Filled, filled-start, filled-turn, filled-end, getD-table}
-use Rattle.block.specs.Mapping.{Constellation, coordinate, qam4, qam16, standard64, symmetric64, constellation, axis}
 use Rattle.lists.specs.Same.{sameNumber}
-use Rattle.block.specs.Reading.{placeOf, labelsOf}
-use Rattle.mapping.specs.Labels.{labelsBy, axisLabels}
+use Rattle.lists.proofs.Bools.{never-both}
+use Rattle.lists.proofs.Tables.{Filled, filled-start, filled-turn, filled-end, getD-table}
 use Rattle.lists.proofs.Same.{sameNumber-true}
+use Rattle.block.specs.Mapping.{Constellation, coordinate, qam4, qam16, standard64, symmetric64, constellation, axis}
+use Rattle.block.specs.Reading.{placeOf, labelsOf}
 use Rattle.block.proofs.Mapping.{length-numbers}
-use Rattle.mapping.proofs.Coordinates.{axis-even, axis-odd}
+use Rattle.mapping.specs.Labels.{axisLabels}
+use Rattle.mapping.specs.Contracts.{inTable, byDigits, labelsBy, labelBy}
+use Rattle.mapping.proofs.Coordinates.{fitting, fitting-at, axis-even, axis-odd}
+use Rattle.mapping.proofs.Signed.{number-is, number-not, digits-low}
 
 -- a rule of both axes
 pub both-axes : (P : ℕ → Type 0) → P 0 → P 1 → (a : ℕ) → a < 2 → P a
@@ -36,16 +41,6 @@ one-labelling K l e f a = go (eqb (a % 2) 0)
     go : (b : Bool) → cond b (K .real) (K .imaginary) ≡ l
     go true = e
     go false = f
-
--- a place is at most the labelling's length
-pub place-low : (l : List ℤ) (v : ℤ) → placeOf l v ≤ length l
-unfolding placeOf
-place-low [] v = omega arith
-place-low (w ∷ l) v = go (sameNumber w v) (place-low l v)
-  where
-    go : (b : Bool) → placeOf l v ≤ length l → cond b 0 (suc (placeOf l v)) ≤ suc (length l)
-    go true h = omega arith
-    go false h = omega arith
 
 -- none of 7, 5, .. -7
 pub record None (v : ℤ) : Type 0 where
@@ -112,28 +107,55 @@ none-known k16 v n = none-qam16 v n
 none-known standard v n = none-standard v n
 none-known symmetric v n = none-symmetric v n
 
--- the number of a coordinate is found by its place among 7, 5, .. -7
-by-place : {l : List ℤ} → Known l → (v : ℤ) → placeOf l (getD standard64 (placeOf standard64 v) (pos 0)) ≡ placeOf l v
-unfolding placeOf sameNumber table standard64 coordinate
-by-place {l} K =
-    coordinates-all (λ v. placeOf l (getD standard64 (placeOf standard64 v) (pos 0)) ≡ placeOf l v)
-    refl refl refl refl refl refl refl refl
-    (λ v n. rw (none-standard v n) (sym (none-known K v n)))
+-- the label of a number whose digits are k: a table holds it there, or not
+module _ (labels : List ℕ) (known : List ℤ) (v : ℤ) (k : ℕ) (e : k ≡ bitAnd (ofZ w16 v) 15) where
+  pub label-here : ofZ w16 v ≡ ofZ w16 (getD known k (pos 0)) → getD labels k 0 ≡ labelBy labels known v
+  label-here h = rw (eq-eqb (ofZ w16 v) (ofZ w16 (getD known (bitAnd (ofZ w16 v) 15) (pos 0))) (rw e at h), e)
 
-pub standard-low : (v : ℤ) → placeOf standard64 v < 9
-unfolding table standard64
-standard-low v = omega (arith, place-low standard64 v)
+  pub label-none : (ofZ w16 v ≡ ofZ w16 (getD known k (pos 0)) → ⊥) → getD labels 0 0 ≡ labelBy labels known v
+  label-none h = rw (ne-eqb (ofZ w16 v) (ofZ w16 (getD known (bitAnd (ofZ w16 v) 15) (pos 0))) (rw e at h))
 
-pub number-by : (c a : ℕ) → a < 2 → (v : ℤ) (t : List ℕ) → t ≡ labelsBy (axis (constellation c) a) → getD t (placeOf standard64 v) 0 ≡ placeOf (axis (constellation c) a) v
+-- a number that the table of coordinates does not hold at its digits is none of them
+none-of : (v : ℤ) → inTable byDigits v ≡ false → None v
+none-of v h = record {
+  p7 = other (pos 7) refl;
+  p5 = other (pos 5) refl;
+  p3 = other (pos 3) refl;
+  p1 = other (pos 1) refl;
+  n1 = other (negsuc 0) refl;
+  n3 = other (negsuc 2) refl;
+  n5 = other (negsuc 4) refl;
+  n7 = other (negsuc 6) refl;
+}
+  where
+    other : (w : ℤ) → inTable byDigits w ≡ true → sameNumber w v ≡ false
+    other w o = number-not v w (λ p. never-both (inTable byDigits v) (ap (λ n. eqb n (ofZ w16 (getD byDigits (bitAnd n 15) (pos 0)))) p ∙ o) h)
+
+-- and one that it holds there is the coordinate there
+is-held : (v : ℤ) → SFits w16 v → inTable byDigits v ≡ true → v ≡ getD byDigits (bitAnd (ofZ w16 v) 15) (pos 0)
+unfolding fitting
+is-held v f e =
+    number-is v _ f (eqb-true _ _ e) ∙ toZ-ofZ {w = w16} (sfits-of {w = w16} (fitting-at byDigits tt (bitAnd (ofZ w16 v) 15)))
+
+-- so its label is found by its digits
+pub number-by : (c a : ℕ) → a < 2 → (v : ℤ) (labels : List ℕ) → SFits w16 v → labels ≡ labelsBy (axis (constellation c) a)
+    → labelBy labels byDigits v ≡ placeOf (axis (constellation c) a) v
 unfolding labelsBy
-number-by c a h v t e =
-    let l = axis (constellation c) a in
-    rw (e, getD-table 0 (λ i. placeOf l (getD standard64 i (pos 0))) 9 (placeOf standard64 v) (standard-low v)) (by-place (known-axis c a h) v)
+number-by c a h v labels f e = go (inTable byDigits v) refl
+  where
+    at : (k : ℕ) → k < 16 → getD labels k 0 ≡ placeOf (axis (constellation c) a) (getD byDigits k (pos 0))
+    at k l = rw (e, getD-table 0 (λ k. placeOf (axis (constellation c) a) (getD byDigits k (pos 0))) 16 k l)
 
--- a number that was read from a slice of signed 16-bit labels
-pub number-read : (c a : ℕ) → a < 2 → (v : ℤ) (t : List ℕ) (r : ℕ) → mag v < 2 ^ 15 → t ≡ labelsBy (axis (constellation c) a)
-    → r ≡ getD t (placeOf standard64 (toZ w16 (ofZ w16 v))) 0 → r ≡ placeOf (axis (constellation c) a) v
-number-read c a h v t r m e f = f ∙ rw (toZ-ofZ {w = w16} (sfits-of {w = w16} {z = v} m)) (number-by c a h v t e)
+    go : (b : Bool) → inTable byDigits v ≡ b → cond b (getD labels (bitAnd (ofZ w16 v) 15) 0) (getD labels 0 0) ≡ placeOf (axis (constellation c) a) v
+    go true p = at (bitAnd (ofZ w16 v) 15) (digits-low (ofZ w16 v)) ∙ ap (placeOf (axis (constellation c) a)) (sym (is-held v f p))
+    go false p = at 0 (omega arith) ∙ sym (none-known (known-axis c a h) v (none-of v p))
+
+-- a number that was read from a slice of signed 16-bit numbers
+pub number-read : (c a : ℕ) → a < 2 → (v : ℤ) (labels : List ℕ) (r : ℕ) → mag v < 2 ^ 15 → labels ≡ labelsBy (axis (constellation c) a)
+    → r ≡ labelBy labels byDigits (toZ w16 (ofZ w16 v)) → r ≡ placeOf (axis (constellation c) a) v
+number-read c a h v labels r m e f =
+    let s = sfits-of {w = w16} {z = v} m in
+    f ∙ rw (toZ-ofZ {w = w16} s) (number-by c a h v labels s e)
 
 -- the labelling of a coordinate by its axis
 pub axis-of : (K : Constellation) (k a : ℕ) → a < 2 → axis K (2 * k + a) ≡ axis K a

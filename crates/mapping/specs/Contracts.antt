@@ -1,15 +1,17 @@
--- What the functions of this crate require of the buffers that they are lent: nothing of 01 is stated here.
+-- What the functions of this crate require of the buffers that they are lent, and promise of them: nothing of 01 is stated here.
 use Prim.Native.Nat.{ℕ, _*_, _%_, _<_, _+_, _-_, _/_}
 use mathlib.Core.Path.{_≡_}
-use mathlib.Core.List.{List}
+use mathlib.Core.List.{List, [], _∷_}
 use lib.ListN.{length, getD}
-use lib.IntN.{ℤ, pos}
-use mathlib.Core.Bool.{Bool, _&&_, _||_}
+use lib.IntN.{ℤ, pos, negsuc}
+use mathlib.Core.Bool.{Bool, cond, _&&_, _||_}
 use lib.Dec.{eqb}
 use lib.Bits.{bitAnd}
 use mir.Syntax.{w16}
 use mir.Val.{SFits, ofZ}
+use Rattle.lists.specs.Lists.{table}
 use Rattle.block.specs.Mapping.{constellation}
+use Rattle.block.specs.Reading.{placeOf}
 use Rattle.block.specs.Points.{onAxis}
 use Rattle.cellbytes.specs.CellBytes.{signed}
 
@@ -47,6 +49,18 @@ pub record UnmapsAxes (c : ℕ) (cells : List ℤ) (re im : List ℕ) : Type 0 w
 -- Number v is the one that a table holds at its four lowest binary digits.
 abbrev pub inTable : List ℤ → ℤ → Bool
 inTable known v = eqb (ofZ w16 v) (ofZ w16 (getD known (bitAnd (ofZ w16 v) 15) (pos 0)))
+
+-- The coordinates by their four lowest binary digits, 0 where there is none.
+abbrev pub byDigits : List ℤ
+byDigits = pos 0 ∷ pos 1 ∷ pos 0 ∷ pos 3 ∷ pos 0 ∷ pos 5 ∷ pos 0 ∷ pos 7 ∷ pos 0 ∷ negsuc 6 ∷ pos 0 ∷ negsuc 4 ∷ pos 0 ∷ negsuc 2 ∷ pos 0 ∷ negsuc 0 ∷ []
+
+-- The labels of a labelling by these digits; the first one is that of what is no coordinate.
+unfoldable pub labelsBy : List ℤ → List ℕ
+labelsBy l = table (λ k. placeOf l (getD byDigits k (pos 0))) 0 16
+
+-- The label of number v by its four lowest binary digits; the first one where another number stands in a table there.
+abbrev pub labelBy : List ℕ → List ℤ → ℤ → ℕ
+labelBy labels known v = cond (inTable known v) (getD labels (bitAnd (ofZ w16 v) 15) 0) (getD labels 0 0)
 
 -- A table that holds the coordinates of both axes of constellation c.
 pub record Holds (c : ℕ) (known : List ℤ) : Type 0 where

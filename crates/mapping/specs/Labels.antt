@@ -4,16 +4,11 @@ use mathlib.Core.List.{List}
 use lib.ListN.{length, getD}
 use lib.IntN.{ℤ, pos}
 use Rattle.lists.specs.Lists.{table}
-use Rattle.block.specs.Mapping.{Constellation, standard64, axis}
-use Rattle.block.specs.Reading.{placeOf}
+use Rattle.block.specs.Mapping.{Constellation, axis}
 
 -- The coordinates of such labels, flat, real before imaginary.
 unfoldable pub coordinates : Constellation → List ℕ → List ℤ
 coordinates k labels = table (λ j. getD (axis k j) (getD labels j 0) (pos 0)) 0 (length labels)
-
--- The labels of a labelling by a coordinate's place among 7, 5, .. -7; 0 stands for what is none of these.
-unfoldable pub labelsBy : List ℤ → List ℕ
-labelsBy l = table (λ i. placeOf l (getD standard64 i (pos 0))) 0 9
 
 -- The labels of one axis, a number a cell: axis 0 is the real, axis 1 the imaginary one.
 unfoldable pub axisLabels : ℕ → List ℕ → List ℕ

@@ -7,10 +7,10 @@ ghost use lib.Bits.{bitAnd};
 ghost use mir.Syntax.{w16};
 ghost use mir.Val.{ofZ};
 ghost use Rattle.lists.specs.Lists.{table};
-ghost use Rattle.block.specs.Mapping.{standard64, constellation, axis, weave};
+ghost use Rattle.block.specs.Mapping.{constellation, axis, weave};
 ghost use Rattle.block.specs.Reading.{placeOf, labelsOf};
-ghost use Rattle.mapping.specs.Labels.{coordinates, labelsBy, axisLabels};
-ghost use Rattle.mapping.specs.Contracts.{Maps, MapsAxes, Unmaps, UnmapsAxes};
+ghost use Rattle.mapping.specs.Labels.{coordinates, axisLabels};
+ghost use Rattle.mapping.specs.Contracts.{labelsBy, labelBy, Maps, MapsAxes, Unmaps, UnmapsAxes};
 
 // The coordinates of an axis by the number of its level bits, filled up with zeros to eight.
 const QAM4: [i16; 8] = [1, -1, 0, 0, 0, 0, 0, 0];
@@ -82,10 +82,8 @@ pub fn map_axes(c: u8, re: &[u8], im: &[u8], out: &mut [i16])
     }
 }
 
-// The coordinates by their four lowest binary digits, 0 where there is none, and their places among 7, 5, .. -7.
+// The coordinates by their four lowest binary digits, 0 where there is none.
 const COORDINATES: [i16; 16] = [0, 1, 0, 3, 0, 5, 0, 7, 0, -7, 0, -5, 0, -3, 0, -1];
-
-const PLACES: [u8; 16] = [8, 3, 8, 2, 8, 1, 8, 0, 8, 7, 8, 6, 8, 5, 8, 4];
 
 // The four lowest binary digits of a number.
 pub fn low_digits(v: i16) -> usize
@@ -94,28 +92,17 @@ pub fn low_digits(v: i16) -> usize
     (v & 15) as usize
 }
 
-// The place of a coordinate among 7, 5, .. -7; 8 where it is none of them. By a table, since a processor does not foresee jumps that follow cells.
-fn place_of(v: i16) -> usize
-    ensures { λ r. ⌜ r ≡ placeOf standard64 v ⌝ }
-{
-    let k = low_digits(v);
-    if v == COORDINATES[k] {
-        return PLACES[k] as usize;
-    }
-    8
-}
+// The labels of an axis by a coordinate's four lowest binary digits; the first one stands for what is no coordinate.
+const LABELS4: [u8; 16] = [2, 0, 2, 2, 2, 2, 2, 2, 2, 2, 2, 2, 2, 2, 2, 1];
 
-// ThreeBits of level bits by a coordinate's place among 7, 5, .. -7; the last one stands for what is no coordinate.
-const LABELS4: [u8; 9] = [2, 2, 2, 0, 1, 2, 2, 2, 2];
+const LABELS16: [u8; 16] = [4, 1, 4, 0, 4, 4, 4, 4, 4, 4, 4, 4, 4, 3, 4, 2];
 
-const LABELS16: [u8; 9] = [4, 4, 0, 1, 2, 3, 4, 4, 4];
+const LABELS_STANDARD64: [u8; 16] = [8, 3, 8, 2, 8, 1, 8, 0, 8, 7, 8, 6, 8, 5, 8, 4];
 
-const LABELS_STANDARD64: [u8; 9] = [0, 1, 2, 3, 4, 5, 6, 7, 8];
-
-const LABELS_SYMMETRIC64: [u8; 9] = [0, 2, 4, 6, 1, 3, 5, 7, 8];
+const LABELS_SYMMETRIC64: [u8; 16] = [8, 6, 8, 4, 8, 2, 8, 0, 8, 7, 8, 5, 8, 3, 8, 1];
 
 // The labels of a constellation's axis: axis 0 is the real, axis 1 the imaginary one.
-fn axis_labels(c: u8, a: usize) -> [u8; 9]
+fn axis_labels(c: u8, a: usize) -> [u8; 16]
     requires { ⌜ (c < 5) × (a < 2) ⌝ }
     ensures { λ r. ⌜ r ≡ labelsBy (axis (constellation c) a) ⌝ }
 {
@@ -133,11 +120,15 @@ fn axis_labels(c: u8, a: usize) -> [u8; 9]
     }
 }
 
-// The number of a coordinate's level bits.
-fn label_of(labels: &[u8; 9], v: i16) -> u8
-    ensures { λ r. ⌜ r ≡ getD (now (labels .entry)) (placeOf standard64 v) 0 ⌝ }
+// The number of a coordinate's level bits. By tables, since a processor does not foresee jumps that follow cells.
+fn label_of(labels: &[u8; 16], known: &[i16; 16], v: i16) -> u8
+    ensures { λ r. ⌜ r ≡ labelBy (now (labels .entry)) (now (known .entry)) v ⌝ }
 {
-    labels[place_of(v)]
+    let k = low_digits(v);
+    if v == known[k] {
+        return labels[k];
+    }
+    labels[0]
 }
 
 // The number of a coordinate's level bits on an axis of a constellation.
@@ -146,7 +137,8 @@ pub fn axis_label(c: u8, a: usize, v: i16) -> u8
     ensures { λ r. ⌜ r ≡ placeOf (axis (constellation c) a) v ⌝ }
 {
     let labels = axis_labels(c, a);
-    label_of(&labels, v)
+    let known = COORDINATES;
+    label_of(&labels, &known, v)
 }
 
 // Coordinates, real before imaginary, back to labels.
@@ -156,11 +148,12 @@ pub fn unmap_cells(c: u8, cells: &[i16], out: &mut [u8])
 {
     let real = axis_labels(c, 0);
     let imaginary = axis_labels(c, 1);
+    let known = COORDINATES;
     let n = out.len() / 2;
     let mut k = 0;
     while k < n {
-        out[2 * k] = label_of(&real, cells[2 * k]);
-        out[2 * k + 1] = label_of(&imaginary, cells[2 * k + 1]);
+        out[2 * k] = label_of(&real, &known, cells[2 * k]);
+        out[2 * k + 1] = label_of(&imaginary, &known, cells[2 * k + 1]);
         k += 1;
     }
 }
@@ -173,10 +166,11 @@ pub fn unmap_axes(c: u8, cells: &[i16], re: &mut [u8], im: &mut [u8])
 {
     let real = axis_labels(c, 0);
     let imaginary = axis_labels(c, 1);
+    let known = COORDINATES;
     let mut k = 0;
     while k < re.len() {
-        re[k] = label_of(&real, cells[2 * k]);
-        im[k] = label_of(&imaginary, cells[2 * k + 1]);
+        re[k] = label_of(&real, &known, cells[2 * k]);
+        im[k] = label_of(&imaginary, &known, cells[2 * k + 1]);
         k += 1;
     }
 }

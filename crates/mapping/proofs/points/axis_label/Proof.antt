@@ -8,9 +8,9 @@ use Rattle.mapping.proofs.points.axis_label.Tie as tie
 
 returns : tie.Need-returns
 returns c =
-    let s = c .before .before .before in
+    let s = c .before .before .before .before in
     rw (c .label-of .ensures, toZ-ofZ {w = w16} (s .fits .v))
-    (number-by (s .args .c) (s .args .a) (s .pre .1) _ _ (c .before .before .axis-labels .ensures))
+    (number-by (s .args .c) (s .args .a) (s .pre .1) _ _ (s .fits .v) (c .before .before .before .axis-labels .ensures))
 
 pub axis-label-spec : {M : Type 1} → statement M
 axis-label-spec = tie.close (tie.spec (λ c κs. search needs) (λ c κs. search needs) returns)

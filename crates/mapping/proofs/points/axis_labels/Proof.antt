@@ -5,7 +5,7 @@ use Rattle.lists.specs.Lists.{table}
 use Rattle.block.specs.Mapping.{coordinate, qam4, qam16, standard64, symmetric64, constellation, axis}
 use Rattle.lists.specs.Same.{sameNumber}
 use Rattle.block.specs.Reading.{placeOf}
-use Rattle.mapping.specs.Labels.{labelsBy}
+use Rattle.mapping.specs.Contracts.{labelsBy}
 use Rattle.mapping.proofs.Labels.{one-labelling}
 use Rattle.mapping.proofs.points.axis_labels.Statement.{statement}
 use Rattle.mapping.proofs.points.axis_labels.Tie as tie

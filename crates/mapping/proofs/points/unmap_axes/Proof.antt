@@ -8,16 +8,17 @@ use Rattle.mapping.proofs.points.unmap_axes.Statement.{statement}
 use Rattle.mapping.proofs.points.unmap_axes.Tie as tie
 
 abbrev Inv-loop : tie.InvT-loop
-Inv-loop c cells re₀ im₀ real imaginary k₀ re im k = Axis c 0 cells re₀ re k × Axis c 1 cells im₀ im k
+Inv-loop c cells re₀ im₀ real imaginary known k₀ re im k = Axis c 0 cells re₀ re k × Axis c 1 cells im₀ im k
 
 abbrev μ-loop : tie.MeasureT-loop
-μ-loop c cells re₀ im₀ real imaginary k₀ re im k = length re₀ - k
+μ-loop c cells re₀ im₀ real imaginary known k₀ re im k = length re₀ - k
 
 loop-again : tie.Need-loop-again Inv-loop μ-loop
 loop-again c =
-    let l = c .before .before .before .before .before .before .before in
+    let first = c .before .before .before .before in
+    let l = first .before .before .before .before .before in
     let s = l .before .before .before .before .before in (
-      axis-turn (l .loop .inv .0) (omega arith) (search needs) (s .pre .same) (2 * l .loop .k) _ (omega arith) (number-read (s .args .c) 0 (omega arith) _ _ _ (c .before .before .before .before .label-of-arg .given) (l .before .before .axis-labels .ensures) (c .before .before .before .label-of .ensures)),
+      axis-turn (l .loop .inv .0) (omega arith) (search needs) (s .pre .same) (2 * l .loop .k) _ (omega arith) (number-read (s .args .c) 0 (omega arith) _ _ _ (first .before .label-of-arg .given) (l .before .before .axis-labels .ensures) (first .label-of .ensures)),
       axis-turn (l .loop .inv .1) (omega arith) (search needs) (omega (arith, s .pre .same, s .pre .both)) (2 * l .loop .k + 1) _ (omega arith) (number-read (s .args .c) 1 (omega arith) _ _ _ (c .before .label-of-arg2 .given) (l .before .axis-labels2 .ensures) (c .label-of2 .ensures)),
     )
 
