@@ -1,4 +1,4 @@
--- ThreeBits of level bits, mapped and woven. Assumes nothing.
+-- Labels of level bits, mapped and woven. Assumes nothing.
 use Prim.Native.Nat.{ℕ, zero, suc, _+_, _*_, _/_, _%_, _≤_, _<_}
 use mathlib.Core.Path.{_≡_, refl, sym, ap, _∙_}
 use mathlib.Core.Logic.{_⊎_, inl, inr}

@@ -1,4 +1,4 @@
-// ThreeBits of level bits to cells in two parts. 01 "Mapping".
+// Labels of level bits to cells in two parts. 01 "Mapping".
 use mapping::points::map_axes;
 use mapping::points::map_cells;
 ghost use mathlib.Core.Path.{_≡_};

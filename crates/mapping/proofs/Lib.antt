@@ -1,4 +1,5 @@
 pub mod Coordinates
+pub mod Labellings
 pub mod Labels
 pub mod Signed
 pub mod PointTests

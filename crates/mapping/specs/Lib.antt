@@ -1,3 +1,4 @@
 pub mod Contracts
 pub mod Labels
 pub mod PointTests
+pub mod Labellings

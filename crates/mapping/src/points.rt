@@ -1,30 +1,50 @@
 // Level bits to coordinates and back. 01 "Mapping"; 001 clause 7.4.
 ghost use mathlib.Core.Path.{_≡_};
 ghost use Prim.Native.Nat.{_<_};
-ghost use lib.ListN.{getD};
-ghost use lib.IntN.{pos};
 ghost use lib.Bits.{bitAnd};
 ghost use mir.Syntax.{w16};
 ghost use mir.Val.{ofZ};
-ghost use Rattle.lists.specs.Lists.{table};
 ghost use Rattle.block.specs.Mapping.{constellation, axis, weave};
 ghost use Rattle.block.specs.Reading.{placeOf, labelsOf};
 ghost use Rattle.mapping.specs.Labels.{coordinates, axisLabels};
+ghost use Rattle.mapping.specs.Labellings.{coordinateBy, coordinatesBy, LabelFits, MapsAlike, Labels};
 ghost use Rattle.mapping.specs.Contracts.{labelsBy, labelBy, Maps, MapsAxes, Unmaps, UnmapsAxes};
 
-// The coordinates of an axis by the number of its level bits, filled up with zeros to eight.
-const QAM4: [i16; 8] = [1, -1, 0, 0, 0, 0, 0, 0];
+// An axis's labelling in numbers: coordinates go down from size - 1, by times the label and by odd more where that is odd.
+struct Labelling {
+    size: u8,
+    times: u8,
+    odd: u8,
+}
 
-const QAM16: [i16; 8] = [3, 1, -1, -3, 0, 0, 0, 0];
+const QAM4: Labelling = Labelling {
+    size: 2,
+    times: 2,
+    odd: 0,
+};
 
-const STANDARD64: [i16; 8] = [7, 5, 3, 1, -1, -3, -5, -7];
+const QAM16: Labelling = Labelling {
+    size: 4,
+    times: 2,
+    odd: 0,
+};
 
-const SYMMETRIC64: [i16; 8] = [7, -1, 5, -3, 3, -5, 1, -7];
+const STANDARD64: Labelling = Labelling {
+    size: 8,
+    times: 2,
+    odd: 0,
+};
+
+const SYMMETRIC64: Labelling = Labelling {
+    size: 8,
+    times: 1,
+    odd: 7,
+};
 
 // The labelling of a constellation's real axis.
-fn real_axis(c: u8) -> [i16; 8]
+fn real_axis(c: u8) -> Labelling
     requires { ⌜ c < 5 ⌝ }
-    ensures { λ r. ⌜ r ≡ table (λ n. getD (constellation c .real) n (pos 0)) 0 8 ⌝ }
+    ensures { λ r. ⌜ Labels (r .size) (r .times) (r .odd) (constellation c .real) ⌝ }
 {
     match c {
         0 => QAM4,
@@ -37,9 +57,9 @@ fn real_axis(c: u8) -> [i16; 8]
 }
 
 // The labelling of a constellation's imaginary axis.
-fn imaginary_axis(c: u8) -> [i16; 8]
+fn imaginary_axis(c: u8) -> Labelling
     requires { ⌜ c < 5 ⌝ }
-    ensures { λ r. ⌜ r ≡ table (λ n. getD (constellation c .imaginary) n (pos 0)) 0 8 ⌝ }
+    ensures { λ r. ⌜ Labels (r .size) (r .times) (r .odd) (constellation c .imaginary) ⌝ }
 {
     match c {
         0 => QAM4,
@@ -51,8 +71,31 @@ fn imaginary_axis(c: u8) -> [i16; 8]
     }
 }
 
-// ThreeBits i0 + 2 × i1 + 4 × i2, flat, real before imaginary, to coordinates.
-pub fn map_cells(c: u8, labels: &[u8], out: &mut [i16])
+// The coordinate of a label: worked out, not looked up, so that many labels are mapped at once.
+fn coordinate_of(l: Labelling, label: u8) -> i16
+    requires { ⌜ LabelFits (l .size) (l .times) (l .odd) label ⌝ }
+    ensures { λ r. ⌜ r ≡ coordinateBy (l .size) (l .times) (l .odd) label ⌝ }
+{
+    if label < l.size {
+        return (l.size - 1) as i16 - (l.times * label + l.odd * (label % 2)) as i16;
+    }
+    0
+}
+
+// Labels of both axes to coordinates by one labelling.
+fn map_alike(l: Labelling, labels: &[u8], out: &mut [i16])
+    requires { ⌜ MapsAlike (l .size) (l .times) (l .odd) (now labels) (now out) ⌝ }
+    ensures { λ r. ⌜ now (out .exit) ≡ coordinatesBy (l .size) (l .times) (l .odd) (now (labels .entry)) ⌝ }
+{
+    let mut k = 0;
+    while k < labels.len() {
+        out[k] = coordinate_of(l, labels[k]);
+        k += 1;
+    }
+}
+
+// Labels of the two axes by turns to coordinates, whatever their labellings.
+fn map_pairs(c: u8, labels: &[u8], out: &mut [i16])
     requires { ⌜ Maps c (now labels) (now out) ⌝ }
     ensures { λ r. ⌜ now (out .exit) ≡ coordinates (constellation c) (now (labels .entry)) ⌝ }
 {
@@ -61,13 +104,33 @@ pub fn map_cells(c: u8, labels: &[u8], out: &mut [i16])
     let cells = out.len() / 2;
     let mut k = 0;
     while k < cells {
-        out[2 * k] = real[labels[2 * k] as usize];
-        out[2 * k + 1] = imaginary[labels[2 * k + 1] as usize];
+        out[2 * k] = coordinate_of(real, labels[2 * k]);
+        out[2 * k + 1] = coordinate_of(imaginary, labels[2 * k + 1]);
         k += 1;
     }
 }
 
-// ThreeBits of the real and of the imaginary axis to coordinates.
+// Labels i0 + 2 × i1 + 4 × i2, flat, real before imaginary, to coordinates.
+pub fn map_cells(c: u8, labels: &[u8], out: &mut [i16])
+    requires { ⌜ Maps c (now labels) (now out) ⌝ }
+    ensures { λ r. ⌜ now (out .exit) ≡ coordinates (constellation c) (now (labels .entry)) ⌝ }
+{
+    if c == block::QAM16 {
+        map_alike(QAM16, labels, out);
+        return;
+    }
+    if c == block::SM64 {
+        map_alike(STANDARD64, labels, out);
+        return;
+    }
+    if c == block::HMSYM {
+        map_alike(SYMMETRIC64, labels, out);
+        return;
+    }
+    map_pairs(c, labels, out);
+}
+
+// Labels of the real and of the imaginary axis to coordinates.
 pub fn map_axes(c: u8, re: &[u8], im: &[u8], out: &mut [i16])
     requires { ⌜ MapsAxes c (now re) (now im) (now out) ⌝ }
     ensures { λ r. ⌜ now (out .exit) ≡ coordinates (constellation c) (weave (now (re .entry)) (now (im .entry))) ⌝ }
@@ -76,8 +139,8 @@ pub fn map_axes(c: u8, re: &[u8], im: &[u8], out: &mut [i16])
     let imaginary = imaginary_axis(c);
     let mut k = 0;
     while k < re.len() {
-        out[2 * k] = real[re[k] as usize];
-        out[2 * k + 1] = imaginary[im[k] as usize];
+        out[2 * k] = coordinate_of(real, re[k]);
+        out[2 * k + 1] = coordinate_of(imaginary, im[k]);
         k += 1;
     }
 }

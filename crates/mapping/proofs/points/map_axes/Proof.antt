@@ -1,9 +1,11 @@
 -- `map_axes` meets its contract. Assumes nothing.
-use Prim.Native.Nat.{_-_, _<_}
+use Prim.Native.Nat.{_-_}
 use mathlib.Core.Path.{sym, _∙_}
 use native.Mathlib.Omega.{arith}
-use borrow.Author.Needs.{needs}
-use lib.ListN.{length, getD, length-set}
+use borrow.Author.Needs.{needs, sfits-of}
+use lib.ListN.{length, length-set}
+use mir.Syntax.{w16}
+use mir.Facts.{toZ-ofZ}
 use Rattle.block.specs.Mapping.{weave}
 use Rattle.mapping.proofs.Coordinates.{Placing, start, turn, done, weave-even, weave-odd}
 use Rattle.block.proofs.Mapping.{length-weave}
@@ -19,38 +21,36 @@ abbrev μ-loop : tie.MeasureT-loop
 loop-holds : tie.Need-loop-holds Inv-loop μ-loop
 loop-holds c = start _ _ _ (c .before .before .before .before .pre .same ∙ sym (length-weave _ _))
 
--- the number of the real axis is below 8, and so is that of the imaginary one
-re-low : (c : tie.After-shared-slice-known3 Inv-loop μ-loop) → getD (c .before .before .before .before .before .before .before .args .re .now) (c .before .before .loop .k) 0 < 8
-re-low c = c .before .before .before .before .before .before .before .pre .lowReal .low (c .before .before .loop .k)
+coordinate-of-requires : tie.Need-coordinate-of-requires Inv-loop μ-loop
+coordinate-of-requires c κs =
+    let l = c .before .before in
+    record { labelling = l .before .before .real-axis .ensures .fits; low = l .before .before .before .before .before .pre .lowReal .low (l .loop .k) }
 
-im-low : (c : tie.After-shared-slice-known4 Inv-loop μ-loop)
-    → getD (c .before .before .before .before .before .before .before .before .before .args .im .now) (c .before .before .before .before .loop .k) 0 < 8
-im-low c =
-    c .before .before .before .before .before .before .before .before .before .pre .lowImaginary .low (c .before .before .before .before .loop .k)
+coordinate-of-requires-2 : tie.Need-coordinate-of-requires-2 Inv-loop μ-loop
+coordinate-of-requires-2 c κs =
+    let l = c .before .before .before .before in
+    record { labelling = l .before .imaginary-axis .ensures .fits; low = l .before .before .before .before .before .pre .lowImaginary .low (l .loop .k) }
 
 loop-again : tie.Need-loop-again Inv-loop μ-loop
 loop-again c =
     let l = c .before .before .before .before .before in
     let s = l .before .before .before .before .before in
     let k = l .loop .k in
+    let one = c .before .before .coordinate-of in
+    let two = c .coordinate-of2 in
     turn
     (l .loop .inv)
     (search needs)
     _
     _
-    (l .before .before .real-axis .ensures)
-    (l .before .imaginary-axis .ensures)
-    _
-    _
     (sym (weave-even (s .args .re .now) (s .args .im .now) k (search needs)))
     (sym (weave-odd (s .args .re .now) (s .args .im .now) k (search needs)))
-    (s .pre .lowReal .low k)
-    (s .pre .lowImaginary .low k)
+    (toZ-ofZ {w = w16} (sfits-of {w = w16} (one .ok)) ∙ one .ensures ∙ l .before .before .real-axis .ensures .each _ (s .pre .lowReal .low k))
+    (toZ-ofZ {w = w16} (sfits-of {w = w16} (two .ok)) ∙ two .ensures ∙ l .before .imaginary-axis .ensures .each _ (s .pre .lowImaginary .low k))
 
 pub map-axes-spec : {M : Type 1} → statement M
 map-axes-spec =
-    tie.close (tie.spec Inv-loop μ-loop (λ c κs. search needs) (λ c κs. search needs) loop-holds (λ c. search needs) (λ c. omega (arith, re-low c))
-    (λ c. omega (arith, re-low c)) re-low (λ c. search needs) (λ c. search needs) (λ c. search needs) (λ c. search needs)
-    (λ c. omega (arith, im-low c)) (λ c. omega (arith, im-low c)) im-low (λ c. search needs) (λ c. search needs) (λ c. search needs)
-    (λ c. simp length-set (omega arith)) (λ c. search needs) (λ c. search needs) loop-again (λ c. search needs)
+    tie.close (tie.spec Inv-loop μ-loop (λ c κs. search needs) (λ c κs. search needs) loop-holds (λ c. search needs) coordinate-of-requires
+    (λ c. search needs) (λ c. search needs) (λ c. search needs) (λ c. search needs) coordinate-of-requires-2 (λ c. search needs) (λ c. search needs)
+    (λ c. search needs) (λ c. simp length-set (omega arith)) (λ c. search needs) (λ c. search needs) loop-again (λ c. search needs)
     (λ c. done (c .before .loop .inv) (search needs)))
