@@ -1,4 +1,4 @@
--- Decoding many bits at a time: b0 times the mask twice, divided by the mask's fourth power, gives the bits that b0 gives one by one. Assumes nothing.
+-- Decoding many bits at a time: b0 times the mask and its square, divided by its fourth power, gives the bits that b0 gives bit by bit. Assumes nothing.
 use Prim.Native.Nat.{ℕ, zero, suc, _+_, _-_, _*_, _/_, _%_, _≤_, _<_}
 use mathlib.Core.Path.{_≡_, refl, sym, ap, _∙_}
 use mathlib.Core.Logic.{inl, inr}
@@ -26,18 +26,10 @@ even : (r q : ℕ) → (r + 2 * q) % 2 ≡ r % 2
 even r q = omega arith
 
 -- numbers added up modulo 2 are their lowest digits added up
-rests : {a b c d f : ℕ} (r₀ r₁ r₂ r₃ r₄ q₀ q₁ q₂ q₃ q₄ : ℕ) → r₀ + 2 * q₀ ≡ a → r₁ + 2 * q₁ ≡ b → r₂ + 2 * q₂ ≡ c → r₃ + 2 * q₃ ≡ d → r₄ + 2 * q₄ ≡ f
-    → (r₀ + r₁ + r₂ + r₃ + r₄) % 2 ≡ (a + b + c + d + f) % 2
-rests {a} {b} {c} {d} {f} r₀ r₁ r₂ r₃ r₄ q₀ q₁ q₂ q₃ q₄ k₀ k₁ k₂ k₃ k₄ =
-    let e : r₀ + r₁ + r₂ + r₃ + r₄ + 2 * (q₀ + q₁ + q₂ + q₃ + q₄) ≡ a + b + c + d + f = omega arith in
-    sym (even (r₀ + r₁ + r₂ + r₃ + r₄) (q₀ + q₁ + q₂ + q₃ + q₄)) ∙ ap (λ x. x % 2) e
-
-halves : (a : ℕ) → a % 2 + 2 * (a / 2) ≡ a
-halves a = omega arith
-
 added : (a b c d e : ℕ) → (a % 2 + b % 2 + c % 2 + d % 2 + e % 2) % 2 ≡ (a + b + c + d + e) % 2
 added a b c d e =
-    rests (a % 2) (b % 2) (c % 2) (d % 2) (e % 2) (a / 2) (b / 2) (c / 2) (d / 2) (e / 2) (halves a) (halves b) (halves c) (halves d) (halves e)
+    let s : a % 2 + b % 2 + c % 2 + d % 2 + e % 2 + 2 * (a / 2 + b / 2 + c / 2 + d / 2 + e / 2) ≡ a + b + c + d + e = omega arith in
+    sym (even (a % 2 + b % 2 + c % 2 + d % 2 + e % 2) (a / 2 + b / 2 + c / 2 + d / 2 + e / 2)) ∙ ap (λ x. x % 2) s
 
 -- five sums of five bits each, modulo 2: what is in two of them goes out
 square : (y₀ y₂ y₃ y₄ y₅ y₆ y₇ y₈ y₉ y₁₀ y₁₁ y₁₂ : ℕ)

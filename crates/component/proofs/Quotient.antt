@@ -1,4 +1,4 @@
--- A segment decoded by division: the first 24 bits one by one, and the others from them. Assumes nothing.
+-- A segment decoded by division: the first 24 bits bit by bit, and the others from them. Assumes nothing.
 use Prim.Native.Nat.{ℕ, _+_, _-_, _%_, _≤_, _<_}
 use mathlib.Core.Path.{_≡_, sym, ap, _∙_}
 use mathlib.Core.List.{List, _++_}
@@ -22,7 +22,7 @@ module _ {p coded : List ℕ} {r at : ℕ} {d : List ℕ} (D : Decodes p r coded
   abbrev bits : List ℕ
   bits = decode p r 0 (length d) (drop at coded)
 
-  pub raised-long : length e ≡ length d
+  raised-long : length e ≡ length d
   raised-long = U .two .same ∙ U .one .same ∙ U .long
 
   pub front-decodes : Decodes p r coded at (take 24 e)
@@ -54,7 +54,7 @@ module _ {p coded : List ℕ} {r at : ℕ} {d : List ℕ} (D : Decodes p r coded
     front-long : length front ≡ 24
     front-long = rw front-is (length-decode p r 0 24 (drop at coded))
 
-    pub parts-long : length (front ++ drop 24 e) ≡ length d
+    parts-long : length (front ++ drop 24 e) ≡ length d
     parts-long = rw (length-append, front-long, length-drop) (omega (arith, raised-long))
 
     front-bits : Bits front
