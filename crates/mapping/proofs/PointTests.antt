@@ -1,19 +1,20 @@
--- The test of points by tables of coordinates. Assumes nothing.
-use Prim.Native.Nat.{ℕ, zero, suc, _+_, _*_, _/_, _%_, _^_, _≤_, _<_}
+-- The test of points by masks. Assumes nothing.
+use Prim.Native.Nat.{ℕ, zero, suc, _+_, _-_, _*_, _/_, _%_, _^_, _≤_, _<_}
 use mathlib.Core.Bool.{Bool, true, false, _&&_, _||_}
 use mathlib.Core.Path.{_≡_, refl, sym, ap, _∙_}
-use mathlib.Core.List.{List, [], _∷_}
-use native.Mathlib.Nat.{mod-one, mod-add-mod}
+use mathlib.Core.List.{List}
+use native.Mathlib.Nat.{mod-one, mod-lt, mod-add-mod}
 use native.Mathlib.Omega.{arith}
 use borrow.Author.Needs.{sfits-of}
-use borrow.Author.Tests.{eq-eqb, ne-eqb}
-use lib.Dec.{T, eqb, ltb}
+use borrow.Author.Tests.{eq-eqb, ne-eqb, ltb-true, ltb-false, le-ltb}
+use lib.Bits.{bitAnd, and-mask, and-block}
+use lib.Dec.{T, eqb, ltb, ltb→lt}
 use lib.ListN.{length, getD}
 use lib.Signed.{mag}
 use lib.IntN.{ℤ, pos, negsuc}
 use mir.Syntax.{w16}
 use mir.Val.{SFits, toZ, ofZ}
-use mir.Facts.{toZ-ofZ}
+use mir.Facts.{fits-ofZ, toZ-ofZ}
 use Rattle.lists.specs.Lists.{table}
 use Rattle.lists.specs.Same.{sameNumber}
 use Rattle.lists.specs.Bools.{every}
@@ -24,101 +25,146 @@ use Rattle.lists.proofs.Same.{sameNumber-refl, sameNumber-true}
 use Rattle.block.specs.Mapping.{coordinate, qam4, qam16, standard64, symmetric64, constellation, axis}
 use Rattle.block.specs.Points.{isEmpty, onAxis, isPoint, arePoints}
 use Rattle.mapping.specs.declared.PointTest.{PointTest}
-use Rattle.mapping.specs.PointTests.{cellPasses, pointsPass, pointsOnly}
-use Rattle.mapping.specs.Contracts.{inTable, Holds}
-use Rattle.mapping.proofs.Coordinates.{fitting, fitting-at, axis-even, axis-odd}
+use Rattle.mapping.specs.PointTests.{cellPasses, pointsPass, allCells, pointsOnly}
+use Rattle.mapping.specs.Contracts.{byMask, Masks}
+use Rattle.mapping.proofs.Coordinates.{axis-even, axis-odd}
 use Rattle.mapping.proofs.Labels.{None, coordinates-all}
-use Rattle.mapping.proofs.Signed.{digits-low}
+use Rattle.mapping.proofs.Signed.{number-is}
 
--- coordinates by their four lowest binary digits, 1 where there is none
-abbrev pub table4 : List ℤ
-table4 = pos 1 ∷ pos 1 ∷ pos 1 ∷ pos 1 ∷ pos 1 ∷ pos 1 ∷ pos 1 ∷ pos 1 ∷ pos 1 ∷ pos 1 ∷ pos 1 ∷ pos 1 ∷ pos 1 ∷ pos 1 ∷ pos 1 ∷ negsuc 0 ∷ []
+-- a number of 16 bits in the places of the three masks
+in-places-4 : (n : ℕ) → n < 65536 → bitAnd n 65535 ≡ n
+in-places-4 n h = omega (arith, and-mask n 16)
 
-abbrev pub table16 : List ℤ
-table16 = pos 1 ∷ pos 1 ∷ pos 1 ∷ pos 3 ∷ pos 1 ∷ pos 1 ∷ pos 1 ∷ pos 1 ∷ pos 1 ∷ pos 1 ∷ pos 1 ∷ pos 1 ∷ pos 1 ∷ negsuc 2 ∷ pos 1 ∷ negsuc 0 ∷ []
+in-places-16 : (n : ℕ) → n < 65536 → bitAnd n 65533 ≡ n / 4 * 4 + n % 2
+in-places-16 n h =
+    let e : n ≡ n / 4 * 2 ^ 2 + n % 4 = omega arith in
+    ap (λ m. bitAnd m 65533) e ∙ and-block 2 (n / 4) 16383 (n % 4) 1 (omega arith) (omega arith)
+    ∙ omega (arith, and-mask (n / 4) 14, and-mask (n % 4) 1)
 
-abbrev pub table64 : List ℤ
-table64 = pos 1 ∷ pos 1 ∷ pos 1 ∷ pos 3 ∷ pos 1 ∷ pos 5 ∷ pos 1 ∷ pos 7 ∷ pos 1 ∷ negsuc 6 ∷ pos 1 ∷ negsuc 4 ∷ pos 1 ∷ negsuc 2 ∷ pos 1 ∷ negsuc 0 ∷ []
+in-places-64 : (n : ℕ) → n < 65536 → bitAnd n 65529 ≡ n / 8 * 8 + n % 2
+in-places-64 n h =
+    let e : n ≡ n / 8 * 2 ^ 3 + n % 8 = omega arith in
+    ap (λ m. bitAnd m 65529) e ∙ and-block 3 (n / 8) 8191 (n % 8) 1 (omega arith) (omega arith)
+    ∙ omega (arith, and-mask (n / 8) 13, and-mask (n % 8) 1)
 
--- an entry of a table is on it
-or-true : {b : Bool} (a : Bool) → b ≡ true → (a || b) ≡ true
-or-true true p = refl
-or-true false p = p
+-- odd numbers below 8
+odd : (P : ℕ → Type 0) → P 1 → P 3 → P 5 → P 7 → (m : ℕ) → m < 8 → m % 2 ≡ 1 → P m
+odd P a b c d zero h e = absurd (omega arith)
+odd P a b c d (suc zero) h e = a
+odd P a b c d (suc (suc zero)) h e = absurd (omega arith)
+odd P a b c d (suc (suc (suc zero))) h e = b
+odd P a b c d (suc (suc (suc (suc zero)))) h e = absurd (omega arith)
+odd P a b c d (suc (suc (suc (suc (suc zero))))) h e = c
+odd P a b c d (suc (suc (suc (suc (suc (suc zero)))))) h e = absurd (omega arith)
+odd P a b c d (suc (suc (suc (suc (suc (suc (suc zero))))))) h e = d
+odd P a b c d (suc (suc (suc (suc (suc (suc (suc (suc m)))))))) h e = absurd (omega arith)
 
-entry : (l : List ℤ) (k : ℕ) → k < length l → (v : ℤ) → v ≡ getD l k (pos 0) → onAxis l v ≡ true
-unfolding onAxis
-entry [] k h v e = absurd (omega arith)
-entry (w ∷ l) zero h v e = rw (e, sameNumber-refl w)
-entry (w ∷ l) (suc k) h v e = or-true (sameNumber w v) (entry l k (omega arith) v e)
+-- the bits of what is none of 7, 5, .. -7 are neither such a number nor one of the last
+module _ (v : ℤ) (f : SFits w16 v) (n : None v) where
+  not-bits : (w : ℤ) (m : ℕ) → sameNumber w v ≡ false → toZ w16 m ≡ w → ofZ w16 v ≡ m → ⊥
+  not-bits w m e t b = never-both (sameNumber w v) (rw (number-is v m f b ∙ t) (sameNumber-refl w)) e
 
--- what is no entry is not the one at its digits
-no-entry : (l : List ℤ) (v : ℤ) → T (fitting l) → SFits w16 v → onAxis l v ≡ false → (k : ℕ) → k < length l
-    → eqb (ofZ w16 v) (ofZ w16 (getD l k (pos 0))) ≡ false
-no-entry l v t f e k h =
-    ne-eqb (ofZ w16 v) (ofZ w16 (getD l k (pos 0))) (λ p.
-    let same : v ≡ getD l k (pos 0) = sym (toZ-ofZ {w = w16} f) ∙ ap (toZ w16) p ∙ toZ-ofZ {w = w16} (sfits-of {w = w16} (fitting-at l t k)) in
-    never-both (onAxis l v) (entry l k h v same) e)
+  not-low : (m : ℕ) → m < 8 → m % 2 ≡ 1 → ofZ w16 v ≡ m → ⊥
+  not-low =
+      odd (λ m. ofZ w16 v ≡ m → ⊥)
+      (not-bits (pos 1) 1 (n .p1) refl) (not-bits (pos 3) 3 (n .p3) refl) (not-bits (pos 5) 5 (n .p5) refl) (not-bits (pos 7) 7 (n .p7) refl)
 
--- a number that is none of the eight coordinates is on no axis, and in no table
-none-4 : (v : ℤ) → None v → (onAxis table4 v ≡ false) × (onAxis qam4 v ≡ false)
-unfolding onAxis table qam4 coordinate
-none-4 v n = rw (n .p1, n .n1) (refl, refl)
+  not-high : (m : ℕ) → m < 8 → m % 2 ≡ 1 → ofZ w16 v ≡ 65528 + m → ⊥
+  not-high =
+      odd (λ m. ofZ w16 v ≡ 65528 + m → ⊥)
+      (not-bits (negsuc 6) 65529 (n .n7) refl) (not-bits (negsuc 4) 65531 (n .n5) refl)
+      (not-bits (negsuc 2) 65533 (n .n3) refl) (not-bits (negsuc 0) 65535 (n .n1) refl)
 
-none-16 : (v : ℤ) → None v → (onAxis table16 v ≡ false) × (onAxis qam16 v ≡ false)
-unfolding onAxis table qam16 coordinate
-none-16 v n = rw (n .p3, n .p1, n .n1, n .n3) (refl, refl)
+  not-both : (m : ℕ) → ofZ w16 v ≡ m → m < 65536 → m % 2 ≡ 1 → (8 ≤ m → 65528 ≤ m) → ⊥
+  not-both m e l o h = go (ltb m 8) refl
+    where
+      go : (b : Bool) → ltb m 8 ≡ b → ⊥
+      go true p = not-low m (ltb-true m 8 p) o e
+      go false p = not-high (m - 65528) (omega (arith, h (ltb-false m 8 p))) (omega (arith, h (ltb-false m 8 p))) (omega (arith, h (ltb-false m 8 p)))
 
-none-64 : (v : ℤ) → None v → (onAxis table64 v ≡ false) × (onAxis standard64 v ≡ false) × (onAxis symmetric64 v ≡ false)
-unfolding onAxis table standard64 symmetric64 coordinate
-none-64 v n = rw (n .p7, n .p5, n .p3, n .p1, n .n1, n .n3, n .n5, n .n7) (refl, refl, refl)
+-- so a mask tells them
+no-mask : (l : List ℤ) (v mask : ℤ) → onAxis l v ≡ false → (bitAnd (ofZ w16 v) (ofZ w16 mask) ≡ 1 → ⊥) → (bitAnd (ofZ w16 v) (ofZ w16 mask) ≡ ofZ w16 mask → ⊥)
+    → byMask mask v ≡ onAxis l v
+no-mask l v mask e one all =
+    rw (ne-eqb (bitAnd (ofZ w16 v) (ofZ w16 mask)) 1 one, ne-eqb (bitAnd (ofZ w16 v) (ofZ w16 mask)) (ofZ w16 mask) all) (sym e)
 
-none-in : (known l : List ℤ) (v : ℤ) → T (fitting known) → length known ≡ 16 → SFits w16 v → onAxis known v ≡ false → onAxis l v ≡ false → inTable known v ≡ onAxis l v
-none-in known l v t n f e g = no-entry known v t f e _ (omega (arith, n, digits-low (ofZ w16 v))) ∙ sym g
+none-4 : (l : List ℤ) (v : ℤ) → SFits w16 v → None v → onAxis l v ≡ false → byMask (negsuc 0) v ≡ onAxis l v
+none-4 l v f n e =
+    let low : ofZ w16 v < 65536 = fits-ofZ {w = w16} f .fits in
+    let is = in-places-4 (ofZ w16 v) low in
+    no-mask l v (negsuc 0) e
+    (λ p. not-both v f n (ofZ w16 v) refl low (omega (arith, p, is)) (λ h. omega (arith, p, is)))
+    (λ p. not-both v f n (ofZ w16 v) refl low (omega (arith, p, is)) (λ h. omega (arith, p, is)))
 
--- the three tables
-in-4 : (v : ℤ) → SFits w16 v → inTable table4 v ≡ onAxis qam4 v
-unfolding onAxis sameNumber fitting table qam4 coordinate
-in-4 =
-    coordinates-all (λ v. SFits w16 v → inTable table4 v ≡ onAxis qam4 v)
+none-16 : (l : List ℤ) (v : ℤ) → SFits w16 v → None v → onAxis l v ≡ false → byMask (negsuc 2) v ≡ onAxis l v
+none-16 l v f n e =
+    let low : ofZ w16 v < 65536 = fits-ofZ {w = w16} f .fits in
+    let is = in-places-16 (ofZ w16 v) low in
+    no-mask l v (negsuc 2) e
+    (λ p. not-both v f n (ofZ w16 v) refl low (omega (arith, p, is)) (λ h. omega (arith, p, is)))
+    (λ p. not-both v f n (ofZ w16 v) refl low (omega (arith, p, is)) (λ h. omega (arith, p, is)))
+
+none-64 : (l : List ℤ) (v : ℤ) → SFits w16 v → None v → onAxis l v ≡ false → byMask (negsuc 6) v ≡ onAxis l v
+none-64 l v f n e =
+    let low : ofZ w16 v < 65536 = fits-ofZ {w = w16} f .fits in
+    let is = in-places-64 (ofZ w16 v) low in
+    no-mask l v (negsuc 6) e
+    (λ p. not-both v f n (ofZ w16 v) refl low (omega (arith, p, is)) (λ h. omega (arith, p, is)))
+    (λ p. not-both v f n (ofZ w16 v) refl low (omega (arith, p, is)) (λ h. omega (arith, p, is)))
+
+-- the three masks
+tells-4 : (v : ℤ) → SFits w16 v → byMask (negsuc 0) v ≡ onAxis qam4 v
+unfolding onAxis sameNumber table qam4 coordinate
+tells-4 =
+    coordinates-all (λ v. SFits w16 v → byMask (negsuc 0) v ≡ onAxis qam4 v)
     (λ f. refl) (λ f. refl) (λ f. refl) (λ f. refl) (λ f. refl) (λ f. refl) (λ f. refl) (λ f. refl)
-    (λ v n f. none-in table4 qam4 v tt refl f (none-4 v n .0) (none-4 v n .1))
+    (λ v n f. none-4 qam4 v f n (rw (n .p1, n .n1)))
 
-in-16 : (v : ℤ) → SFits w16 v → inTable table16 v ≡ onAxis qam16 v
-unfolding onAxis sameNumber fitting table qam16 coordinate
-in-16 =
-    coordinates-all (λ v. SFits w16 v → inTable table16 v ≡ onAxis qam16 v)
+tells-16 : (v : ℤ) → SFits w16 v → byMask (negsuc 2) v ≡ onAxis qam16 v
+unfolding onAxis sameNumber table qam16 coordinate
+tells-16 =
+    coordinates-all (λ v. SFits w16 v → byMask (negsuc 2) v ≡ onAxis qam16 v)
     (λ f. refl) (λ f. refl) (λ f. refl) (λ f. refl) (λ f. refl) (λ f. refl) (λ f. refl) (λ f. refl)
-    (λ v n f. none-in table16 qam16 v tt refl f (none-16 v n .0) (none-16 v n .1))
+    (λ v n f. none-16 qam16 v f n (rw (n .p3, n .p1, n .n1, n .n3)))
 
-in-64 : (v : ℤ) → SFits w16 v → (inTable table64 v ≡ onAxis standard64 v) × (inTable table64 v ≡ onAxis symmetric64 v)
-unfolding onAxis sameNumber fitting table standard64 symmetric64 coordinate
-in-64 =
-    coordinates-all (λ v. SFits w16 v → (inTable table64 v ≡ onAxis standard64 v) × (inTable table64 v ≡ onAxis symmetric64 v))
-    (λ f. (refl, refl)) (λ f. (refl, refl)) (λ f. (refl, refl)) (λ f. (refl, refl))
-    (λ f. (refl, refl)) (λ f. (refl, refl)) (λ f. (refl, refl)) (λ f. (refl, refl))
-    (λ v n f. let e = none-64 v n in (none-in table64 standard64 v tt refl f (e .0) (e .1), none-in table64 symmetric64 v tt refl f (e .0) (e .2)))
+tells-standard : (v : ℤ) → SFits w16 v → byMask (negsuc 6) v ≡ onAxis standard64 v
+unfolding onAxis sameNumber table standard64 coordinate
+tells-standard =
+    coordinates-all (λ v. SFits w16 v → byMask (negsuc 6) v ≡ onAxis standard64 v)
+    (λ f. refl) (λ f. refl) (λ f. refl) (λ f. refl) (λ f. refl) (λ f. refl) (λ f. refl) (λ f. refl)
+    (λ v n f. none-64 standard64 v f n (rw (n .p7, n .p5, n .p3, n .p1, n .n1, n .n3, n .n5, n .n7)))
 
-pub holds-16 : Holds 1 table16
+tells-symmetric : (v : ℤ) → SFits w16 v → byMask (negsuc 6) v ≡ onAxis symmetric64 v
+unfolding onAxis sameNumber table symmetric64 coordinate
+tells-symmetric =
+    coordinates-all (λ v. SFits w16 v → byMask (negsuc 6) v ≡ onAxis symmetric64 v)
+    (λ f. refl) (λ f. refl) (λ f. refl) (λ f. refl) (λ f. refl) (λ f. refl) (λ f. refl) (λ f. refl)
+    (λ v n f. none-64 symmetric64 v f n (rw (n .p7, n .p5, n .p3, n .p1, n .n1, n .n3, n .n5, n .n7)))
+
+small : (z : ℤ) → T (ltb (mag z) (2 ^ 15)) → SFits w16 z
+small z t = sfits-of {w = w16} {z = z} (ltb→lt _ _ t)
+
+pub masks-16 : Masks 1 (negsuc 2)
 unfolding constellation
-holds-16 = record { real = in-16; imaginary = in-16 }
+masks-16 = record { fits = small (negsuc 2) tt; real = tells-16; imaginary = tells-16 }
 
-pub holds-64 : (c : ℕ) → 2 ≤ c → c < 5 → Holds c table64
+pub masks-64 : (c : ℕ) → 2 ≤ c → c < 5 → Masks c (negsuc 6)
 unfolding constellation
-holds-64 zero h k = absurd (omega arith)
-holds-64 (suc zero) h k = absurd (omega arith)
-holds-64 (suc (suc zero)) h k = record { real = λ v f. in-64 v f .0; imaginary = λ v f. in-64 v f .0 }
-holds-64 (suc (suc (suc zero))) h k = record { real = λ v f. in-64 v f .1; imaginary = λ v f. in-64 v f .1 }
-holds-64 (suc (suc (suc (suc zero)))) h k = record { real = λ v f. in-64 v f .1; imaginary = λ v f. in-64 v f .0 }
-holds-64 (suc (suc (suc (suc (suc c))))) h k = absurd (omega arith)
+masks-64 zero h k = absurd (omega arith)
+masks-64 (suc zero) h k = absurd (omega arith)
+masks-64 (suc (suc zero)) h k = record { fits = small (negsuc 6) tt; real = tells-standard; imaginary = tells-standard }
+masks-64 (suc (suc (suc zero))) h k = record { fits = small (negsuc 6) tt; real = tells-symmetric; imaginary = tells-symmetric }
+masks-64 (suc (suc (suc (suc zero)))) h k = record { fits = small (negsuc 6) tt; real = tells-symmetric; imaginary = tells-standard }
+masks-64 (suc (suc (suc (suc (suc c))))) h k = absurd (omega arith)
 
-pub holds-else : (c : ℕ) → (0 < c → 5 ≤ c) → Holds c table4
+pub masks-else : (c : ℕ) → (0 < c → 5 ≤ c) → Masks c (negsuc 0)
 unfolding constellation
-holds-else zero h = record { real = in-4; imaginary = in-4 }
-holds-else (suc zero) h = absurd (omega (arith, h (omega arith)))
-holds-else (suc (suc zero)) h = absurd (omega (arith, h (omega arith)))
-holds-else (suc (suc (suc zero))) h = absurd (omega (arith, h (omega arith)))
-holds-else (suc (suc (suc (suc zero)))) h = absurd (omega (arith, h (omega arith)))
-holds-else (suc (suc (suc (suc (suc c))))) h = record { real = in-4; imaginary = in-4 }
+masks-else zero h = record { fits = small (negsuc 0) tt; real = tells-4; imaginary = tells-4 }
+masks-else (suc zero) h = absurd (omega (arith, h (omega arith)))
+masks-else (suc (suc zero)) h = absurd (omega (arith, h (omega arith)))
+masks-else (suc (suc (suc zero))) h = absurd (omega (arith, h (omega arith)))
+masks-else (suc (suc (suc (suc zero)))) h = absurd (omega (arith, h (omega arith)))
+masks-else (suc (suc (suc (suc (suc c))))) h = record { fits = small (negsuc 0) tt; real = tells-4; imaginary = tells-4 }
 
 -- a number is 0 exactly if its bits are
 pub zero-bits : (v : ℤ) → SFits w16 v → eqb (ofZ w16 v) 0 ≡ sameNumber (pos 0) v
@@ -132,16 +178,29 @@ zero-bits v f = go (sameNumber (pos 0) v) refl
         never-both (sameNumber (pos 0) v) (rw same (sameNumber-refl (pos 0))) e)
 
 -- what the code finds of cell i
-pub cell-read : (test : PointTest) (cells : List ℤ) (i delay : ℕ) (known : List ℤ) (r : Bool) → Holds (test .constellation) known → delay ≡ i % test .depth
+pub cell-read : (test : PointTest) (cells : List ℤ) (i delay : ℕ) (mask : ℤ) (r : Bool) → Masks (test .constellation) mask → delay ≡ i % test .depth
     → mag (getD cells (2 * i) (pos 0)) < 2 ^ 15 → mag (getD cells (2 * i + 1) (pos 0)) < 2 ^ 15
     → r ≡ (test .blank && isEmpty (toZ w16 (ofZ w16 (getD cells (2 * i) (pos 0)))) (toZ w16 (ofZ w16 (getD cells (2 * i + 1) (pos 0)))))
-    || (inTable known (toZ w16 (ofZ w16 (getD cells (2 * i) (pos 0)))) && inTable known (toZ w16 (ofZ w16 (getD cells (2 * i + 1) (pos 0)))))
+    || (byMask (toZ w16 (ofZ w16 mask)) (toZ w16 (ofZ w16 (getD cells (2 * i) (pos 0)))) && byMask (toZ w16 (ofZ w16 mask)) (toZ w16 (ofZ w16 (getD cells (2 * i + 1) (pos 0)))))
     → (ltb (test .count) delay || r) ≡ cellPasses test cells i
 unfolding cellPasses isPoint
-cell-read test cells i delay known r H e f g p =
+cell-read test cells i delay mask r M e f g p =
     let f = sfits-of {w = w16} {z = getD cells (2 * i) (pos 0)} f in
     let g = sfits-of {w = w16} {z = getD cells (2 * i + 1) (pos 0)} g in
-    rw (p, e, toZ-ofZ {w = w16} f, toZ-ofZ {w = w16} g, H .real _ f, H .imaginary _ g)
+    rw (p, e, toZ-ofZ {w = w16} (M .fits), toZ-ofZ {w = w16} f, toZ-ofZ {w = w16} g, M .real _ f, M .imaginary _ g)
+
+-- where the count has reached every delay, no cell is ignored
+none-ignored : (test : PointTest) (cells : List ℤ) (i : ℕ) → 0 < test .depth → test .depth - 1 ≤ test .count
+    → cellPasses test cells i ≡ cellPasses (allCells (test .constellation) (test .blank)) cells i
+unfolding cellPasses
+none-ignored test cells i d h =
+    rw (le-ltb (test .count) (i % test .depth) (omega (arith, mod-lt i d)), mod-one i)
+
+pub all-reached : (test : PointTest) (cells : List ℤ) → 0 < test .depth → test .depth - 1 ≤ test .count
+    → pointsPass (allCells (test .constellation) (test .blank)) cells ≡ pointsPass test cells
+unfolding pointsPass
+all-reached test cells d h =
+    ap every (table-ext _ _ 0 (length cells / 2) (λ i a b. sym (none-ignored test cells i d h)))
 
 -- the delay of the next cell
 pub delay-next : (D i delay r : ℕ) → delay ≡ i % D → r ≡ (delay + 1) % D → r ≡ (i + 1) % D

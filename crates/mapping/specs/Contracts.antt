@@ -62,10 +62,15 @@ labelsBy l = table (λ k. placeOf l (getD byDigits k (pos 0))) 0 16
 abbrev pub labelBy : List ℕ → List ℤ → ℤ → ℕ
 labelBy labels known v = cond (inTable known v) (getD labels (bitAnd (ofZ w16 v) 15) 0) (getD labels 0 0)
 
--- A table that holds the coordinates of both axes of constellation c.
-pub record Holds (c : ℕ) (known : List ℤ) : Type 0 where
-  pub real : (v : ℤ) → SFits w16 v → inTable known v ≡ onAxis (constellation c .real) v
-  pub imaginary : (v : ℤ) → SFits w16 v → inTable known v ≡ onAxis (constellation c .imaginary) v
+-- In the places of a mask number v has 1, or all that is there.
+abbrev pub byMask : ℤ → ℤ → Bool
+byMask mask v = eqb (bitAnd (ofZ w16 v) (ofZ w16 mask)) 1 || eqb (bitAnd (ofZ w16 v) (ofZ w16 mask)) (ofZ w16 mask)
+
+-- A mask by which the coordinates of both axes of constellation c are told.
+pub record Masks (c : ℕ) (mask : ℤ) : Type 0 where
+  pub fits : SFits w16 mask
+  pub real : (v : ℤ) → SFits w16 v → byMask mask v ≡ onAxis (constellation c .real) v
+  pub imaginary : (v : ℤ) → SFits w16 v → byMask mask v ≡ onAxis (constellation c .imaginary) v
 
 -- Four bits are a coordinate where the largest one is top: with that added they are even and at most twice top.
 abbrev pub halfPasses : ℕ → ℕ → Bool

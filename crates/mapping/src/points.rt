@@ -149,7 +149,7 @@ pub fn map_axes(c: u8, re: &[u8], im: &[u8], out: &mut [i16])
 const COORDINATES: [i16; 16] = [0, 1, 0, 3, 0, 5, 0, 7, 0, -7, 0, -5, 0, -3, 0, -1];
 
 // The four lowest binary digits of a number.
-pub fn low_digits(v: i16) -> usize
+fn low_digits(v: i16) -> usize
     ensures { λ r. ⌜ (r ≡ bitAnd (ofZ w16 v) 15) × (r < 16) ⌝ }
 {
     (v & 15) as usize

@@ -1,46 +1,38 @@
 // The one test of points: FAC and SDC cells, sent rows (refusal 13) and memory (refusal 12). 01 "Operations".
 use crate::PointTest;
-use crate::points::low_digits;
 ghost use mathlib.Core.Path.{_≡_};
 ghost use mathlib.Core.Bool.{_&&_, _||_};
 ghost use Prim.Native.Nat.{_+_, _%_, _<_};
 ghost use Rattle.cellbytes.specs.CellBytes.{numbers};
 ghost use Rattle.block.specs.Points.{isEmpty};
 ghost use Rattle.mapping.specs.PointTests.{pointsPass, allCells};
-ghost use Rattle.mapping.specs.Contracts.{inTable, Holds, halfPasses, bytePasses, Reaches};
+ghost use Rattle.mapping.specs.Contracts.{byMask, Masks, halfPasses, bytePasses, Reaches};
 
-// The coordinates of an axis by their four lowest binary digits; 1 stands where there is none, since a number with those digits isn't 1.
-const COORDINATES4: [i16; 16] = [1, 1, 1, 1, 1, 1, 1, 1, 1, 1, 1, 1, 1, 1, 1, -1];
-
-const COORDINATES16: [i16; 16] = [1, 1, 1, 3, 1, 1, 1, 1, 1, 1, 1, 1, 1, -3, 1, -1];
-
-const COORDINATES64: [i16; 16] = [1, 1, 1, 3, 1, 5, 1, 7, 1, -7, 1, -5, 1, -3, 1, -1];
-
-// Those of a constellation, whose two axes have the same.
-fn coordinates(c: u8) -> [i16; 16]
-    ensures { λ r. ⌜ Holds c r ⌝ }
+// The mask by which the coordinates of a constellation are told: in its places they have 1, or all that is there.
+fn mask_of(c: u8) -> i16
+    ensures { λ r. ⌜ Masks c r ⌝ }
 {
     match c {
-        1 => COORDINATES16,
-        2 => COORDINATES64,
-        3 => COORDINATES64,
-        4 => COORDINATES64,
-        _ => COORDINATES4,
+        1 => -3,
+        2 => -7,
+        3 => -7,
+        4 => -7,
+        _ => -1,
     }
 }
 
-// A number is one of the coordinates. By a table, since a processor does not foresee jumps that follow cells.
-fn is_coordinate(known: &[i16; 16], v: i16) -> bool
-    ensures { λ r. ⌜ r ≡ inTable (now (known .entry)) v ⌝ }
+// A number is one of the coordinates. By its binary digits and without a table, so that a processor tests eight at once.
+fn is_coordinate(mask: i16, v: i16) -> bool
+    ensures { λ r. ⌜ r ≡ byMask mask v ⌝ }
 {
-    v == known[low_digits(v)]
+    (v & mask == 1) | (v & mask == mask)
 }
 
 // A cell is a point, or (0, 0) where such cells pass.
-fn cell_passes(known: &[i16; 16], blank: bool, re: i16, im: i16) -> bool
-    ensures { λ r. ⌜ r ≡ (blank && isEmpty re im) || (inTable (now (known .entry)) re && inTable (now (known .entry)) im) ⌝ }
+fn cell_passes(mask: i16, blank: bool, re: i16, im: i16) -> bool
+    ensures { λ r. ⌜ r ≡ (blank && isEmpty re im) || (byMask mask re && byMask mask im) ⌝ }
 {
-    (blank & ((re == 0) & (im == 0))) | (is_coordinate(known, re) & is_coordinate(known, im))
+    (blank & ((re == 0) & (im == 0))) | (is_coordinate(mask, re) & is_coordinate(mask, im))
 }
 
 // The delay of the next cell.
@@ -54,12 +46,27 @@ fn next_delay(depth: usize, delay: usize) -> usize
     delay + 1
 }
 
-// Every cell passes. All are looked at, whatever came before: without a way out of the loop it takes half the time.
-pub fn points_pass(test: PointTest, cells: &[i16]) -> bool
+// Every cell passes, and none is ignored. All are looked at, whatever came before.
+fn all_pass(c: u8, blank: bool, cells: &[i16]) -> bool
+    ensures { λ r. ⌜ r ≡ pointsPass (allCells c blank) (now (cells .entry)) ⌝ }
+{
+    let mask = mask_of(c);
+    let n = cells.len() / 2;
+    let mut passed = true;
+    let mut i = 0;
+    while i < n {
+        passed = passed & cell_passes(mask, blank, cells[2 * i], cells[2 * i + 1]);
+        i += 1;
+    }
+    passed
+}
+
+// The same where some may be ignored, whose delays are counted along.
+fn some_pass(test: PointTest, cells: &[i16]) -> bool
     requires { ⌜ 0 < (test .depth) ⌝ }
     ensures { λ r. ⌜ r ≡ pointsPass test (now (cells .entry)) ⌝ }
 {
-    let known = coordinates(test.constellation);
+    let mask = mask_of(test.constellation);
     let n = cells.len() / 2;
     let mut passed = true;
     let mut delay = 0;
@@ -67,11 +74,22 @@ pub fn points_pass(test: PointTest, cells: &[i16]) -> bool
     while i < n {
         passed = passed
             & ((test.count < delay)
-                | cell_passes(&known, test.blank, cells[2 * i], cells[2 * i + 1]));
+                | cell_passes(mask, test.blank, cells[2 * i], cells[2 * i + 1]));
         delay = next_delay(test.depth, delay);
         i += 1;
     }
     passed
+}
+
+// Every cell passes: without delays where the count has reached them all, since they stop a processor from testing several at once.
+pub fn points_pass(test: PointTest, cells: &[i16]) -> bool
+    requires { ⌜ 0 < (test .depth) ⌝ }
+    ensures { λ r. ⌜ r ≡ pointsPass test (now (cells .entry)) ⌝ }
+{
+    if test.depth - 1 <= test.count {
+        return all_pass(test.constellation, test.blank, cells);
+    }
+    some_pass(test, cells)
 }
 
 // The largest coordinate of a constellation.

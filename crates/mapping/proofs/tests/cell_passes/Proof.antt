@@ -16,6 +16,7 @@ returns c =
       zero-bits _ (start .fits .im),
       c .before .is-coordinate .ensures,
       c .is-coordinate2 .ensures,
+      toZ-ofZ {w = w16} (start .fits .mask),
       toZ-ofZ {w = w16} (start .fits .re),
       toZ-ofZ {w = w16} (start .fits .im),
     )
