@@ -1,4 +1,4 @@
--- The loop of `encode`: what is written so far, and the coded bits of what is left, are the coded bits of the whole. Assumes nothing.
+-- The loop of `encode_columns`, and of `encode_blocks` of crate `encoder`: what is written so far, and the coded bits of what is left, are the coded bits of the whole. Assumes nothing.
 use Prim.Native.Nat.{ℕ, suc, _+_, _≤_, _<_}
 use mathlib.Core.Path.{_≡_, refl, _∙_}
 use mathlib.Core.List.{List, [], _∷_}

@@ -3,11 +3,12 @@ use Prim.Native.Nat.{ℕ, zero, suc, _+_, _-_, _*_, _/_, _%_, _≤_, _<_}
 use mathlib.Core.Path.{_≡_, refl, sym, ap, ap₂, _∙_}
 use mathlib.Core.List.{List, [], _∷_, _++_, append-assoc, append-nil}
 use native.Mathlib.Nat.{add-zero, zero-add, suc-add, mul-zero, mul-suc, mul-comm, mod-lt, div-add-mod'}
+use native.Mathlib.Numerals.{add-one}
 use native.Mathlib.Omega.{arith}
 use borrow.Author.Tests.{lt-ltb, le-ltb}
 use lib.Dec.{lit<}
 use lib.ListN.{length, getD}
-use lib.Count.{ones, onesIn}
+use lib.Count.{ones, onesIn, ones-le}
 use Rattle.component.specs.Register.{next, after}
 use Rattle.lists.specs.Lists.{table, total}
 use Rattle.patterns.specs.Patterns.{columns, numerators, denominators, RX, RY, pattern, tail, table66, tailPattern, R3/5, Sound}
@@ -91,6 +92,20 @@ coded-less p m n h =
     let e : m + (n - m) ≡ n = omega arith in
     let a : codedLength p 0 n ≡ codedLength p 0 m + codedLength p (columnAfter p 0 m) (n - m) = rw e at (codedLength-add p 0 m (n - m)) in
     omega arith
+
+-- one more column of a round
+pub coded-more : (p : List ℕ) (i : ℕ) → i < length p → codedLength p 0 (suc i) ≡ codedLength p 0 i + ones (getD p i 0)
+unfolding codedLength
+coded-more p i h =
+    let c : columnAfter p 0 i ≡ i = columnAfter-low p 0 i (omega arith) ∙ zero-add i in
+    ap (codedLength p 0) (sym (add-one i)) ∙ codedLength-add p 0 i 1 ∙ rw c (omega arith)
+
+-- a round has at most four coded bits a column
+pub coded-low : {p : List ℕ} → Sound p → (n : ℕ) → n ≤ length p → codedLength p 0 n ≤ 4 * n
+unfolding codedLength
+coded-low S zero h = omega arith
+coded-low {p} S (suc n) h =
+    omega (arith, coded-more p n (omega arith), coded-low S n (omega arith), ones-le 4 (getD p n 0) (S .four n (omega arith)))
 
 -- whole rounds, and what is left of one
 pub by-rounds : {p : List ℕ} → Sound p → (n : ℕ) → codedLength p 0 n ≡ n / length p * codedLength p 0 (length p) + codedLength p 0 (n % length p)

@@ -4,12 +4,6 @@ pub mod Register
 pub mod Codeword
 pub mod Decoding
 pub mod Lengths
-pub mod Spread
-pub mod Rounds
-mod Encoding
-mod Parts
+pub mod SevenBits
+pub mod Encoding
 mod Reading
-mod Collecting
-mod Division
-mod Dividing
-mod Quotient

@@ -1,4 +1,4 @@
--- The loop of `decode`: what is written so far, and the decoding of what is left, are the decoding of the whole. Assumes nothing.
+-- The loop of `decode_columns`: what is written so far, and the decoding of what is left, are the decoding of the whole. Assumes nothing.
 use Prim.Native.Nat.{ℕ, suc, _+_, _-_, _≤_, _<_}
 use mathlib.Core.Path.{_≡_, refl, ap, _∙_}
 use mathlib.Core.List.{List, [], _∷_, _++_, append-nil}
@@ -6,16 +6,12 @@ use native.Mathlib.Nat.{add-zero}
 use native.Mathlib.Numerals.{add-one}
 use native.Mathlib.Omega.{arith}
 use lib.ListN.{length, getD, take, drop, set, length-set}
-use lib.Seq.{take-all, take-suc-set, append-snoc, getD-drop, getD-take, drop-drop, length-take-le}
+use lib.Seq.{take-all, take-suc-set, append-snoc, getD-drop, drop-drop}
 use lib.Count.{ones, ones-step}
 use Rattle.component.specs.Register.{next, after}
 use Rattle.component.specs.Codeword.{following}
 use Rattle.component.specs.Decoding.{codedLength, newest, decode}
-use Rattle.lists.specs.Lists.{table}
-use Rattle.lists.proofs.Tables.{length-table, getD-table}
-use Rattle.patterns.specs.declared.Pattern.{Pattern}
-use Rattle.patterns.specs.Contracts.{Held}
-use Rattle.component.specs.Coding.{Widths, Decodes, Decoded}
+use Rattle.component.specs.Coding.{Decodes, Decoded}
 use Rattle.component.proofs.Register.{next-low, newest-bit}
 use Rattle.component.proofs.Codeword.{following-low}
 
@@ -86,19 +82,3 @@ module _ {p : List ℕ} {r₀ : ℕ} {coded : List ℕ} {at₀ : ℕ} {d₀ d : 
       let t : take j d ≡ d = take-all j d (omega arith) in
       let q : at + 0 ≡ at₀ + codedLength p 0 (length d₀) = rw e at (E .place) in
       record { state = rw e at (E .register); place = omega arith; written = rw (e, t, append-nil d) at (E .written) }
-
--- the widths of all columns are those of the pattern
-pub widths-lent : (p : Pattern) (w : List ℕ) → Held p → w ≡ table (λ i. ones (getD (p .columns) i 0)) 0 8 → length (p .columns) ≡ 8
-    → Widths (take (p .width - 0) (p .columns)) w
-widths-lent p w H e l =
-    let n : p .width - 0 ≡ p .width = omega arith in
-    let m : length (take (p .width - 0) (p .columns)) ≡ p .width = rw n (length-take-le (p .width) (p .columns) (H .there)) in
-    let k : length w ≡ 8 = rw e (length-table (λ i. ones (getD (p .columns) i 0)) 0 8) in
-    record {
-      there = omega (arith, H .there);
-      few = omega (arith, H .there);
-      known = λ i h.
-          let b : i < 8 = omega (arith, H .there) in
-          let t : getD (take (p .width - 0) (p .columns)) i 0 ≡ getD (p .columns) i 0 = rw n (getD-take (p .width) (p .columns) i 0 (omega arith)) in
-          rw (e, t) (getD-table 0 (λ i. ones (getD (p .columns) i 0)) 8 i b);
-    }

@@ -1,5 +1,5 @@
 -- What the functions of the component code require and promise: nothing of 01 is stated here.
-use Prim.Native.Nat.{ℕ, _+_, _≤_, _<_}
+use Prim.Native.Nat.{ℕ, _+_, _*_, _≤_, _<_}
 use mathlib.Core.Path.{_≡_}
 use mathlib.Core.List.{List}
 use lib.ListN.{length, getD, drop}
@@ -41,3 +41,9 @@ pub record Decoded (pattern : List ℕ) (register : ℕ) (coded : List ℕ) (at 
   pub state : register' ≡ after register (decode pattern register 0 n (drop at coded))
   pub place : at' ≡ at + codedLength pattern 0 n
   pub written : out' ≡ decode pattern register 0 n (drop at coded)
+
+-- The register with bit k + 6 of some bits as its newest: the six before it are the older ones.
+unfoldable pub registerAt : List ℕ → ℕ → ℕ
+registerAt bits k =
+    getD bits k 0
+    + 2 * (getD bits (k + 1) 0 + 2 * (getD bits (k + 2) 0 + 2 * (getD bits (k + 3) 0 + 2 * (getD bits (k + 4) 0 + 2 * (getD bits (k + 5) 0 + 2 * getD bits (k + 6) 0)))))

@@ -3,5 +3,3 @@ pub mod Register
 pub mod Codeword
 pub mod Decoding
 pub mod Coding
-pub mod Rounds
-pub mod Division

@@ -1,2 +1,2 @@
-// The component code of a segment.
+// The component code of a segment, bit by bit.
 pub mod code;

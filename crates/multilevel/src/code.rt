@@ -5,7 +5,7 @@ use block::Block;
 use block::Level;
 use block::buffers::cell_buffer;
 use component::code::Coder;
-use component::code::encode;
+use encoder::segment::encode;
 use labels::bits::add_part;
 use lists::bytes::clear;
 ghost use mathlib.Core.Path.{_≡_};

@@ -5,7 +5,7 @@ use block::Block;
 use block::Level;
 use block::buffers::cell_buffer;
 use component::code::coded_length;
-use component::code::decode;
+use decoder::segment::decode;
 use labels::bits::take_part;
 use patterns::Pattern;
 ghost use mathlib.Core.Path.{_≡_};

@@ -1,8 +1,8 @@
 -- `register_at` meets its contract. Assumes nothing.
 use native.Mathlib.Omega.{arith}
 use borrow.Author.Needs.{needs}
-use Rattle.component.specs.Rounds.{registerAt}
-use Rattle.component.proofs.Rounds.{seven}
+use Rattle.component.specs.Coding.{registerAt}
+use Rattle.component.proofs.SevenBits.{seven}
 use Rattle.component.proofs.code.register_at.Statement.{statement}
 use Rattle.component.proofs.code.register_at.Tie as tie
 

@@ -1,0 +1,5 @@
+mod Widths
+mod Collecting
+mod Division
+mod Dividing
+mod Quotient

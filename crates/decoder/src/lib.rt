@@ -1,0 +1,2 @@
+// The bits of a segment from its coded ones.
+pub mod segment;

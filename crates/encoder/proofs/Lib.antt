@@ -1,0 +1,3 @@
+mod Spread
+mod Rounds
+mod Parts

@@ -1,0 +1,2 @@
+// The coded bits of a segment.
+pub mod segment;
