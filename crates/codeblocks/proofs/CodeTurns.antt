@@ -9,7 +9,6 @@ use lib.ListN.{length, take, drop, length-drop}
 use lib.IntN.{ℤ}
 use lib.Seq.{length-sets, length-take-le, drop-length}
 use borrow.Rule.Slice.PartMut.{putMid, post-is}
-use Rattle.multilevel.specs.Contracts.{BlockOrder}
 use Rattle.lists.specs.Lists.{table}
 use Rattle.lists.specs.Buffers.{Long}
 use Rattle.lists.specs.Bytes.{bytesFor}
@@ -22,6 +21,7 @@ use Rattle.settings.specs.declared.Settings.{Settings}
 use Rattle.settings.specs.Lengths.{nMux, nSfa}
 use Rattle.settings.specs.Cells.{facCells}
 use Rattle.settings.specs.Sizes.{depth, frameBytes}
+use Rattle.block.specs.declared.Block.{Block}
 use Rattle.block.specs.Block.{cellsFrom}
 use Rattle.block.specs.Fits.{BlockLent}
 use Rattle.channels.proofs.Lent.{msc-lent}
@@ -165,16 +165,16 @@ module _ (state : State) (msc : List ℕ) (memory₀ : List ℕ) (cells₀ : Lis
     unfolding frameBytes bytesFor roundUp
     coding-few h = let a = w .lent .fits .allowed .settings in omega (arith, coding-within h .0, w .lent .input, a .frameMost, a .ranges .muxMost)
 
-    -- every frame has the same places
-    pub coding-order : {order : List ℕ} → BlockOrder (mscBlock (state .scheme)) order → BlockOrder (mscBlock (after .scheme)) order
+    -- every frame has the same block
+    pub coding-block : {k : Block} → k ≡ mscBlock (state .scheme) → k ≡ mscBlock (after .scheme)
     unfolding stateOf
-    coding-order O = let e : after .scheme ≡ state .scheme = ap (λ (x : State). x .scheme) (w .state-is) in rw e O
+    coding-block b = b ∙ sym (ap (λ (x : State). mscBlock (x .scheme)) (w .state-is))
 
     settings-are : after .scheme .settings ≡ state .scheme .settings
     unfolding stateOf
     settings-are = ap (λ (x : State). x .scheme .settings) (w .state-is)
 
-    -- and so has every row
+    -- and every row the same places
     pub coding-rows : {order : List ℕ} → RowOrder (state .scheme .settings) order → RowOrder (after .scheme .settings) order
     coding-rows O = rw settings-are O
 

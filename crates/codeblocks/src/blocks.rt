@@ -1,4 +1,5 @@
 // The blocks of a Code call: the cells of the FAC blocks, and the rows and fillers of the multiplex frames. 01 "Buffers and state" and "Operations".
+use block::Block;
 use block::buffers::coordinate_buffer;
 use blockcoder::code::code_block;
 use blockcoder::code::code_ordered;
@@ -48,22 +49,22 @@ pub fn code_fac(s: Scheme, fac: &[u8], cells: &mut [i16])
     }
 }
 
-// A frame's cells, by the places of its coded bits, stored at the position, a byte for each.
-fn store_frame(state: State, places: &[u16], bytes: &[u8], memory: &mut [u8])
+// A frame's cells, by its block and the places of its coded bits, stored at the position, a byte for each.
+fn store_frame(k: Block, state: State, places: &[u16], bytes: &[u8], memory: &mut [u8])
     requires { ⌜ StateFits state (now memory) × (length (now bytes) ≡ frameBytes (state .scheme .settings)) ⌝ }
-    requires { ⌜ BlockOrder (mscBlock (state .scheme)) (now places) ⌝ }
+    requires { ⌜ (k ≡ mscBlock (state .scheme)) × BlockOrder k (now places) ⌝ }
     ensures { λ r. ⌜ now (memory .exit) ≡ frameStored state (now (bytes .entry)) (now (memory .entry)) ⌝ }
 {
-    let scheme = state.scheme;
-    let n = slot_size(scheme.settings);
+    let n = slot_size(state.scheme.settings);
     let mut frame = coordinate_buffer();
-    code_ordered(msc_block(scheme), places, bytes, &mut frame[0..n]);
+    code_ordered(k, places, bytes, &mut frame[0..n]);
     let at = state.position as usize * (n / 2);
     to_bytes(&frame[0..n], &mut memory[at..at + n / 2]);
 }
 
 // The same, and the row that is sent then, by the places of its cells.
 fn code_frame(
+    k: Block,
     state: State,
     places: &[u16],
     rowplaces: &[u16],
@@ -72,14 +73,14 @@ fn code_frame(
     row: &mut [i16],
 )
     requires { ⌜ FrameFits state (now bytes) (now memory) (now row) ⌝ }
-    requires { ⌜ BlockOrder (mscBlock (state .scheme)) (now places) × RowOrder (state .scheme .settings) (now rowplaces) ⌝ }
+    requires { ⌜ (k ≡ mscBlock (state .scheme)) × BlockOrder k (now places) × RowOrder (state .scheme .settings) (now rowplaces) ⌝ }
     ensures { λ r. ⌜ FrameCoded state (now (bytes .entry)) (now (memory .entry)) (now (memory .exit)) (now (row .exit)) ⌝ }
 {
-    store_frame(state, places, bytes, memory);
+    store_frame(k, state, places, bytes, memory);
     send_row(state, rowplaces, memory, row);
 }
 
-// The MSC sequence, three rows and the fillers, and the state after it. One table of places for the frames, and one for the rows.
+// The MSC sequence, three rows and the fillers, and the state after it. One block and one table of places for the frames, and one table for the rows.
 pub fn code_msc(state: State, msc: &[u8], memory: &mut [u8], cells: &mut [i16]) -> State
     requires { ⌜ MscFits state (now msc) (now memory) (now cells) ⌝ }
     ensures { λ r. ⌜ MscCoded state (now (msc .entry)) (now (memory .entry)) r (now (memory .exit)) (now (cells .exit)) ⌝ }
@@ -87,14 +88,16 @@ pub fn code_msc(state: State, msc: &[u8], memory: &mut [u8], cells: &mut [i16]) 
     let s = state.scheme.settings;
     let n = slot_size(s);
     let bytes = answers::frame_bytes(s);
+    let k = msc_block(state.scheme);
     let mut places = place_buffer();
-    block_places(msc_block(state.scheme), &mut places);
+    block_places(k, &mut places);
     let mut rowplaces = row_buffer();
     row_places(s, &mut rowplaces);
     let mut after = state;
     let mut i = 0;
     while i < 3 {
         code_frame(
+            k,
             after,
             &places,
             &rowplaces,

@@ -18,7 +18,7 @@ use Rattle.lists.specs.Buffers.{Long}
 use Rattle.lists.proofs.Parts.{length-start, part-again}
 use Rattle.lists.proofs.Counting.{below-or}
 use Rattle.cellbytes.specs.CellBytes.{numbers}
-use Rattle.cellbytes.proofs.CellBytes.{numbers-take, numbers-drop}
+use Rattle.cellbytes.proofs.CellBytes.{length-numbers, numbers-take, numbers-drop}
 use Rattle.settings.specs.declared.Settings.{Settings}
 use Rattle.settings.specs.Lengths.{nMux}
 use Rattle.settings.specs.Sizes.{depth, frameBytes}
@@ -26,11 +26,10 @@ use Rattle.block.specs.declared.Block.{Block}
 use Rattle.block.specs.Reading.{given, bytesRead}
 use Rattle.block.specs.Fits.{BlockLent}
 use Rattle.channels.proofs.Lent.{msc-lent}
-use Rattle.multilevel.specs.Contracts.{BlockOrder}
 use Rattle.blockcoder.specs.declared.Found.{Found}
 use Rattle.blockcoder.specs.declared.Found.the-variants.{Given, NoBits}
 use Rattle.blockcoder.specs.Contracts.{BlockRead, foundOf}
-use Rattle.frames.specs.Contracts.{GivenRead, PlacesRead, SlotLent, FinishLent, FrameFinished, RowsLent, RowsRead}
+use Rattle.frames.specs.Contracts.{GivenRead, PlacesRead, FinishLent, FrameFinished, RowsLent, RowsRead}
 use Rattle.channels.specs.Msc.{mscBlock}
 use Rattle.channels.specs.declared.Scheme.{Scheme}
 use Rattle.channels.specs.Scheme.{SchemeAccepted}
@@ -207,20 +206,20 @@ module _ (tests : List Bool) (k : ℕ) (state : State) (memory out : List ℕ)
     finish-room =
         (part-within len k 3 (length out) (h .few) (h .room ∙ rw v), omega (arith, h .room, frames-most (h .fits .allowed .settings)))
 
-    pub slot-lent : SlotLent (state .scheme) (take (after .position * (n / 2) + n / 2 - after .position * (n / 2)) (drop (after .position * (n / 2)) memory))
-        (take (len * k + len - len * k) (drop (len * k) out))
-    slot-lent =
-        record {
-          allowed = h .fits .allowed;
-          cells = length-mid (after .position * (n / 2)) (n / 2) memory (finish-within .0) ∙ half;
-          room = length-mid (len * k) len out (finish-room .0) ∙ v;
-        }
+    -- The frame as its block is lent to be read.
+    pub slot-lent : {block : Block} → block ≡ mscBlock (state .scheme)
+        → BlockLent block (take (len * k + len - len * k) (drop (len * k) out))
+        (numbers (take (after .position * (n / 2) + n / 2 - after .position * (n / 2)) (drop (after .position * (n / 2)) memory)))
+    slot-lent b =
+        rw b
+        (msc-lent (h .fits .allowed) (length-mid (len * k) len out (finish-room .0) ∙ v)
+        (length-numbers _ ∙ ap (λ (m : ℕ). 2 * m) (length-mid (after .position * (n / 2)) (n / 2) memory (finish-within .0) ∙ half)))
 
-    pub finish-one : (d : ℕ) → d ≡ depth (state .scheme .settings) → d ≤ state .count + 1 → (b : Bool) (last : List ℕ)
-        → GivenRead (mscBlock (state .scheme)) (numbers (take (after .position * (n / 2) + n / 2 - after .position * (n / 2)) (drop (after .position * (n / 2)) memory)))
+    pub finish-one : (d : ℕ) → d ≡ depth (state .scheme .settings) → d ≤ state .count + 1 → (b : Bool) (last : List ℕ) → {block : Block} → block ≡ mscBlock (state .scheme)
+        → GivenRead block (numbers (take (after .position * (n / 2) + n / 2 - after .position * (n / 2)) (drop (after .position * (n / 2)) memory)))
         (take (len * k + len - len * k) (drop (len * k) out)) b last
         → FrameFinished frames memory out (record { given = set tests k b; finished = k + 1; after = after }) (putMid (len * k) (len * k + len - len * k) out last)
-    finish-one d f l b last r =
+    finish-one d f l b last same r =
         let c = state .scheme in
         let s = c .settings in
         let m = nMux s in
@@ -237,25 +236,21 @@ module _ (tests : List Bool) (k : ℕ) (state : State) (memory out : List ℕ)
           state-is = e;
           read = λ fs g w. (
             rw (one, length-append fs (cells ∷ [])) (omega (arith, g)),
-            rw (one, v) (place-more (mscBlock c) (frameBytes s) (msc-recovers (h .fits .allowed)) fs (omega (arith, g, h .few)) tests out w k g cells b last (rw v at r)),
+            rw (one, v) (place-more (mscBlock c) (frameBytes s) (msc-recovers (h .fits .allowed)) fs (omega (arith, g, h .few)) tests out w k g cells b last (rw (same, v) at r)),
           );
         }
 
 -- A slot's numbers in a working buffer, as they are lent to be read.
-module _ (s : Scheme) (slot out : List ℕ) (h : SlotLent s slot out) (buffer : List ℤ) (l : Long 12236 buffer) where
+module _ (block : Block) (slot out : List ℕ) (h : BlockLent block out (numbers slot)) (buffer : List ℤ) (l : Long 12236 buffer) where
   pub slot-room : 2 * length slot ≤ length buffer
-  slot-room = omega (arith, l .long, h .cells, h .allowed .settings .ranges .muxMost)
+  slot-room = omega (arith, l .long, h .cells, length-numbers slot, h .fits .most)
 
   pub slot-numbers : length (take (2 * length slot - 0) buffer) ≡ 2 * length slot
   slot-numbers = length-start (2 * length slot) buffer slot-room
 
-  module _ (read : List ℤ) (k : length read ≡ length (take (2 * length slot - 0) buffer)) where
-    pub slot-block : BlockLent (mscBlock s) out (take (2 * length slot - 0) (read ++ drop (2 * length slot - 0) buffer))
-    slot-block = rw (part-again buffer read (2 * length slot) slot-room k) (msc-lent (h .allowed) (h .room) (k ∙ slot-numbers ∙ rw (h .cells)))
-
-    pub slot-given : (b : Bool) (out′ : List ℕ) → read ≡ numbers slot
-        → GivenRead (mscBlock s) (take (2 * length slot - 0) (read ++ drop (2 * length slot - 0) buffer)) out b out′ → GivenRead (mscBlock s) (numbers slot) out b out′
-    slot-given b out′ e g = rw (part-again buffer read (2 * length slot) slot-room k, e) at g
+  module _ (read : List ℤ) (e : read ≡ numbers slot) (k : length read ≡ length (take (2 * length slot - 0) buffer)) where
+    pub read-is : take (2 * length slot - 0) (read ++ drop (2 * length slot - 0) buffer) ≡ numbers slot
+    read-is = part-again buffer read (2 * length slot) slot-room k ∙ e
 
 -- One row more: the progress after it, and the frames with the one that it finishes.
 module _ (s : Settings) where
@@ -332,10 +327,10 @@ module _ (state : State) (msc : List ℤ) (memory₀ out₀ : List ℕ) (n : ℕ
     unfolding stateOf
     settings-are = ap (λ (x : State). x .scheme .settings) (w .state-is)
 
-    -- Every frame has the same places.
-    pub row-order : {order : List ℕ} → BlockOrder (mscBlock (state .scheme)) order → BlockOrder (mscBlock (after .scheme)) order
+    -- Every frame has the same block, and every row the same places.
+    pub row-block : {block : Block} → block ≡ mscBlock (state .scheme) → block ≡ mscBlock (after .scheme)
     unfolding stateOf
-    row-order O = let e : after .scheme ≡ state .scheme = ap (λ (x : State). x .scheme) (w .state-is) in rw e O
+    row-block b = b ∙ sym (ap (λ (x : State). mscBlock (x .scheme)) (w .state-is))
 
     pub row-rows : {order : List ℕ} → RowOrder (state .scheme .settings) order → RowOrder (after .scheme .settings) order
     row-rows O = rw settings-are O

@@ -5,12 +5,9 @@ use mathlib.Core.Bool.{Bool, cond}
 use mathlib.Core.List.{List, _++_}
 use lib.ListN.{length, replicate}
 use lib.IntN.{ℤ}
-use Rattle.settings.specs.Lengths.{nMux}
 use Rattle.settings.specs.Sizes.{frameBytes}
 use Rattle.block.specs.declared.Block.{Block}
 use Rattle.block.specs.Reading.{given, bytesRead}
-use Rattle.channels.specs.declared.Scheme.{Scheme}
-use Rattle.channels.specs.Scheme.{SchemeAccepted}
 use Rattle.channels.specs.Msc.{mscBlock}
 use Rattle.superframe.specs.declared.State.{State}
 use Rattle.superframe.specs.Memory.{slotSize}
@@ -30,12 +27,6 @@ pub record GivenRead (k : Block) (cells : List ℤ) (bytes : List ℕ) (answer :
 pub record PlacesRead (k : Block) (n : ℕ) (blocks : List (List ℤ)) (tests : List Bool) (out : List ℕ) : Type 0 where
   pub given-are : tests ≡ placedTests k blocks
   pub bytes-are : out ≡ placedBytes k n blocks
-
--- The bytes of a slot, and room for the bytes of its frame.
-pub record SlotLent (s : Scheme) (slot out : List ℕ) : Type 0 where
-  pub allowed : SchemeAccepted s
-  pub cells : length slot ≡ nMux (s .settings)
-  pub room : length out ≡ frameBytes (s .settings)
 
 -- A row has been taken, and there is room for the frame that it finishes.
 pub record FinishLent (frames : Frames) (memory out : List ℕ) : Type 0 where

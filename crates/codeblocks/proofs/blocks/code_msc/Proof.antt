@@ -3,15 +3,15 @@ use Prim.Native.Nat.{_-_}
 use native.Mathlib.Omega.{arith}
 use borrow.Author.Needs.{needs}
 use Rattle.channels.proofs.Msc.{msc-fits}
-use Rattle.codeblocks.proofs.CodeTurns.{Coding, coding-start, coding-within, coding-few, coding-fits, coding-order, coding-rows, coding-turn, coding-end, rows-within, rest-long}
+use Rattle.codeblocks.proofs.CodeTurns.{Coding, coding-start, coding-within, coding-few, coding-fits, coding-block, coding-rows, coding-turn, coding-end, rows-within, rest-long}
 use Rattle.codeblocks.proofs.blocks.code_msc.Statement.{statement}
 use Rattle.codeblocks.proofs.blocks.code_msc.Tie as tie
 
 abbrev Inv-loop : tie.InvT-loop
-Inv-loop msc memory₀ cells₀ n bytes places rowplaces after₀ i₀ memory cells after i = Coding after₀ msc memory₀ cells₀ n bytes memory cells after i
+Inv-loop msc memory₀ cells₀ n bytes k places rowplaces after₀ i₀ memory cells after i = Coding after₀ msc memory₀ cells₀ n bytes memory cells after i
 
 abbrev μ-loop : tie.MeasureT-loop
-μ-loop msc memory₀ cells₀ n bytes places rowplaces after₀ i₀ memory cells after i = 3 - i
+μ-loop msc memory₀ cells₀ n bytes k places rowplaces after₀ i₀ memory cells after i = 3 - i
 
 slot-size-requires : tie.Need-slot-size-requires Inv-loop μ-loop
 slot-size-requires c κs = c .before .before .before .pre .fits .allowed .settings
@@ -20,12 +20,12 @@ frame-bytes-requires : tie.Need-frame-bytes-requires Inv-loop μ-loop
 frame-bytes-requires c κs = c .before .before .before .before .pre .fits .allowed .settings
 
 msc-block-requires : tie.Need-msc-block-requires Inv-loop μ-loop
-msc-block-requires c κs = c .before .before .before .before .before .before .pre .fits .allowed
+msc-block-requires c κs = c .before .before .before .before .before .pre .fits .allowed
 
 block-places-requires : tie.Need-block-places-requires Inv-loop μ-loop
 block-places-requires c κs =
     let F = msc-fits (c .before .before .before .before .before .before .before .before .pre .fits .allowed) in
-    rw (c .before .msc-block .ensures) (record { fits = F; room = omega (arith, c .before .before .place-buffer .ensures .long, F .most) })
+    rw (c .before .before .msc-block .ensures) (record { fits = F; room = omega (arith, c .before .place-buffer .ensures .long, F .most) })
 
 row-places-requires : tie.Need-row-places-requires Inv-loop μ-loop
 row-places-requires c κs =
@@ -78,14 +78,14 @@ code-frame-requires : tie.Need-code-frame-requires Inv-loop μ-loop
 code-frame-requires c κs =
     let w = c .before .before .before .before .before .before .loop .inv in (
       coding-fits _ _ _ _ _ _ _ _ _ _ w (c .before .before .before .before .before .loop-test .taken),
-      (coding-order _ _ _ _ _ _ _ _ _ _ w (rw (c .before .before .before .before .before .before .before .before .before .before .before .before .before .before .msc-block .ensures) at (c .before .before .before .before .before .before .before .before .before .before .before .before .block-places .ensures .0)), coding-rows _ _ _ _ _ _ _ _ _ _ w (c .before .before .before .before .before .before .before .before .row-places .ensures .0)),
+      (coding-block _ _ _ _ _ _ _ _ _ _ w (c .before .before .before .before .before .before .before .before .before .before .before .before .before .before .before .msc-block .ensures), c .before .before .before .before .before .before .before .before .before .before .before .before .block-places .ensures .0, coding-rows _ _ _ _ _ _ _ _ _ _ w (c .before .before .before .before .before .before .before .before .row-places .ensures .0)),
     )
 
 next-state-requires : tie.Need-next-state-requires Inv-loop μ-loop
 next-state-requires c κs = let w = c .before .before .before .before .before .before .before .before .before .before .loop .inv .fits in (w .position, w .count)
 
 loop-again : tie.Need-loop-again Inv-loop μ-loop
-loop-again c = coding-turn _ _ _ _ _ _ _ _ _ _ (c .before .before .before .before .before .before .before .before .before .before .before .loop .inv) _ _ _ (c .before .before .before .before .before .before .before .before .before .before .loop-test .taken) (c .before .before .before .before .code-frame .ensures) (c .before .before .before .before .code-frame .kept .1 .1 .1 .1 .0) (c .next-state .ensures)
+loop-again c = coding-turn _ _ _ _ _ _ _ _ _ _ (c .before .before .before .before .before .before .before .before .before .before .before .loop .inv) _ _ _ (c .before .before .before .before .before .before .before .before .before .before .loop-test .taken) (c .before .before .before .before .code-frame .ensures) (c .before .before .before .before .code-frame .kept .1 .1 .1 .1 .1 .0) (c .next-state .ensures)
 
 mul-write-fillers : tie.Need-mul-write-fillers Inv-loop μ-loop
 mul-write-fillers c = let h = rows-within _ _ _ _ _ _ _ _ _ _ (c .before .loop .inv) in search needs
@@ -109,4 +109,4 @@ returns : tie.Need-returns Inv-loop μ-loop
 returns c = coding-end _ _ _ _ _ _ _ _ _ _ (c .before .before .before .before .loop .inv) _ (c .before .before .before .loop-test .left) (c .before .write-fillers .ensures)
 
 pub code-msc-spec : {M : Type 1} → statement M
-code-msc-spec = tie.close (tie.spec Inv-loop μ-loop slot-size-requires frame-bytes-requires (λ c κs. search needs) msc-block-requires (λ c. search needs) block-places-requires (λ c κs. search needs) (λ c. search needs) row-places-requires loop-holds (λ c. search needs) (λ c. search needs) mul-code-frame mul-code-frame-2 add-code-frame sub-code-frame part-code-frame-start part-code-frame-end mul-code-frame-3 mul-code-frame-4 add-code-frame-2 mul-code-frame-5 sub-code-frame-2 part-code-frame-start-2 part-code-frame-end-2 code-frame-requires next-state-requires (λ c. search needs) (λ c. search needs) loop-again mul-write-fillers mul-write-fillers-2 sub-write-fillers part-write-fillers-start part-write-fillers-end write-fillers-requires (λ c. search needs) (λ c. search needs) returns)
+code-msc-spec = tie.close (tie.spec Inv-loop μ-loop slot-size-requires frame-bytes-requires msc-block-requires (λ c κs. search needs) (λ c. search needs) block-places-requires (λ c κs. search needs) (λ c. search needs) row-places-requires loop-holds (λ c. search needs) (λ c. search needs) mul-code-frame mul-code-frame-2 add-code-frame sub-code-frame part-code-frame-start part-code-frame-end mul-code-frame-3 mul-code-frame-4 add-code-frame-2 mul-code-frame-5 sub-code-frame-2 part-code-frame-start-2 part-code-frame-end-2 code-frame-requires next-state-requires (λ c. search needs) (λ c. search needs) loop-again mul-write-fillers mul-write-fillers-2 sub-write-fillers part-write-fillers-start part-write-fillers-end write-fillers-requires (λ c. search needs) (λ c. search needs) returns)

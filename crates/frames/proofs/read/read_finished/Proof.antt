@@ -19,14 +19,14 @@ room c = finish-room _ _ _ _ _ (c .before .before .before .before .before .befor
 
 read-slot-requires : tie.Need-read-slot-requires
 read-slot-requires c κs =
-    (slot-lent _ _ _ _ _ (c .before .before .before .before .before .before .before .before .before .before .before .before .before .before .before .before .pre .0) _ (c .before .before .before .before .before .before .before .before .before .before .next-state .ensures) _ _ (c .before .before .before .before .slot-size .ensures) (c .before .before .before .frame-bytes .ensures), c .before .before .before .before .before .before .before .before .before .before .before .before .before .before .before .before .pre .1)
+    (slot-lent _ _ _ _ _ (c .before .before .before .before .before .before .before .before .before .before .before .before .before .before .before .before .pre .0) _ (c .before .before .before .before .before .before .before .before .before .before .next-state .ensures) _ _ (c .before .before .before .before .slot-size .ensures) (c .before .before .before .frame-bytes .ensures) (c .before .before .before .before .before .before .before .before .before .before .before .before .before .before .before .before .pre .1 .0), c .before .before .before .before .before .before .before .before .before .before .before .before .before .before .before .before .pre .1 .1)
 
 returns : tie.Need-returns
 returns c = finish-none _ _ _ _ _ (c .before .before .before .before .before .before .before .before .before .before .before .pre .0) _ (c .before .before .before .before .before .next-state .ensures) _ (c .before .depth .ensures) (c .if1 .taken)
 
 returns-2 : tie.Need-returns-2
 returns-2 c =
-    finish-one _ _ _ _ _ (c .before .before .before .before .before .before .before .before .before .before .before .before .before .before .before .before .before .before .before .before .pre .0) _ (c .before .before .before .before .before .before .before .before .before .before .before .before .before .before .next-state .ensures) _ _ (c .before .before .before .before .before .before .before .before .slot-size .ensures) (c .before .before .before .before .before .before .before .frame-bytes .ensures) _ (c .before .before .before .before .before .before .before .before .before .before .depth .ensures) (c .before .before .before .before .before .before .before .before .before .if1 .left) _ _
+    finish-one _ _ _ _ _ (c .before .before .before .before .before .before .before .before .before .before .before .before .before .before .before .before .before .before .before .before .pre .0) _ (c .before .before .before .before .before .before .before .before .before .before .before .before .before .before .next-state .ensures) _ _ (c .before .before .before .before .before .before .before .before .slot-size .ensures) (c .before .before .before .before .before .before .before .frame-bytes .ensures) _ (c .before .before .before .before .before .before .before .before .before .before .depth .ensures) (c .before .before .before .before .before .before .before .before .before .if1 .left) _ _ (c .before .before .before .before .before .before .before .before .before .before .before .before .before .before .before .before .before .before .before .before .pre .1 .0)
     (c .before .before .before .read-slot .ensures)
 
 pub read-finished-spec : {M : Type 1} → statement M
