@@ -1,8 +1,8 @@
 // Settings with a puncturing table: the refusals of both, and the standard's table. 02 S-11.
 use crate::Scheme;
 use lists::bytes::copy;
+use loadedtable::test::passes;
 use patterns::table::TABLE_SIZE;
-use patterns::table::passes;
 use settings::Settings;
 use settings::refusals::refusal;
 ghost use mathlib.Core.Path.{_≡_};

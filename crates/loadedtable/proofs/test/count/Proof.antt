@@ -2,10 +2,10 @@
 use Prim.Native.Nat.{_-_}
 use native.Mathlib.Omega.{arith}
 use borrow.Author.Needs.{needs}
 use Rattle.patterns.specs.Patterns.{begins}
-use Rattle.patterns.proofs.Loaded.{Counts, counts-start, counts-turn, counts-end}
-use Rattle.patterns.proofs.table.count.Statement.{statement}
-use Rattle.patterns.proofs.table.count.Tie as tie
+use Rattle.loadedtable.proofs.Tables.{Counts, counts-start, counts-turn, counts-end}
+use Rattle.loadedtable.proofs.test.count.Statement.{statement}
+use Rattle.loadedtable.proofs.test.count.Tie as tie
 
 abbrev Inv-loop : tie.InvT-loop
 Inv-loop kept rate at end sum₀ k₀ sum k = Counts kept rate end k sum

@@ -3,9 +3,9 @@ use Prim.Native.Nat.{_-_}
 use borrow.Author.Needs.{needs}
 use borrow.Author.Tests.{not-true, not-false}
 use Rattle.lists.proofs.Tests.{Tested, tested-start, tested-turn, tested-stop, tested-end}
 use Rattle.patterns.specs.Loaded.{ratePasses}
-use Rattle.patterns.proofs.table.rates_pass.Statement.{statement}
-use Rattle.patterns.proofs.table.rates_pass.Tie as tie
+use Rattle.loadedtable.proofs.test.rates_pass.Statement.{statement}
+use Rattle.loadedtable.proofs.test.rates_pass.Tie as tie
 
 abbrev Inv-loop : tie.InvT-loop
 Inv-loop kept rate₀ rate = Tested (ratePasses kept) 13 rate

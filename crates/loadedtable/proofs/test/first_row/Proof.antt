@@ -7,10 +7,10 @@ use borrow.Author.Needs.{needs}
 use borrow.Author.Tests.{eq-eqb, ne-eqb}
 use lib.Dec.{eqb}
 use Rattle.lists.proofs.Tests.{Tested, tested-start, tested-turn, tested-stop, tested-end}
 use Rattle.patterns.specs.Patterns.{RX, begins, entry}
-use Rattle.patterns.proofs.Loaded.{first-entry}
-use Rattle.patterns.proofs.table.first_row.Statement.{statement}
-use Rattle.patterns.proofs.table.first_row.Tie as tie
+use Rattle.loadedtable.proofs.Tables.{first-entry}
+use Rattle.loadedtable.proofs.test.first_row.Statement.{statement}
+use Rattle.loadedtable.proofs.test.first_row.Tie as tie
 
 abbrev test : List ℕ → ℕ → ℕ → Bool
 test kept rate i = eqb (entry kept rate 0 i) 1

@@ -8,8 +8,8 @@ use mathlib.Core.List.{List}
 use lib.ListN.{length, getD}
 use lib.Dec.{ltb}
 use Rattle.lists.proofs.Tests.{Tested, tested-start, tested-turn, tested-stop, tested-end}
-use Rattle.patterns.proofs.table.bits_only.Statement.{statement}
-use Rattle.patterns.proofs.table.bits_only.Tie as tie
+use Rattle.loadedtable.proofs.test.bits_only.Statement.{statement}
+use Rattle.loadedtable.proofs.test.bits_only.Tie as tie
 
 abbrev test : List ℕ → ℕ → Bool
 test kept k = ltb (getD kept k 0) 2

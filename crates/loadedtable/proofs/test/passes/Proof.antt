@@ -1,9 +1,9 @@
 -- `passes` meets its contract. Assumes nothing.
 use borrow.Author.Needs.{needs}
 use borrow.Author.Tests.{not-true, not-false}
-use Rattle.patterns.proofs.Loaded.{passes-long, passes-bits, passes-rates}
-use Rattle.patterns.proofs.table.passes.Statement.{statement}
-use Rattle.patterns.proofs.table.passes.Tie as tie
+use Rattle.loadedtable.proofs.Tables.{passes-long, passes-bits, passes-rates}
+use Rattle.loadedtable.proofs.test.passes.Statement.{statement}
+use Rattle.loadedtable.proofs.test.passes.Tie as tie
 
 returns : tie.Need-returns
 returns c = passes-long _ (c .if1 .taken)

@@ -1,9 +1,9 @@
 -- `rate_passes` meets its contract. Assumes nothing.
 use borrow.Author.Needs.{needs}
 use borrow.Author.Tests.{not-true, not-false}
 use Rattle.patterns.specs.Loaded.{ratePasses}
-use Rattle.patterns.proofs.table.rate_passes.Statement.{statement}
-use Rattle.patterns.proofs.table.rate_passes.Tie as tie
+use Rattle.loadedtable.proofs.test.rate_passes.Statement.{statement}
+use Rattle.loadedtable.proofs.test.rate_passes.Tie as tie
 
 returns : tie.Need-returns
 unfolding ratePasses
