@@ -10,21 +10,23 @@ use lib.ListN.{length, getD, set, take, drop, length-set, length-append}
 use lib.IntN.{ℤ, pos}
 use lib.Seq.{getD-set-same, getD-take, set-set, take-at}
 use lib.Dec.{leb}
-use Rattle.cellbytes.specs.CellBytes.{signed, fourBits, cellByte, realOf, imaginaryOf}
-use Rattle.cellbytes.proofs.CellBytes.{four-low, four-signed, real-cell, real-at, imaginary-at}
+use Rattle.cellbytes.specs.CellBytes.{signed, fourBits, cellByte, realOf, imaginaryOf, numberAt, numbers}
+use Rattle.cellbytes.proofs.CellBytes.{four-low, four-signed, real-cell, real-at, imaginary-at, number-real, number-imaginary, by-cells}
 use Rattle.interleaver.specs.Interleaving.{place}
 use Rattle.interleaver.specs.Deinterleaving.{Cycles}
 use Rattle.interleaver.specs.Tables.{places, Tabulates}
 use Rattle.interleaver.proofs.Places.{place-low}
-use Rattle.lists.proofs.Tables.{Filled, filled-turn, filled-end, getD-table, length-table}
-use Rattle.lists.proofs.Parts.{from-start, length-start}
+use Rattle.lists.specs.Lists.{table}
+use Rattle.lists.proofs.Tables.{Filled, filled-turn, filled-end, getD-table, length-table, table-ext}
+use Rattle.lists.specs.Buffers.{Long}
+use Rattle.lists.proofs.Parts.{from-start, length-start, length-written, written-front}
 use Rattle.settings.specs.declared.Settings.{Settings}
 use Rattle.settings.specs.Lengths.{nMux}
 use Rattle.settings.specs.Sizes.{depth}
 use Rattle.superframe.specs.declared.State.{State}
 use Rattle.superframe.specs.Memory.{slotSize, numberIn, withNumber, replaced}
 use Rattle.superframe.specs.Interleaving.{slotBefore, delay, sentPlace, sentRow, takenFrom}
-use Rattle.cellmemory.specs.Contracts.{previous, later, cellPut, withCell, CellFits, RowLent, RowRoom, RowOrder, rowOver}
+use Rattle.cellmemory.specs.Contracts.{previous, later, sentBytes, withCell, CellFits, StateFits, BytesLent, RowLent, RowRoom, RowOrder, rowOver}
 use Rattle.cellmemory.proofs.Ring.{slot-zero, slot-below, later-mod, previous-later, slot-within, delay-even, delay-odd, place-even, place-odd}
 
 -- In turn i the slot of cell i begins at a place of memory.
@@ -62,38 +64,40 @@ delay-turn D d i r w e =
     let g : r ≡ (i + 1) % D = rw (e, w .delay-is) (later-mod D i z) in
     record { delay-is = g; delay-low = rw g (mod-lt (i + 1) z) }
 
--- What sending and taking a row require, over the depth and N_MUX.
-pub record RowFits (D n position : ℕ) (memory : List ℕ) (row : List ℤ) : Type 0 where
+-- What sending and taking a row require of memory, over the depth and N_MUX.
+pub record RowFits (D n position : ℕ) (memory : List ℕ) : Type 0 where
   pub low : 5 ≤ n
   pub high : n ≤ 16384
   pub within : position < D
   pub slots : length memory ≡ D * n
-  pub numbers : length row ≡ 2 * n
 
-pub row-fits : (state : State) (D n : ℕ) (memory : List ℕ) (row : List ℤ) → RowLent state memory row → D ≡ depth (state .scheme .settings) → n ≡ nMux (state .scheme .settings)
-    → RowFits D n (state .position) memory row
-unfolding slotSize
-row-fits state D n memory row h e f =
-    let b = h .fits .allowed .settings .ranges in
+pub row-fits : (state : State) (D n : ℕ) (memory : List ℕ) → StateFits state memory → D ≡ depth (state .scheme .settings) → n ≡ nMux (state .scheme .settings)
+    → RowFits D n (state .position) memory
+row-fits state D n memory h e f =
+    let b = h .allowed .settings .ranges in
     record {
       low = omega (arith, f, b .muxLeast);
       high = omega (arith, f, b .muxMost);
-      within = omega (arith, e, h .fits .position);
-      slots = h .fits .slots ∙ rw (e, f);
-      numbers = h .long ∙ rw f;
+      within = omega (arith, e, h .position);
+      slots = h .slots ∙ rw (e, f);
     }
 
+-- A row has two numbers for each cell.
+pub row-numbers : (state : State) (n : ℕ) (memory : List ℕ) (row : List ℤ) → RowLent state memory row → n ≡ nMux (state .scheme .settings) → length row ≡ 2 * n
+unfolding slotSize
+row-numbers state n memory row h f = h .long ∙ rw f
+
 -- The slot of the position and the last one begin within memory.
-pub slots-fit : {D n position : ℕ} {memory : List ℕ} {row : List ℤ} → RowFits D n position memory row → (1 ≤ D) × ((D - 1) * n ≤ length memory) × (position * n ≤ length memory)
+pub slots-fit : {D n position : ℕ} {memory : List ℕ} → RowFits D n position memory → (1 ≤ D) × ((D - 1) * n ≤ length memory) × (position * n ≤ length memory)
 slots-fit {D} {n} {position} {memory} h = (
   omega (arith, h .within),
   omega (arith, slot-within D n (D - 1) (length memory) (omega (arith, h .within)) (h .slots)),
   omega (arith, slot-within D n position (length memory) (h .within) (h .slots)),
 )
 
--- Number k of the sent cells.
-abbrev pub sent-number : ℕ → ℕ → List ℕ → ℕ → ℕ → ℤ
-sent-number D n memory position k = numberIn (2 * n) memory (slotBefore D position (delay D k)) (sentPlace n k)
+-- The byte of sent cell i.
+abbrev pub sent-byte : ℕ → ℕ → List ℕ → ℕ → ℕ → ℕ
+sent-byte D n memory position i = getD memory (slotBefore D position (i % D) * n + place 5 n i) 0
 
 -- Two changes under one test.
 cond-two : (b : Bool) (l : List ℕ) (f g : List ℕ → List ℕ) → cond b (g (cond b (f l) l)) (cond b (f l) l) ≡ cond b (g (f l)) l
@@ -127,25 +131,6 @@ replaced-cell n slot p memory re im h =
     rw (a, b, c, d, getD-set-same memory j x 0 h, r, four-signed (fourBits re) (four-low re)) (set-set memory j x (16 * fourBits re + fourBits im))
 
 module _ (D n position slot p i : ℕ) (w : slot ≡ slotBefore D position (i % D)) (e : p ≡ place 5 n i) where
-  -- A cell sent: two numbers more of the row are there.
-  send-slot : (memory : List ℕ) (d out : List ℤ) → i < n → length d ≡ 2 * n → Filled (pos 0) (sent-number D n memory position) d out (2 * i)
-      → Filled (pos 0) (sent-number D n memory position) d (cellPut (getD memory (slot * n + p) 0) out (2 * i)) (2 * (i + 1))
-  unfolding cellPut
-  send-slot memory d out h l f =
-      let g : 2 * i + 1 + 1 ≡ 2 * (i + 1) = omega arith in
-      let b = getD memory (slot * n + p) 0 in
-      rw (← g)
-      (filled-turn (pos 0) (sent-number D n memory position) d (set out (2 * i) (realOf b)) (2 * i + 1) (imaginaryOf b) (omega arith) odd
-      (filled-turn (pos 0) (sent-number D n memory position) d out (2 * i) (realOf b) (omega arith) even f))
-    where
-      even : realOf (getD memory (slot * n + p) 0) ≡ sent-number D n memory position (2 * i)
-      even = unfold numberIn in rw (delay-even, place-even, ← w, ← e, cell-place n slot p) (sym (real-at memory (slot * n + p)))
-
-      odd : imaginaryOf (getD memory (slot * n + p) 0) ≡ sent-number D n memory position (2 * i + 1)
-      odd =
-          unfold numberIn in
-          rw (delay-odd, place-odd, ← w, ← e, ← add-assoc (slot * (2 * n)) (2 * p) 1, cell-place n slot p) (sym (imaginary-at memory (slot * n + p)))
-
   -- A cell taken: what is left of the row leads to what the whole leads to.
   take-slot : (s : Settings) → D ≡ depth s → n ≡ nMux s → (d count m : ℕ) (row : List ℤ) (memory : List ℕ) → slot * n + p < length memory → d ≡ i % D
       → takenFrom s position count row (2 * i) (suc (suc m)) memory
@@ -162,9 +147,10 @@ module _ (D n position slot p i : ℕ) (w : slot ≡ slotBefore D position (i % 
 
 -- The same by where the slot begins.
 module _ (D n position at p i : ℕ) (w : InRing D n position at i) (e : p ≡ place 5 n i) where
-  pub send-turn : (memory : List ℕ) (d out : List ℤ) → i < n → length d ≡ 2 * n → Filled (pos 0) (sent-number D n memory position) d out (2 * i)
-      → Filled (pos 0) (sent-number D n memory position) d (cellPut (getD memory (at + p) 0) out (2 * i)) (2 * (i + 1))
-  send-turn memory d out h l f = rw (w .at-is) (send-slot D n position (slotBefore D position (i % D)) p i refl e memory d out h l f)
+  pub send-turn : (memory d out : List ℕ) → i < length d → Filled 0 (sent-byte D n memory position) d out i
+      → Filled 0 (sent-byte D n memory position) d (set out i (getD memory (at + p) 0)) (i + 1)
+  send-turn memory d out h f =
+      filled-turn 0 (sent-byte D n memory position) d out i (getD memory (at + p) 0) h (rw (w .at-is, e)) f
 
   pub take-turn : (s : Settings) → D ≡ depth s → n ≡ nMux s → (d count m : ℕ) (row : List ℤ) (memory : List ℕ) → at + p < length memory → d ≡ i % D
       → takenFrom s position count row (2 * i) (suc (suc m)) memory
@@ -211,8 +197,8 @@ module _ (s : Settings) (n : ℕ) (out : List ℕ) (h : RowRoom s out) (e : n �
   row-over made f = rw (← e, from-start (n + 1)) (ap (λ m. m ++ drop (n + 1) out) f)
 
 -- What a loop over the cells of a row holds in turn i: the slot of cell i begins at a place of memory.
-pub record Stepping (D n position last : ℕ) (order memory : List ℕ) (row : List ℤ) (at i : ℕ) : Type 0 where
-  pub fits : RowFits D n position memory row
+pub record Stepping (D n position last : ℕ) (order memory : List ℕ) (at i : ℕ) : Type 0 where
+  pub fits : RowFits D n position memory
   pub order-is : ByPlaces n order
   pub last-is : last ≡ (D - 1) * n
   pub upto : i ≤ n
@@ -224,11 +210,11 @@ pub record CellThere (n : ℕ) (order memory : List ℕ) (at i : ℕ) : Type 0 w
   pub place-is : getD order i 0 ≡ place 5 n i
   pub cell-in : at + getD order i 0 < length memory
 
-module _ {D n position last : ℕ} {order memory : List ℕ} {row : List ℤ} where
-  pub stepping-start : RowFits D n position memory row → ByPlaces n order → last ≡ (D - 1) * n → Stepping D n position last order memory row (position * n) 0
+module _ {D n position last : ℕ} {order memory : List ℕ} where
+  pub stepping-start : RowFits D n position memory → ByPlaces n order → last ≡ (D - 1) * n → Stepping D n position last order memory (position * n) 0
   stepping-start h o l = record { fits = h; order-is = o; last-is = l; upto = omega arith; ring = ring-start D n position (h .within) }
 
-  module _ {at i : ℕ} (w : Stepping D n position last order memory row at i) (h : i < n) where
+  module _ {at i : ℕ} (w : Stepping D n position last order memory at i) (h : i < n) where
     pub cell-there : CellThere n order memory at i
     cell-there =
         let e = w .order-is .place-is i h in
@@ -239,10 +225,10 @@ module _ {D n position last : ℕ} {order memory : List ℕ} {row : List ℤ} wh
           cell-in = omega (arith, e, place-low 5 n c i, ring-low D n position at i (length memory) (w .ring) (w .fits .slots));
         }
 
-    pub cell-fits : {now : List ℕ} → length now ≡ length memory → CellFits row (2 * i) now (at + getD order i 0)
-    cell-fits e = record { whence = omega (arith, h, w .fits .numbers); room = omega (arith, e, cell-there .cell-in) }
+    pub cell-fits : {row : List ℤ} {now : List ℕ} → length row ≡ 2 * n → length now ≡ length memory → CellFits row (2 * i) now (at + getD order i 0)
+    cell-fits f e = record { whence = omega (arith, h, f); room = omega (arith, e, cell-there .cell-in) }
 
-    pub stepping-turn : (r : ℕ) → r ≡ previous n last at → Stepping D n position last order memory row r (i + 1)
+    pub stepping-turn : (r : ℕ) → r ≡ previous n last at → Stepping D n position last order memory r (i + 1)
     stepping-turn r e =
         record {
           fits = w .fits;
@@ -252,13 +238,76 @@ module _ {D n position last : ℕ} {order memory : List ℕ} {row : List ℤ} wh
           ring = ring-turn D n position last at i r (omega arith) (w .last-is) (w .ring) e;
         }
 
--- A row that is sent up to its end is the whole row.
-pub send-end : (s : Settings) (D n position i : ℕ) (memory : List ℕ) (d out : List ℤ) → D ≡ depth s → n ≡ nMux s → length d ≡ 2 * n → i ≤ n → n ≤ i
-    → Filled (pos 0) (sent-number D n memory position) d out (2 * i) → out ≡ sentRow s memory position
-unfolding sentRow slotSize
-send-end s D n position i memory d out u v e h l f =
-    let g : 2 * i ≡ 2 * n = omega arith in
-    rw (← u, ← v) (filled-end (pos 0) (sent-number D n memory position) d out (2 * n) e (rw g at f))
+-- Bytes that are gathered up to their end are the whole row's.
+pub gather-end : (D n position i : ℕ) (memory d out : List ℕ) → length d ≡ n → i ≤ n → n ≤ i → Filled 0 (sent-byte D n memory position) d out i
+    → out ≡ sentBytes D n memory position
+unfolding sentBytes
+gather-end D n position i memory d out e h l f =
+    let g : i ≡ n = omega arith in filled-end 0 (sent-byte D n memory position) d out n e (rw g at f)
+
+-- The numbers of the sent bytes are the sent row.
+pub bytes-sent : (s : Settings) (memory : List ℕ) (position : ℕ) → numbers (sentBytes (depth s) (nMux s) memory position) ≡ sentRow s memory position
+unfolding numbers sentBytes sentRow slotSize numberIn
+bytes-sent s memory position =
+    let D = depth s in
+    let n = nMux s in
+    let b = table (sent-byte D n memory position) 0 n in
+    let long : length b ≡ n = length-table (sent-byte D n memory position) 0 n in
+    rw long
+    (table-ext (numberAt b) (λ k. getD (numbers memory) (slotBefore D position (delay D k) * (2 * n) + sentPlace n k) (pos 0)) 0 (2 * n)
+    (λ k _ h. number k h))
+  where
+    D : ℕ
+    D = depth s
+
+    n : ℕ
+    n = nMux s
+
+    b : List ℕ
+    b = table (sent-byte D n memory position) 0 n
+
+    number : (k : ℕ) → k < 0 + 2 * n → numberAt b k ≡ getD (numbers memory) (slotBefore D position (delay D k) * (2 * n) + sentPlace n k) (pos 0)
+    number = by-cells (λ k. k < 0 + 2 * n → numberAt b k ≡ getD (numbers memory) (slotBefore D position (delay D k) * (2 * n) + sentPlace n k) (pos 0)) even odd
+      where
+        even : (i : ℕ) → 2 * i < 0 + 2 * n → numberAt b (2 * i) ≡ getD (numbers memory) (slotBefore D position (delay D (2 * i)) * (2 * n) + sentPlace n (2 * i)) (pos 0)
+        even i h =
+            rw (delay-even, place-even, cell-place n (slotBefore D position (i % D)) (place 5 n i))
+            (number-real b i ∙ ap realOf (getD-table 0 (sent-byte D n memory position) n i (omega arith))
+            ∙ sym (real-at memory (slotBefore D position (i % D) * n + place 5 n i)))
+
+        odd : (i : ℕ) → 2 * i + 1 < 0 + 2 * n → numberAt b (2 * i + 1) ≡ getD (numbers memory) (slotBefore D position (delay D (2 * i + 1)) * (2 * n) + sentPlace n (2 * i + 1)) (pos 0)
+        odd i h =
+            rw (delay-odd, place-odd, ← add-assoc (slotBefore D position (i % D) * (2 * n)) (2 * place 5 n i) 1, cell-place n (slotBefore D position (i % D)) (place 5 n i))
+            (number-imaginary b i ∙ ap imaginaryOf (getD-table 0 (sent-byte D n memory position) n i (omega arith))
+            ∙ sym (imaginary-at memory (slotBefore D position (i % D) * n + place 5 n i)))
+
+-- A row sent through a buffer of its bytes.
+module _ {state : State} {memory : List ℕ} {row : List ℤ} {cells : List ℕ} (h : RowLent state memory row) (l : Long 6118 cells) where
+  pub half-row : length row / 2 ≡ nMux (state .scheme .settings)
+  half-row = let e = row-numbers state (nMux (state .scheme .settings)) memory row h refl in omega (arith, e)
+
+  pub bytes-room : length row / 2 ≤ length cells
+  bytes-room = omega (arith, half-row, l .long, h .fits .allowed .settings .ranges .muxMost)
+
+  pub bytes-lent : BytesLent state memory (take (length row / 2 - 0) cells)
+  bytes-lent = record { fits = h .fits; long = length-start (length row / 2) cells bytes-room ∙ half-row }
+
+  module _ {made : List ℕ} (e : made ≡ sentBytes (depth (state .scheme .settings)) (nMux (state .scheme .settings)) memory (state .position)) where
+    made-long : length made ≡ length row / 2
+    unfolding sentBytes
+    made-long = rw e (length-table _ 0 (nMux (state .scheme .settings))) ∙ sym half-row
+
+    pub made-room : length row / 2 ≤ length (made ++ drop (length row / 2 - 0) cells)
+    made-room = rw (length-written cells made (length row / 2) bytes-room made-long) bytes-room
+
+    pub made-again : take (length row / 2 - 0) (made ++ drop (length row / 2 - 0) cells) ≡ made
+    made-again = written-front made cells (length row / 2) made-long
+
+    pub two-numbers : length row ≡ 2 * length (take (length row / 2 - 0) (made ++ drop (length row / 2 - 0) cells))
+    two-numbers = let n = row-numbers state (nMux (state .scheme .settings)) memory row h refl in rw made-again (omega (arith, n, made-long))
+
+    pub row-sent : numbers (take (length row / 2 - 0) (made ++ drop (length row / 2 - 0) cells)) ≡ sentRow (state .scheme .settings) memory (state .position)
+    row-sent = rw (made-again, e) (bytes-sent (state .scheme .settings) memory (state .position))
 
 -- Of the settings, a row that is taken depends on the depth and N_MUX only.
 taken-same : (s t : Settings) → depth s ≡ depth t → nMux s ≡ nMux t → (position count : ℕ) (row : List ℤ) (k m : ℕ) (memory : List ℕ)

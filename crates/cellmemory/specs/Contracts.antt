@@ -1,5 +1,5 @@
 -- What the functions of this crate require and promise: nothing of 01 is stated here.
-use Prim.Native.Nat.{ℕ, _+_, _-_, _*_, _≤_, _<_}
+use Prim.Native.Nat.{ℕ, _+_, _-_, _*_, _%_, _≤_, _<_}
 use mathlib.Core.Path.{_≡_}
 use mathlib.Core.Bool.{cond}
 use mathlib.Core.List.{List, [], _∷_, _++_}
@@ -10,12 +10,14 @@ use Rattle.settings.specs.declared.Settings.{Settings}
 use Rattle.settings.specs.Accepted.{Accepted}
 use Rattle.settings.specs.Lengths.{nMux}
 use Rattle.settings.specs.Sizes.{depth}
-use Rattle.cellbytes.specs.CellBytes.{cellByte, realOf, imaginaryOf}
+use Rattle.lists.specs.Lists.{table}
+use Rattle.cellbytes.specs.CellBytes.{cellByte}
+use Rattle.interleaver.specs.Interleaving.{place}
 use Rattle.interleaver.specs.Tables.{places}
 use Rattle.channels.specs.Scheme.{SchemeAccepted}
 use Rattle.superframe.specs.declared.State.{State}
 use Rattle.superframe.specs.Memory.{slotSize}
-use Rattle.superframe.specs.Interleaving.{advanced}
+use Rattle.superframe.specs.Interleaving.{advanced, slotBefore}
 use Rattle.superframe.specs.Code.{progressOf, stateOf}
 
 -- State and memory in order: allowed settings and table, position and count below the depth, and memory of its length.
@@ -29,6 +31,11 @@ pub record StateFits (state : State) (memory : List ℕ) : Type 0 where
 pub record RowLent (state : State) (memory : List ℕ) (row : List ℤ) : Type 0 where
   pub fits : StateFits state memory
   pub long : length row ≡ slotSize (state .scheme .settings)
+
+-- The same with the bytes of a row's cells.
+pub record BytesLent (state : State) (memory row : List ℕ) : Type 0 where
+  pub fits : StateFits state memory
+  pub long : length row ≡ nMux (state .scheme .settings)
 
 -- Room for the places of a row's cells, and one number more.
 pub record RowRoom (s : Settings) (out : List ℕ) : Type 0 where
@@ -56,9 +63,9 @@ previous n last at = cond (ltb at n) last (at - n)
 unfoldable pub later : ℕ → ℕ → ℕ
 later D d = cond (eqb (d + 1) D) 0 (d + 1)
 
--- A row with the cell of a byte at a place.
-unfoldable pub cellPut : ℕ → List ℤ → ℕ → List ℤ
-cellPut b row at = set (set row at (realOf b)) (at + 1) (imaginaryOf b)
+-- The bytes of the sent cells: cell i is cell P(i) of the slot that so many slots before the position is written as the cell is delayed.
+unfoldable pub sentBytes : ℕ → ℕ → List ℕ → ℕ → List ℕ
+sentBytes D n memory position = table (λ i. getD memory (slotBefore D position (i % D) * n + place 5 n i) 0) 0 n
 
 -- Memory with the cell from number k of a row at a place, or as it was where the cell is ignored.
 unfoldable pub withCell : ℕ → ℕ → List ℤ → ℕ → List ℕ → ℕ → List ℕ

@@ -1,7 +1,7 @@
 // Rows of MSC cells: what memory sends, and a row put back into memory. 01 "Cell interleaving"; 001 clause 7.6.
+use crate::buffers::cell_row;
 use cellbytes::cells::cell_byte;
-use cellbytes::cells::imaginary;
-use cellbytes::cells::real;
+use cellbytes::cells::to_numbers;
 use interleaver::table::make_places;
 use settings::Settings;
 use settings::answers;
@@ -9,13 +9,13 @@ use settings::tables;
 use superframe::State;
 ghost use mathlib.Core.Path.{_≡_};
 ghost use Prim.Native.Nat.{_+_, _-_, _<_, min};
-ghost use lib.ListN.{length};
 ghost use Rattle.settings.specs.Accepted.{Accepted};
+ghost use Rattle.settings.specs.Lengths.{nMux};
 ghost use Rattle.settings.specs.Sizes.{depth};
 ghost use Rattle.superframe.specs.Memory.{slotSize};
 ghost use Rattle.superframe.specs.Interleaving.{sentRow, taken};
 ghost use Rattle.superframe.specs.Code.{progressOf};
-ghost use Rattle.cellmemory.specs.Contracts.{RowLent, RowRoom, RowOrder, rowOver, CellFits, nextState, previous, later, cellPut, withCell};
+ghost use Rattle.cellmemory.specs.Contracts.{RowLent, BytesLent, RowRoom, RowOrder, rowOver, CellFits, nextState, previous, later, sentBytes, withCell};
 
 // The multiplication of the cell interleaver: t = 5.
 const T: usize = 5;
@@ -86,19 +86,10 @@ pub fn row_places(s: Settings, out: &mut [u16])
     make_places(T, n, &mut out[0..n + 1]);
 }
 
-// A cell's two numbers put into a row.
-fn send_cell(b: u8, row: &mut [i16], at: usize)
-    requires { ⌜ at + 1 < length (now row) ⌝ }
-    ensures { λ r. ⌜ now (row .exit) ≡ cellPut b (now (row .entry)) at ⌝ }
-{
-    row[at] = real(b);
-    row[at + 1] = imaginary(b);
-}
-
-// The sent cells of a frame whose own cells stand in memory at the position: what memory holds, whatever the count.
-pub fn send_row(state: State, places: &[u16], memory: &[u8], out: &mut [i16])
-    requires { ⌜ RowLent state (now memory) (now out) × RowOrder (state .scheme .settings) (now places) ⌝ }
-    ensures { λ r. ⌜ now (out .exit) ≡ sentRow (state .scheme .settings) (now (memory .entry)) (state .position) ⌝ }
+// The bytes of a row's cells, each from the slot that its delay leads back to.
+fn gather_row(state: State, places: &[u16], memory: &[u8], out: &mut [u8])
+    requires { ⌜ BytesLent state (now memory) (now out) × RowOrder (state .scheme .settings) (now places) ⌝ }
+    ensures { λ r. ⌜ now (out .exit) ≡ sentBytes (depth (state .scheme .settings)) (nMux (state .scheme .settings)) (now (memory .entry)) (state .position) ⌝ }
 {
     let settings = state.scheme.settings;
     let depth = answers::depth(settings);
@@ -109,10 +100,21 @@ pub fn send_row(state: State, places: &[u16], memory: &[u8], out: &mut [i16])
     let mut i = 0;
     while i < n {
         let p = places[i] as usize;
-        send_cell(memory[at + p], out, 2 * i);
+        out[i] = memory[at + p];
         at = slot_before(n, last, at);
         i += 1;
     }
+}
+
+// The sent cells of a frame whose own cells stand in memory at the position: what memory holds, whatever the count. Many bytes become numbers at once.
+pub fn send_row(state: State, places: &[u16], memory: &[u8], out: &mut [i16])
+    requires { ⌜ RowLent state (now memory) (now out) × RowOrder (state .scheme .settings) (now places) ⌝ }
+    ensures { λ r. ⌜ now (out .exit) ≡ sentRow (state .scheme .settings) (now (memory .entry)) (state .position) ⌝ }
+{
+    let mut cells = cell_row();
+    let n = out.len() / 2;
+    gather_row(state, places, memory, &mut cells[0..n]);
+    to_numbers(&cells[0..n], out);
 }
 
 // A cell of a row put into memory, unless it is of a frame before the first.
