@@ -1,9 +1,9 @@
 // What goes out: the front of a buffer, and what is said on standard error.
+use endings::lines;
 use libc::STDERR_FILENO;
 use turns::End;
 use turns::Lost;
 use words::Counted;
-use words::endings;
 use words::report;
 use words::report::USAGE_BYTES;
 ghost use Prim.Native.Nat.{_≤_};
@@ -52,12 +52,12 @@ pub fn say_line(end: End, index: u64) -> bool {
 
 pub fn say_lost(lost: Lost) {
     let mut text = [0u8; 1024];
-    let n = endings::lost_said(lost, &mut text);
+    let n = lines::lost_said(lost, &mut text);
     write_front(STDERR_FILENO, &text, n);
 }
 
 pub fn say_file(end: End) {
     let mut text = [0u8; 1024];
-    let n = endings::file_said(end, &mut text);
+    let n = lines::file_said(end, &mut text);
     write_front(STDERR_FILENO, &text, n);
 }

@@ -1,8 +1,8 @@
 -- Texts put one behind the other.
 use Prim.Native.Nat.{ℕ, zero, suc, _+_, _-_, _^_, _≤_, _<_}
-use mathlib.Core.Path.{_≡_, sym, _∙_}
+use mathlib.Core.Path.{_≡_, _∙_}
 use mathlib.Core.Bool.{true, false}
-use mathlib.Core.List.{List, [], _++_, append-assoc}
+use mathlib.Core.List.{List, [], _++_}
 use mathlib.Core.Logic.{_⊎_, inl, inr}
 use native.Mathlib.Nat.{add-zero, add-assoc, sub-zero, pow-le-pow-right}
 use native.Mathlib.Numerals.{unary-clauses}
@@ -18,7 +18,6 @@ use Rattle.words.specs.declared.Counted.{Counted}
 use Rattle.words.specs.Contracts.{Put}
 use Rattle.console.specs.Text.{bytesIn}
 use Rattle.words.specs.Report.{why, failed, unitWord, endLine}
-use Rattle.words.specs.Endings.{fileLine}
 
 pub put-more : {a b : ℕ} {x y out o₁ o₂ : List ℕ} {at r₁ r₂ : ℕ} → Put a x out at r₁ o₁ → Put b y o₁ r₁ r₂ o₂ → Put (a + b) (x ++ y) out at r₂ o₂
 put-more {a} {b} {x} {y} {out} {o₁} {o₂} {at} {r₁} {r₂} p q =
@@ -68,16 +67,3 @@ pub failed-line : (unit : Counted) (end : End) (index : ℕ) → failed end ≡ 
     → unitWord unit ++ bytesIn " " ++ decimal index ++ bytesIn ": " ++ why end ++ bytesIn "\n" ≡ endLine unit end index
 unfolding endLine
 failed-line unit end index e = rw e
-
--- The line of a hold file.
-pub whole-file : (end : End) → failed end ≡ false → fileLine end ≡ []
-unfolding fileLine
-whole-file end e = rw e
-
-pub failed-file : (end : End) → failed end ≡ true → bytesIn "hold file: " ++ why end ++ bytesIn "\n" ≡ fileLine end
-unfolding fileLine
-failed-file end e = rw e
-
--- A count behind what was said before.
-pub count-more : {a k : ℕ} {x out o₁ o₂ : List ℕ} {at r₁ r₂ : ℕ} (kind number : List ℕ) → Put a x out at r₁ o₁ → Put k (kind ++ number) o₁ r₁ r₂ o₂ → Put (a + k) (x ++ kind ++ number) out at r₂ o₂
-count-more {a} {k} {x} {out} {o₁} {o₂} {at} {r₁} {r₂} kind number p q = put-as (x ++ kind ++ number) (sym (append-assoc x kind number)) (put-more p q)

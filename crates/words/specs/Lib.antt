@@ -1,4 +1,3 @@
 pub mod Contracts
 pub mod Report
-pub mod Endings
 pub mod Words

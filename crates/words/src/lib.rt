@@ -1,5 +1,4 @@
 // What the desk's program says: every byte of it.
-pub mod endings;
 pub mod report;
 pub mod texts;
 

@@ -4,9 +4,10 @@ use borrow.Author.Tests.{not-true, not-false}
 use native.Mathlib.Omega.{arith}
 use Rattle.lists.specs.Lists.{table}
 use Rattle.console.specs.Text.{bytesIn}
-use Rattle.words.proofs.Lines.{put-more, put-room, put-none, put-as, whole-file, failed-file}
-use Rattle.words.proofs.endings.file_said.Statement.{statement}
-use Rattle.words.proofs.endings.file_said.Tie as tie
+use Rattle.words.proofs.Lines.{put-more, put-room, put-none, put-as}
+use Rattle.endings.proofs.Said.{whole-file, failed-file}
+use Rattle.endings.proofs.lines.file_said.Statement.{statement}
+use Rattle.endings.proofs.lines.file_said.Tie as tie
 
 returns : tie.Need-returns
 returns c = put-none 1024 _ _ 0 (whole-file _ (sym (c .before .failed .ensures) ∙ not-true _ (c .if1 .taken)))

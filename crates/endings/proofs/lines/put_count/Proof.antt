@@ -1,7 +1,7 @@
 use borrow.Author.Needs.{needs}
 use Rattle.words.proofs.Lines.{put-more}
-use Rattle.words.proofs.endings.put_count.Statement.{statement}
-use Rattle.words.proofs.endings.put_count.Tie as tie
+use Rattle.endings.proofs.lines.put_count.Statement.{statement}
+use Rattle.endings.proofs.lines.put_count.Tie as tie
 
 returns : tie.Need-returns
 returns c = put-more (c .before .before .before .before .before .before .put .ensures) (c .before .before .put-decimal .ensures)

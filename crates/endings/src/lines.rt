@@ -1,16 +1,16 @@
 // What is said beside a run's report: what was lost, and what is wrong with a hold file.
-use crate::report::failed;
-use crate::report::put;
-use crate::report::put_decimal;
-use crate::report::put_why;
 use turns::End;
 use turns::Lost;
+use words::report::failed;
+use words::report::put;
+use words::report::put_decimal;
+use words::report::put_why;
 ghost use mathlib.Core.List.{_++_};
 ghost use Prim.Native.Nat.{_+_, _≤_};
 ghost use lib.ListN.{length};
 ghost use Rattle.line.specs.Written.{decimal};
 ghost use Rattle.words.specs.Contracts.{Put};
-ghost use Rattle.words.specs.Endings.{lostLine, fileLine};
+ghost use Rattle.endings.specs.Endings.{lostLine, fileLine};
 
 // A kind, and how many of it.
 fn put_count(kind: &[u8], n: u64, out: &mut [u8], at: usize) -> usize

@@ -2,10 +2,11 @@ use borrow.Author.Needs.{needs}
 use native.Mathlib.Omega.{arith}
 use Rattle.lists.specs.Lists.{table}
 use Rattle.console.specs.Text.{bytesIn}
-use Rattle.words.specs.Endings.{lostLine}
-use Rattle.words.proofs.Lines.{put-more, put-room, count-more}
-use Rattle.words.proofs.endings.lost_said.Statement.{statement}
-use Rattle.words.proofs.endings.lost_said.Tie as tie
+use Rattle.endings.specs.Endings.{lostLine}
+use Rattle.words.proofs.Lines.{put-more, put-room}
+use Rattle.endings.proofs.Said.{count-more}
+use Rattle.endings.proofs.lines.lost_said.Statement.{statement}
+use Rattle.endings.proofs.lines.lost_said.Tie as tie
 
 returns : tie.Need-returns
 unfolding lostLine bytesIn table
