@@ -5,7 +5,6 @@ use mathlib.Core.List.{List}
 use lib.ListN.{length}
 use Rattle.lists.specs.Lists.{table}
 use Rattle.block.specs.Dispersal.{p}
-use Rattle.lists.specs.Bytes.{bytesFor}
 
 -- The register of nine bits: nine ones, then the newest bit comes in lowest and the oldest goes out.
 unfoldable pub bitOf : ℕ → ℕ
@@ -22,9 +21,3 @@ registerAt (suc n) = shifted (registerAt n)
 pub record Adds (sequence : List ℕ) (at : ℕ) (bits : List ℕ) : Type 0 where
   pub known : sequence ≡ table p 0 511
   pub there : at + length bits ≤ 511
-
--- n bits, at most so many: as many bytes as they take, and as many of the output.
-pub record Disperses (most n : ℕ) (bytes out : List ℕ) : Type 0 where
-  pub small : n ≤ most
-  pub long : length bytes ≡ bytesFor n
-  pub same : length out ≡ bytesFor n

@@ -1,7 +1,7 @@
 // The dispersal step on packed bits: drm_disperse (02, S-6).
-use dispersal::calls::disperse_bytes;
+use dispersecall::disperse_bytes;
 ghost use mathlib.Core.Path.{_≡_};
-ghost use Rattle.dispersal.specs.Calls.{disperseYield, disperseOf};
+ghost use Rattle.dispersecall.specs.Calls.{disperseYield, disperseOf};
 
 // Packed bits, of which bit i is added modulo 2 to p(treated + i).
 #[no_mangle]

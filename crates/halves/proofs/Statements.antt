@@ -25,7 +25,7 @@ use Rattle.channels.specs.Scheme.{schemeRefusal}
 use Rattle.channels.specs.Msc.{mscBlock}
 use Rattle.channels.proofs.Schemes.{scheme-accepted}
 use Rattle.channels.proofs.Msc.{msc-bits}
-use Rattle.dispersal.specs.Calls.{dispersedBytes}
+use Rattle.dispersecall.specs.Calls.{dispersedBytes}
 use Rattle.halves.specs.Halves.{joinedBits, halvesLong, halvesSpare, halvesRefusal, halvesYield, halvesOf}
 use Rattle.halves.specs.Theorems.{joinedBytes}
 use Rattle.halves.proofs.Treated.{joined}

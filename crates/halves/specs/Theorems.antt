@@ -17,7 +17,7 @@ use Rattle.block.specs.Fits.{Bytes}
 use Rattle.channels.specs.declared.Scheme.{Scheme}
 use Rattle.channels.specs.Scheme.{schemeRefusal}
 use Rattle.channels.specs.Msc.{mscBlock}
-use Rattle.dispersal.specs.Calls.{dispersedBytes}
+use Rattle.dispersecall.specs.Calls.{dispersedBytes}
 use Rattle.halves.specs.Halves.{halvesYield, halvesOf}
 
 -- n packed bits and m packed bits, one after the other, packed again.

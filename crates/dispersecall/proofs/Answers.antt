@@ -13,9 +13,9 @@ use Rattle.block.specs.Packing.{unpacked, packed, spareZero}
 use Rattle.block.specs.Dispersal.{dispersed}
 use Rattle.block.proofs.Packing.{length-unpacked}
 use Rattle.block.proofs.Dispersal.{length-dispersed, bits-dispersed}
-use Rattle.dispersal.specs.Calls.{dispersedBytes, disperseRefusal, disperseYield, disperseOf}
+use Rattle.dispersecall.specs.Calls.{dispersedBytes, disperseRefusal, disperseYield, disperseOf}
 use Rattle.packing.specs.Contracts.{Unpacks, Packs}
-use Rattle.dispersal.specs.Contracts.{Disperses}
+use Rattle.dispersecall.specs.Contracts.{Disperses}
 
 module _ {n : ℕ} {bytes out : List ℕ} (D : Disperses 36708 n bytes out) (buffer : List ℕ) (l : length buffer ≡ 36708) where
   room : n ≤ length buffer

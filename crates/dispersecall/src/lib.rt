@@ -1,13 +1,13 @@
 // The dispersal step on packed bits as a call. 02, S-6.
-use crate::bits::disperse;
-use crate::sequence::PERIOD;
 use block::buffers::bit_buffer;
+use dispersal::bits::disperse;
+use dispersal::sequence::PERIOD;
 use packing::bits::pack;
 use packing::bits::spare_zero;
 use packing::bits::unpack;
 ghost use mathlib.Core.Path.{_≡_};
-ghost use Rattle.dispersal.specs.Calls.{dispersedBytes, disperseRefusal, disperseYield, disperseOf};
-ghost use Rattle.dispersal.specs.Contracts.{Disperses};
+ghost use Rattle.dispersecall.specs.Calls.{dispersedBytes, disperseRefusal, disperseYield, disperseOf};
+ghost use Rattle.dispersecall.specs.Contracts.{Disperses};
 
 // The bytes and the bits of a piece.
 const PIECE: usize = 4096;

@@ -2,9 +2,9 @@
 use borrow.Author.Needs.{needs}
 use borrow.Author.Tests.{eq-eqb, ne-eqb}
 use Rattle.lists.specs.Bytes.{bytesFor}
-use Rattle.dispersal.specs.Calls.{disperseRefusal}
-use Rattle.dispersal.proofs.calls.disperse_refusal.Statement.{statement}
-use Rattle.dispersal.proofs.calls.disperse_refusal.Tie as tie
+use Rattle.dispersecall.specs.Calls.{disperseRefusal}
+use Rattle.dispersecall.proofs.disperse_refusal.Statement.{statement}
+use Rattle.dispersecall.proofs.disperse_refusal.Tie as tie
 
 returns : tie.Need-returns
 unfolding disperseRefusal bytesFor

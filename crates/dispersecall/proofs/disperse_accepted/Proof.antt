@@ -1,8 +1,8 @@
 -- `disperse_accepted` meets its contract. Assumes nothing.
 use borrow.Author.Needs.{needs}
-use Rattle.dispersal.proofs.Pieces.{bytes-room, out-room, first-piece, written-room, second-piece, both-pieces}
-use Rattle.dispersal.proofs.calls.disperse_accepted.Statement.{statement}
-use Rattle.dispersal.proofs.calls.disperse_accepted.Tie as tie
+use Rattle.dispersecall.proofs.Pieces.{bytes-room, out-room, first-piece, written-room, second-piece, both-pieces}
+use Rattle.dispersecall.proofs.disperse_accepted.Statement.{statement}
+use Rattle.dispersecall.proofs.disperse_accepted.Tie as tie
 
 part-disperse-piece-end : tie.Need-part-disperse-piece-end
 part-disperse-piece-end c = bytes-room (c .before .before .before .pre) (c .if1 .left)

@@ -1,8 +1,8 @@
 -- `disperse_bytes` meets its contract. Assumes nothing.
 use borrow.Author.Needs.{needs}
-use Rattle.dispersal.proofs.Answers.{refused, disperses, accepted}
-use Rattle.dispersal.proofs.calls.disperse_bytes.Statement.{statement}
-use Rattle.dispersal.proofs.calls.disperse_bytes.Tie as tie
+use Rattle.dispersecall.proofs.Answers.{refused, disperses, accepted}
+use Rattle.dispersecall.proofs.disperse_bytes.Statement.{statement}
+use Rattle.dispersecall.proofs.disperse_bytes.Tie as tie
 
 returns : tie.Need-returns
 returns c = refused _ _ _ _ (c .before .disperse-refusal .ensures) (c .if1 .taken)

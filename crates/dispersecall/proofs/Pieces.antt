@@ -10,10 +10,10 @@ use Rattle.block.specs.Packing.{unpacked, packed}
 use Rattle.block.specs.Dispersal.{dispersed}
 use Rattle.block.proofs.Packing.{length-packed, length-unpacked}
 use Rattle.block.proofs.Dispersal.{length-dispersed, bits-dispersed, dispersed-append}
-use Rattle.dispersal.specs.Calls.{dispersedBytes}
-use Rattle.dispersal.specs.Contracts.{Disperses}
+use Rattle.dispersecall.specs.Calls.{dispersedBytes}
+use Rattle.dispersecall.specs.Contracts.{Disperses}
 use Rattle.packing.proofs.Pieces.{unpacked-pieces, packed-pieces}
 use Rattle.dispersal.proofs.Register.{period}
 
 -- both pieces, of which the second goes on where the first ends
 pieces : (t k m : ℕ) (bytes : List ℕ)

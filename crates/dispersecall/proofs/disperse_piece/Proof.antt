@@ -1,8 +1,8 @@
 -- `disperse_piece` meets its contract. Assumes nothing.
 use borrow.Author.Needs.{needs}
-use Rattle.dispersal.proofs.Answers.{unpacks, part-room, again-room, packs, packed-front}
-use Rattle.dispersal.proofs.calls.disperse_piece.Statement.{statement}
-use Rattle.dispersal.proofs.calls.disperse_piece.Tie as tie
+use Rattle.dispersecall.proofs.Answers.{unpacks, part-room, again-room, packs, packed-front}
+use Rattle.dispersecall.proofs.disperse_piece.Statement.{statement}
+use Rattle.dispersecall.proofs.disperse_piece.Tie as tie
 
 part-bits-end-2 : tie.Need-part-bits-end-2
 part-bits-end-2 c =
