@@ -9,7 +9,8 @@ use lib.ListN.{length, getD, take, drop, length-append, length-drop}
 use lib.Seq.{sets, take-suc, take-add, take-all, drop-drop, getD-drop, length-take-le}
 use lib.Count.{ones, ones-step}
 use Rattle.lists.specs.Lists.{table}
-use Rattle.lists.proofs.Tables.{getD-table, table-ext, table-from}
+use Rattle.lists.proofs.Tables.{getD-table, table-ext, table-from, length-table}
+use Rattle.lists.proofs.Parts.{length-start, length-written, written-front}
 use Rattle.component.specs.Bits.{Bits}
 use Rattle.component.specs.Register.{next, parities, after}
 use Rattle.component.specs.Codeword.{kept, encode}
@@ -105,12 +106,9 @@ rounds-coded {p} {l} S B f (suc c) m d at h g =
     ∙ ap (λ x. sets (sets d at (encode p (registerAt l m) 0 (take w L))) (at + x) (encode p (registerAt l (m + w)) 0 (take (c * w) (drop (m + w + 7) l)))) n
     )
 
--- a list from a place on, as the code lends it, and a whole one
+-- a list from a place on, as the code lends it
 pub rest-lent : (l : List ℕ) (i : ℕ) → take (length l - i) (drop i l) ≡ drop i l
 rest-lent l i = take-all (length l - i) (drop i l) (rw length-drop (omega arith))
-
-whole-lent : (l : List ℕ) → take (length l - 0) l ≡ l
-whole-lent l = take-all (length l - 0) l (omega arith)
 
 -- some rounds have a register for each column
 pub columns-there : {p rs : List ℕ} {c : ℕ} {d : List ℕ} {at s : ℕ} → LaysRounds p rs c d at s → (i : ℕ) → i < length p → i ≤ length rs
@@ -178,24 +176,42 @@ module _ {p rs : List ℕ} {c : ℕ} {d₀ : List ℕ} {at₀ s : ℕ} (L : Lays
   pub columns-done : {d : List ℕ} {at i : ℕ} → LayingColumns p rs c d₀ at₀ s d at i → length p ≤ i → d ≡ roundsLaid p rs (length p) c d₀ at₀ s
   columns-done {d} {at} {i} E h = let e : i ≡ length p = omega (arith, E .columns) in rw e at (E .written)
 
--- with the registers of their bits the columns of some rounds give what the bits give one by one
-rounds-laid : {p : List ℕ} {s : ℕ} {l : List ℕ} {first pairs : ℕ} {rs out : List ℕ} {at : ℕ} (rs′ : List ℕ) → EncodesRounds p s l first pairs rs out at
-    → rs′ ≡ table (λ k. registerAt l (first - 6 + k)) 0 (length rs)
-    → roundsLaid p rs′ (length p) (2 * pairs) out at s ≡ sets out at (encode p (registerAt l (first - 7)) 0 (take (2 * pairs * length p) (drop first l)))
-unfolding roundsLaid
-rounds-laid {p} {s} {l} {first} {pairs} {rs} {out} {at} rs′ E e =
-    let f : first - 7 + 7 ≡ first = omega (arith, E .begun) in
-    let g : (k : ℕ) → k < 2 * pairs * length p → getD rs′ k 0 ≡ registerAt l (suc (first - 7 + k)) =
-    λ k h.
-    let y : first - 6 + k ≡ suc (first - 7 + k) = omega (arith, E .begun) in
-    ap (λ x. getD x k 0) e ∙ getD-table 0 (λ k. registerAt l (first - 6 + k)) (length rs) k (omega (arith, E .size)) ∙ ap (registerAt l) y in
-    rw (E .round)
-    (rounds-coded (E .sound) (E .input) (λ k. getD rs′ k 0) (2 * pairs) (first - 7) out at (omega (arith, E .there, E .size)) g
-    ∙ ap (λ x. sets out at (encode p (registerAt l (first - 7)) 0 (take (2 * pairs * length p) (drop x l)))) f)
+-- there are no more rounds than bits
+pub rounds-few : {p : List ℕ} {s : ℕ} {l : List ℕ} {first pairs : ℕ} {out : List ℕ} {at : ℕ} → EncodesRounds p s l first pairs out at → 2 * pairs ≤ 2048
+rounds-few {pairs = pairs} E = let g = mul-le-mul-left (2 * pairs) (E .sound .some) in omega (arith, g, E .few)
 
--- the registers lent whole
-pub rounds-done : {p : List ℕ} {s : ℕ} {l : List ℕ} {first pairs : ℕ} {rs rs′ out : List ℕ} {at : ℕ} {d : List ℕ} → EncodesRounds p s l first pairs rs out at
-    → rs′ ≡ table (λ k. registerAt l (first - 6 + k)) 0 (length rs)
-    → d ≡ roundsLaid p (take (length rs′ - 0) rs′) (length p) (2 * pairs) out at s
-    → d ≡ sets out at (encode p (registerAt l (first - 7)) 0 (take (2 * pairs * length p) (drop first l)))
-rounds-done {p} {s} {pairs} {rs′} {out} {at} E e h = h ∙ ap (λ x. roundsLaid p x (length p) (2 * pairs) out at s) (whole-lent rs′) ∙ rounds-laid rs′ E e
+-- whole rounds with a buffer for the registers of their bits
+module _ {p : List ℕ} {s : ℕ} {l : List ℕ} {first pairs : ℕ} {out : List ℕ} {at : ℕ} (E : EncodesRounds p s l first pairs out at) (buffer : List ℕ) (b : length buffer ≡ 2048) where
+  pub buffer-there : 2 * pairs * length p ≤ length buffer
+  buffer-there = omega (arith, b, E .few)
+
+  pub registers-there : first - 6 + length (take (2 * pairs * length p - 0) buffer) + 6 ≤ length l
+  registers-there = rw (length-start (2 * pairs * length p) buffer buffer-there) (omega (arith, E .there, E .begun))
+
+  module _ {rs : List ℕ} (e : rs ≡ table (λ k. registerAt l (first - 6 + k)) 0 (length (take (2 * pairs * length p - 0) buffer))) where
+    long : length rs ≡ 2 * pairs * length p
+    long = ap length e ∙ length-table (λ k. registerAt l (first - 6 + k)) 0 _ ∙ length-start (2 * pairs * length p) buffer buffer-there
+
+    pub written-there : 2 * pairs * length p ≤ length (rs ++ drop (2 * pairs * length p - 0) buffer)
+    written-there = rw (length-written buffer rs (2 * pairs * length p) buffer-there long) buffer-there
+
+    lent : take (2 * pairs * length p - 0) (rs ++ drop (2 * pairs * length p - 0) buffer) ≡ rs
+    lent = written-front rs buffer (2 * pairs * length p) long
+
+    pub lays-rounds : LaysRounds p (take (2 * pairs * length p - 0) (rs ++ drop (2 * pairs * length p - 0) buffer)) (2 * pairs) out at s
+    lays-rounds = rw lent (record { sound = E .sound; round = E .round; some = E .some; reads = omega (arith, long); writes = E .room })
+
+    -- the columns give what the bits give one by one
+    pub rounds-done : {d : List ℕ} → d ≡ roundsLaid p (take (2 * pairs * length p - 0) (rs ++ drop (2 * pairs * length p - 0) buffer)) (length p) (2 * pairs) out at s
+        → d ≡ sets out at (encode p (registerAt l (first - 7)) 0 (take (2 * pairs * length p) (drop first l)))
+    unfolding roundsLaid
+    rounds-done h =
+        let f : first - 7 + 7 ≡ first = omega (arith, E .begun) in
+        let g : (k : ℕ) → k < 2 * pairs * length p → getD rs k 0 ≡ registerAt l (suc (first - 7 + k)) =
+        λ k i.
+        let y : first - 6 + k ≡ suc (first - 7 + k) = omega (arith, E .begun) in
+        let z : k < length (take (2 * pairs * length p - 0) buffer) = rw (length-start (2 * pairs * length p) buffer (omega (arith, b, E .few))) i in
+        ap (λ x. getD x k 0) e ∙ getD-table 0 (λ k. registerAt l (first - 6 + k)) (length (take (2 * pairs * length p - 0) buffer)) k z ∙ ap (registerAt l) y in
+        h ∙ rw (lent, E .round)
+        (rounds-coded (E .sound) (E .input) (λ k. getD rs k 0) (2 * pairs) (first - 7) out at (omega (arith, E .there, E .begun)) g
+        ∙ ap (λ x. sets out at (encode p (registerAt l (first - 7)) 0 (take (2 * pairs * length p) (drop x l)))) f)

@@ -155,6 +155,7 @@ two F d a a₁ a₂ s x x₁ x₂ m e₁ e₂ e₃ e₄ = rw (e₁, e₂, e₃, 
 
 -- before the turn for rounds 2 k and 2 k + 1 of a pass that writes one bit a round: d₀ is the buffer at the start
 pub record Laying (f : ℕ → ℕ) (rs : List ℕ) (w pairs : ℕ) (d₀ : List ℕ) (at s : ℕ) (d : List ℕ) (k : ℕ) : Type 0 where
+  pub room : Lays rs w (2 * pairs) d₀ at s 1
   pub turns : k ≤ pairs
   pub same : length d ≡ length d₀
   pub written :
@@ -166,19 +167,20 @@ next-round k s = ap (λ x. x * s) (add-one (2 * k)) ∙ suc-mul (2 * k) s
 
 module _ {f : ℕ → ℕ} {rs : List ℕ} {w pairs : ℕ} {d₀ : List ℕ} {at s : ℕ} where
   -- the start of the loop
-  pub laying-start : Laying f rs w pairs d₀ at s d₀ 0
+  pub laying-start : Lays rs w (2 * pairs) d₀ at s 1 → Laying f rs w pairs d₀ at s d₀ 0
   unfolding laid
-  laying-start =
+  laying-start L =
       let z : 2 * 0 * s ≡ 0 = zero-mul s in
       let a : at + 2 * 0 * s ≡ at = omega arith in
       let n : 2 * pairs - 2 * 0 ≡ 2 * pairs = omega arith in
-      record { turns = omega arith; same = refl; written = rw (a, n) }
+      record { room = L; turns = omega arith; same = refl; written = rw (a, n) }
 
   module _ {d : List ℕ} {k : ℕ} (E : Laying f rs w pairs d₀ at s d k) where
     -- in a turn the places that it reads and writes are there
-    pub laying-room : Lays rs w (2 * pairs) d₀ at s 1 → k < pairs
+    pub laying-room : k < pairs
         → (2 * k + 1 < length d) × (2 * k * w < length rs) × ((2 * k + 1) * w < length rs) × (at + 2 * k * s < length d) × (at + (2 * k + 1) * s < length d)
-    laying-room L h =
+    laying-room h =
+        let L = E .room in
         let a : 2 * k < 2 * pairs = omega arith in
         let b : 2 * k + 1 < 2 * pairs = omega arith in (
           omega (arith, L .few, E .same),
@@ -200,6 +202,7 @@ module _ {f : ℕ → ℕ} {rs : List ℕ} {w pairs : ℕ} {d₀ : List ℕ} {at
         let v : 2 * (k + 1) * s ≡ 2 * k * s + s + s = ap (λ x. x * s) t ∙ u in
         let q : at + 2 * (k + 1) * s ≡ at + 2 * k * s + s + s = omega arith in
         record {
+          room = E .room;
           turns = omega arith;
           same = rw (ed, length-set, length-set) (E .same);
           written =

@@ -9,8 +9,8 @@ use Rattle.component.specs.Bits.{Bits}
 use Rattle.component.specs.Register.{parities}
 use Rattle.component.specs.Codeword.{kept}
 use Rattle.component.specs.Decoding.{codedLength}
-use Rattle.patterns.specs.Patterns.{Sound}
 use Rattle.component.specs.Coding.{Encodes, registerAt}
+use Rattle.patterns.specs.Patterns.{Sound}
 
 -- Lists stored a stride apart, the first from at on.
 unfoldable pub spread : List ℕ → ℕ → ℕ → List (List ℕ) → List ℕ
@@ -47,34 +47,25 @@ pub record LaysRounds (pattern registers : List ℕ) (rounds : ℕ) (out : List 
   pub reads : rounds * length pattern ≤ length registers
   pub writes : at + rounds * stride ≤ length out
 
--- Whole rounds of some bits, two and two, from a place behind the first seven bits: room for their registers and their coded bits.
-pub record EncodesRounds (pattern : List ℕ) (stride : ℕ) (bits : List ℕ) (first pairs : ℕ) (registers out : List ℕ) (at : ℕ) : Type 0 where
+-- Whole rounds of some bits, two and two, from a place behind the first seven bits: no more than a block has, and room for their coded bits.
+pub record EncodesRounds (pattern : List ℕ) (stride : ℕ) (bits : List ℕ) (first pairs : ℕ) (out : List ℕ) (at : ℕ) : Type 0 where
   pub sound : Sound pattern
   pub input : Bits bits
   pub round : stride ≡ codedLength pattern 0 (length pattern)
   pub begun : 7 ≤ first
   pub some : 0 < 2 * pairs
-  pub size : length registers ≡ 2 * pairs * length pattern
-  pub there : first + length registers ≤ length bits
+  pub few : 2 * pairs * length pattern ≤ 2048
+  pub there : first + 2 * pairs * length pattern ≤ length bits
   pub room : at + 2 * pairs * stride ≤ length out
 
--- What is left of a segment from a place behind its first seven bits on: room for its coded bits.
-pub record EncodesRest (pattern bits : List ℕ) (first : ℕ) (out : List ℕ) (at : ℕ) : Type 0 where
+-- So many pairs of rounds are among the bits that are left, and no more than a block has.
+pub record Pairs (left width pairs : ℕ) : Type 0 where
+  pub there : 2 * pairs * width ≤ left
+  pub few : 2 * pairs * width ≤ 2048
+
+-- What is left of a segment from a place behind its first seven rounds on: room for its coded bits.
+pub record EncodesBlocks (pattern bits : List ℕ) (first : ℕ) (out : List ℕ) (at : ℕ) : Type 0 where
   pub left : Encodes pattern (registerAt bits (first - 7)) (drop first bits) out at
   pub input : Bits bits
-  pub begun : 7 ≤ first
+  pub begun : 7 * length pattern ≤ first
   pub there : first ≤ length bits
-
--- A segment has pairs of rounds behind its first seven: room for the registers of their bits.
-pub record HasPairs (pattern : List ℕ) (stride pairs : ℕ) (bits registers : List ℕ) : Type 0 where
-  pub round : stride ≡ codedLength pattern 0 (length pattern)
-  pub some : 0 < 2 * pairs
-  pub few : 2 * pairs ≤ length registers
-  pub size : length registers ≡ 2 * pairs * length pattern
-  pub there : 7 * length pattern + length registers ≤ length bits
-
--- A segment of at least nine rounds: room for the registers of its bits.
-pub record EncodesLong (pattern bits registers : List ℕ) : Type 0 where
-  pub more : 9 * length pattern ≤ length bits
-  pub there : length bits ≤ length registers
-  pub few : length registers ≤ 2048

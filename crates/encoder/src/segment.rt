@@ -18,44 +18,16 @@ ghost use Rattle.lists.specs.Lists.{table};
 ghost use Rattle.lists.specs.Buffers.{Long};
 ghost use Rattle.component.specs.Bits.{Bits};
 ghost use Rattle.component.specs.Coding.{Encodes, Encoded, registerAt};
-ghost use Rattle.encoder.specs.Rounds.{laid, roundsLaid, Lays, LaysRounds, EncodesRounds, EncodesRest, HasPairs, EncodesLong};
+ghost use Rattle.encoder.specs.Rounds.{laid, roundsLaid, Lays, LaysRounds, EncodesRounds, EncodesBlocks, Pairs};
 
-// The first rounds of a segment, which fill a register, and two more: a segment of fewer is coded bit by bit.
-const ROUNDS: usize = 9;
+// The first rounds of a segment, which fill a register: a segment of fewer is coded bit by bit.
+const ROUNDS: usize = 7;
 
 // The registers of so many bits are made at a time.
 const BLOCK: usize = 2048;
 
-// The parity of a register that is kept in a byte.
-fn parity_of(register: u8, mask: u32) -> u8
-    ensures { λ r. ⌜ r ≡ parity mask register ⌝ }
-{
-    parity(register as u32, mask)
-}
-
-// Writes one parity a round, from the first register of each: two rounds a turn.
+// Writes one parity a round, from the first register of each, where the lowest digit of the column says that it is kept: two rounds a turn.
 fn lay(
-    registers: &[u8],
-    width: usize,
-    pairs: usize,
-    mask: u32,
-    out: &mut [u8],
-    at: usize,
-    stride: usize,
-)
-    requires { ⌜ Lays (now registers) width (2 * pairs) (now out) at stride 1 ⌝ }
-    ensures { λ r. ⌜ now (out .exit) ≡ laid (λ x. parity mask x ∷ []) (now (registers .entry)) width (2 * pairs) (now (out .entry)) at stride ⌝ }
-{
-    let mut k = 0;
-    while k < pairs {
-        out[at + 2 * k * stride] = parity_of(registers[2 * k * width], mask);
-        out[at + (2 * k + 1) * stride] = parity_of(registers[(2 * k + 1) * width], mask);
-        k += 1;
-    }
-}
-
-// The same where the lowest digit of the column says that the parity is kept.
-fn lay_kept(
     column: u8,
     registers: &[u8],
     width: usize,
@@ -72,7 +44,12 @@ fn lay_kept(
     if column % 2 == 0 {
         return at;
     }
-    lay(registers, width, pairs, mask, out, at, stride);
+    let mut k = 0;
+    while k < pairs {
+        out[at + 2 * k * stride] = parity(registers[2 * k * width] as u32, mask);
+        out[at + (2 * k + 1) * stride] = parity(registers[(2 * k + 1) * width] as u32, mask);
+        k += 1;
+    }
     at + 1
 }
 
@@ -90,9 +67,9 @@ fn lay_column(
     ensures { λ r. ⌜ (r ≡ at + ones column) × (now (out .exit)
         ≡ laid (λ x. kept column (parities x)) (now (registers .entry)) width (2 * pairs) (now (out .entry)) at stride) ⌝ }
 {
-    let one = lay_kept(column, registers, width, pairs, 0o133, out, at, stride);
-    let two = lay_kept(column / 2, registers, width, pairs, 0o171, out, one, stride);
-    let three = lay_kept(
+    let one = lay(column, registers, width, pairs, 0o133, out, at, stride);
+    let two = lay(column / 2, registers, width, pairs, 0o171, out, one, stride);
+    let three = lay(
         column / 2 / 2,
         registers,
         width,
@@ -102,7 +79,7 @@ fn lay_column(
         two,
         stride,
     );
-    lay_kept(
+    lay(
         column / 2 / 2 / 2,
         registers,
         width,
@@ -156,131 +133,6 @@ fn lay_columns(
     }
 }
 
-// Whole rounds, two and two, of the bits from first on: all their registers, and then one column after the other.
-fn encode_rounds(
-    pattern: &[u8],
-    stride: usize,
-    bits: &[u8],
-    first: usize,
-    pairs: usize,
-    registers: &mut [u8],
-    out: &mut [u8],
-    at: usize,
-)
-    requires { ⌜ EncodesRounds (now pattern) stride (now bits) first pairs (now registers) (now out) at ⌝ }
-    ensures { λ r. ⌜ now (out .exit)
-        ≡ sets (now (out .entry)) at
-        (encode (now (pattern .entry)) (registerAt (now (bits .entry)) (first - 7)) 0
-        (take (2 * pairs * length (now (pattern .entry))) (drop first (now (bits .entry))))) ⌝ }
-{
-    registers_of(bits, first - 6, registers);
-    let n = registers.len();
-    lay_columns(pattern, &registers[0..n], pairs, out, at, stride);
-}
-
-// What is left of a segment from a place behind its first seven bits on, bit by bit.
-fn encode_rest(pattern: &[u8], bits: &[u8], first: usize, out: &mut [u8], at: usize) -> Coder
-    requires { ⌜ EncodesRest (now pattern) (now bits) first (now out) at ⌝ }
-    ensures { λ r. ⌜ Encoded (now (pattern .entry)) (registerAt (now (bits .entry)) (first - 7)) (drop first (now (bits .entry)))
-        (now (out .entry)) at (r .register) (r .at) (now (out .exit)) ⌝ }
-{
-    let register = register_at(bits, first - 7);
-    encode_columns(pattern, register as u32, &bits[first..], out, at)
-}
-
-// A segment in three parts: seven rounds, which fill a register, pairs of rounds, and what is left.
-fn encode_parts(
-    pattern: &[u8],
-    stride: usize,
-    pairs: usize,
-    register: u32,
-    bits: &[u8],
-    registers: &mut [u8],
-    out: &mut [u8],
-    at: usize,
-) -> Coder
-    requires { ⌜ Encodes (now pattern) register (now bits) (now out) at × HasPairs (now pattern) stride pairs (now bits) (now registers) ⌝ }
-    ensures { λ r. ⌜ Encoded (now (pattern .entry)) register (now (bits .entry)) (now (out .entry)) at (r .register) (r .at) (now (out .exit)) ⌝ }
-{
-    let head = 7 * pattern.len();
-    let first = head + registers.len();
-    let front = encode_columns(pattern, register, &bits[0..head], out, at);
-    let place = front.at;
-    encode_rounds(pattern, stride, bits, head, pairs, registers, out, place);
-    encode_rest(pattern, bits, first, out, place + 2 * pairs * stride)
-}
-
-// A segment of enough rounds, with a buffer for the registers of its bits.
-fn encode_long(
-    pattern: &[u8],
-    register: u32,
-    bits: &[u8],
-    registers: &mut [u8],
-    out: &mut [u8],
-    at: usize,
-) -> Coder
-    requires { ⌜ Encodes (now pattern) register (now bits) (now out) at × EncodesLong (now pattern) (now bits) (now registers) ⌝ }
-    ensures { λ r. ⌜ Encoded (now (pattern .entry)) register (now (bits .entry)) (now (out .entry)) at (r .register) (r .at) (now (out .exit)) ⌝ }
-{
-    let width = pattern.len();
-    let stride = count_columns(pattern, width);
-    let pairs = (bits.len() - 7 * width) / (2 * width);
-    let n = 2 * pairs * width;
-    encode_parts(
-        pattern,
-        stride,
-        pairs,
-        register,
-        bits,
-        &mut registers[0..n],
-        out,
-        at,
-    )
-}
-
-// A block of a segment, with a buffer for the registers of its bits: bit by bit if it has too few rounds.
-fn encode_block(
-    pattern: &[u8],
-    register: u32,
-    bits: &[u8],
-    registers: &mut [u8],
-    out: &mut [u8],
-    at: usize,
-) -> Coder
-    requires { ⌜ Encodes (now pattern) register (now bits) (now out) at × (length (now registers) ≤ 2048) ⌝ }
-    ensures { λ r. ⌜ Encoded (now (pattern .entry)) register (now (bits .entry)) (now (out .entry)) at (r .register) (r .at) (now (out .exit)) ⌝ }
-{
-    if bits.len() / ROUNDS < pattern.len() || registers.len() < bits.len() {
-        return encode_columns(pattern, register, bits, out, at);
-    }
-    encode_long(pattern, register, bits, registers, out, at)
-}
-
-// A segment, one block of whole rounds after the other, and a last one.
-fn encode_blocks(
-    pattern: &[u8],
-    register: u32,
-    bits: &[u8],
-    registers: &mut [u8],
-    out: &mut [u8],
-    at: usize,
-) -> Coder
-    requires { ⌜ Encodes (now pattern) register (now bits) (now out) at × (length (now pattern) ≤ length (now registers)) × (length (now registers) ≤ 2048) ⌝ }
-    ensures { λ r. ⌜ Encoded (now (pattern .entry)) register (now (bits .entry)) (now (out .entry)) at (r .register) (r .at) (now (out .exit)) ⌝ }
-{
-    let n = registers.len() / pattern.len() * pattern.len();
-    let mut register = register;
-    let mut at = at;
-    let mut j = 0;
-    while n < bits.len() - j {
-        let coder = encode_block(pattern, register, &bits[j..j + n], registers, out, at);
-        register = coder.register;
-        at = coder.at;
-        j += n;
-    }
-    encode_block(pattern, register, &bits[j..], registers, out, at)
-}
-
 // Room for the registers of a block's bits.
 fn register_buffer() -> [u8; BLOCK]
     ensures { λ r. ⌜ Long 2048 r ⌝ }
@@ -288,16 +140,71 @@ fn register_buffer() -> [u8; BLOCK]
     [0u8; BLOCK]
 }
 
-// A segment by the columns of its pattern: a short one, as the tail, needs no buffer.
+// Whole rounds, two and two, of the bits from first on: all their registers, and then one column after the other.
+fn encode_rounds(
+    pattern: &[u8],
+    stride: usize,
+    bits: &[u8],
+    first: usize,
+    pairs: usize,
+    out: &mut [u8],
+    at: usize,
+)
+    requires { ⌜ EncodesRounds (now pattern) stride (now bits) first pairs (now out) at ⌝ }
+    ensures { λ r. ⌜ now (out .exit)
+        ≡ sets (now (out .entry)) at
+        (encode (now (pattern .entry)) (registerAt (now (bits .entry)) (first - 7)) 0
+        (take (2 * pairs * length (now (pattern .entry))) (drop first (now (bits .entry))))) ⌝ }
+{
+    let n = 2 * pairs * pattern.len();
+    let mut registers = register_buffer();
+    registers_of(bits, first - 6, &mut registers[0..n]);
+    lay_columns(pattern, &registers[0..n], pairs, out, at, stride);
+}
+
+// How many pairs of rounds there are among the bits that are left, and no more than a block has.
+fn pairs_of(left: usize, width: usize) -> usize
+    requires { ⌜ 0 < width ⌝ }
+    ensures { λ r. ⌜ Pairs left width r ⌝ }
+{
+    if left < BLOCK {
+        return left / width / 2;
+    }
+    BLOCK / width / 2
+}
+
+// What is left of a segment from a place behind its first rounds on: one block of pairs of rounds after the other, and the rest bit by bit.
+fn encode_blocks(pattern: &[u8], bits: &[u8], first: usize, out: &mut [u8], at: usize) -> Coder
+    requires { ⌜ EncodesBlocks (now pattern) (now bits) first (now out) at ⌝ }
+    ensures { λ r. ⌜ Encoded (now (pattern .entry)) (registerAt (now (bits .entry)) (first - 7)) (drop first (now (bits .entry)))
+        (now (out .entry)) at (r .register) (r .at) (now (out .exit)) ⌝ }
+{
+    let width = pattern.len();
+    let stride = count_columns(pattern, width);
+    let mut first = first;
+    let mut at = at;
+    let mut pairs = pairs_of(bits.len() - first, width);
+    while 0 < pairs {
+        encode_rounds(pattern, stride, bits, first, pairs, out, at);
+        at += 2 * pairs * stride;
+        first += 2 * pairs * width;
+        pairs = pairs_of(bits.len() - first, width);
+    }
+    let register = register_at(bits, first - 7);
+    encode_columns(pattern, register as u32, &bits[first..], out, at)
+}
+
+// A segment: its first rounds bit by bit, and what is left by blocks.
 fn encode_segment(pattern: &[u8], register: u32, bits: &[u8], out: &mut [u8], at: usize) -> Coder
     requires { ⌜ Encodes (now pattern) register (now bits) (now out) at ⌝ }
     ensures { λ r. ⌜ Encoded (now (pattern .entry)) register (now (bits .entry)) (now (out .entry)) at (r .register) (r .at) (now (out .exit)) ⌝ }
 {
-    if bits.len() / ROUNDS < pattern.len() || BLOCK < pattern.len() {
+    if bits.len() / ROUNDS < pattern.len() {
         return encode_columns(pattern, register, bits, out, at);
     }
-    let mut registers = register_buffer();
-    encode_blocks(pattern, register, bits, &mut registers, out, at)
+    let head = ROUNDS * pattern.len();
+    let front = encode_columns(pattern, register, &bits[0..head], out, at);
+    encode_blocks(pattern, bits, head, out, front.at)
 }
 
 // The coded bits of a segment, written to out from at on.

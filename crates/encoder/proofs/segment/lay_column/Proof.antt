@@ -7,24 +7,24 @@ use Rattle.encoder.proofs.Spread.{ones-four, laid-four, lays-part}
 use Rattle.encoder.proofs.segment.lay_column.Statement.{statement}
 use Rattle.encoder.proofs.segment.lay_column.Tie as tie
 
-lay-kept-requires : tie.Need-lay-kept-requires
-lay-kept-requires c κs =
+lay-requires : tie.Need-lay-requires
+lay-requires c κs =
     let s = c .before .before .before in
     lays-part 0 (s .pre .0) refl (omega arith) (omega (arith, ones-four (s .args .column) (s .pre .1)))
 
-lay-kept-requires-2 : tie.Need-lay-kept-requires-2
-lay-kept-requires-2 c κs =
+lay-requires-2 : tie.Need-lay-requires-2
+lay-requires-2 c κs =
     let s = c .before .before .before .before .before .before .before in
     lays-part (s .args .column % 2) (s .pre .0) (omega arith) (omega arith) (omega (arith, ones-four (s .args .column) (s .pre .1)))
 
-lay-kept-requires-3 : tie.Need-lay-kept-requires-3
-lay-kept-requires-3 c κs =
+lay-requires-3 : tie.Need-lay-requires-3
+lay-requires-3 c κs =
     let s = c .before .before .before .before .before .before .before .before .before .before .before in
     lays-part (s .args .column % 2 + s .args .column / 2 % 2) (s .pre .0) (omega arith) (omega arith)
     (omega (arith, ones-four (s .args .column) (s .pre .1)))
 
-lay-kept-requires-4 : tie.Need-lay-kept-requires-4
-lay-kept-requires-4 c κs =
+lay-requires-4 : tie.Need-lay-requires-4
+lay-requires-4 c κs =
     let s = c .before .before .before .before .before .before .before .before .before .before .before .before .before .before .before in
     lays-part (s .args .column % 2 + s .args .column / 2 % 2 + s .args .column / 2 / 2 % 2) (s .pre .0) (omega arith) (omega arith)
     (omega (arith, ones-four (s .args .column) (s .pre .1)))
@@ -39,13 +39,13 @@ returns c =
       omega (arith, ones-four (a .column) (s .pre .1)),
       laid-four (a .column) (a .registers .now) (a .width) (2 * a .pairs) (a .out .now) (a .at) (a .stride)
           (omega (arith, s .pre .0 .narrow, ones-four (a .column) (s .pre .1)))
-          (s₁ .lay-kept .ensures)
-          (s₂ .lay-kept2 .ensures)
-          (s₃ .lay-kept3 .ensures)
-          (c .before .before .lay-kept4 .ensures .1),
+          (s₁ .lay .ensures)
+          (s₂ .lay2 .ensures)
+          (s₃ .lay3 .ensures)
+          (c .before .before .lay4 .ensures .1),
     )
 
 pub lay-column-spec : {M : Type 1} → statement M
 lay-column-spec =
     tie.close
-    (tie.spec lay-kept-requires lay-kept-requires-2 lay-kept-requires-3 lay-kept-requires-4 (λ c. search needs) returns)
+    (tie.spec lay-requires lay-requires-2 lay-requires-3 lay-requires-4 (λ c. search needs) returns)
