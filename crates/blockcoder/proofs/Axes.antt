@@ -1,10 +1,13 @@
 -- At most three levels at a time: those of both axes, or those of one. Assumes nothing.
-use Prim.Native.Nat.{ℕ, _*_, _/_, _≤_}
+use Prim.Native.Nat.{ℕ, _*_, _/_, _≤_, _<_}
 use mathlib.Core.Path.{_≡_, sym, _∙_}
 use mathlib.Core.Bool.{true, false, cond}
 use mathlib.Core.List.{List}
+use mathlib.Core.Logic.{_⊎_, inl, inr}
 use native.Mathlib.Omega.{arith}
+use borrow.Author.Tests.{eqb-false}
 use lib.ListN.{length}
+use Rattle.lists.proofs.Counting.{below-or}
 use Rattle.block.specs.declared.Block.{Block}
 use Rattle.block.specs.Block.{oneAxis}
 use Rattle.block.specs.Fits.{BlockFits}
@@ -14,6 +17,17 @@ use Rattle.multilevel.proofs.Totals.{count-is, three, few-levels}
 module _ {k : Block} (F : BlockFits k) (one : oneAxis k ≡ false) where
   pub few : k .count ≤ 3
   few = omega (arith, sym (count-is F) ∙ rw one at (F .levels), three F)
+
+  -- both axes have one labelling
+  pub alike-low : k .constellation < 4
+  unfolding oneAxis
+  alike-low = go (below-or (k .constellation) 4)
+    where
+      go : (k .constellation < 4) ⊎ (4 ≤ k .constellation) → k .constellation < 4
+      go (inl h) = h
+      go (inr h) =
+          let e : k .constellation ≡ 4 = omega (arith, F .known) in
+          absurd (eqb-false (k .constellation) 4 one e)
 
   -- all of them
   pub both-levels : {order a b labels : List ℕ} → PartsOf k a b → BlockOrder k order → length labels ≡ 2 * k .cells

@@ -1,5 +1,5 @@
 -- The candidate's bits: levels read from the cells, both parts joined, and dispersal undone. Assumes nothing.
-use Prim.Native.Nat.{ℕ, _+_, _-_, _*_, _/_, _%_, _^_, _≤_}
+use Prim.Native.Nat.{ℕ, _+_, _-_, _*_, _/_, _%_, _^_, _≤_, _<_}
 use mathlib.Core.Path.{_≡_, refl, sym, ap, ap₂, _∙_}
 use mathlib.Core.Bool.{Bool, true, false}
 use mathlib.Core.List.{List, _++_}
@@ -15,13 +15,13 @@ use Rattle.block.specs.Dispersal.{dispersed, dispersedParts}
 use Rattle.block.specs.Mapping.{constellation}
 use Rattle.block.specs.Block.{levelsOf, pointsOf, oneAxis}
 use Rattle.mapping.specs.Labels.{axisLabels}
-use Rattle.mapping.specs.Contracts.{Unmaps, UnmapsAxes}
+use Rattle.mapping.specs.Contracts.{Unmaps, UnmapsAxis}
 use Rattle.multilevel.specs.Contracts.{levelAt, bitsBefore, readOver}
 use Rattle.multilevel.proofs.Totals.{all-bits, count-is, levels-table}
 use Rattle.multilevel.proofs.PartsRead.{inputsIn, read-all, read-pairs}
 use Rattle.blockcoder.specs.Contracts.{ReadsCells, CellsRead, ReadsCandidate}
 use Rattle.block.proofs.Dispersal.{length-dispersed}
-use Rattle.blockcoder.proofs.Axes.{twice}
+use Rattle.blockcoder.proofs.Axes.{alike-low, twice}
 
 -- the streams of a pair of levels, one from each axis
 axis-streams : (labels : List ℕ) (i : ℕ)
@@ -38,12 +38,12 @@ module _ {k : Block} {cells : List ℤ} {a b : List ℕ} (R : ReadsCells k cells
   pub cells-low : length cells ≤ 12236
   cells-low = omega (arith, R .long, R .fits .most)
 
-  -- coordinates of the block's cells, to labels of both axes, or of each
-  pub unmaps : {out : List ℕ} → length out ≡ length cells → Unmaps (k .constellation) cells out
-  unmaps e = record { known = R .fits .known; whole = rw (R .long) (omega arith); same = e }
+  -- coordinates of the block's cells, to labels of both axes, or of one
+  pub unmaps : {out : List ℕ} → oneAxis k ≡ false → length out ≡ length cells → Unmaps (k .constellation) cells out
+  unmaps one e = record { known = alike-low (R .fits) one; same = e }
 
-  pub unmaps-axes : {re im : List ℕ} → length re ≡ k .cells → length im ≡ k .cells → UnmapsAxes (k .constellation) cells re im
-  unmaps-axes e f = record { known = R .fits .known; same = rw e (R .long); both = f ∙ sym e }
+  pub unmaps-axis : {out : List ℕ} (a : ℕ) → a < 2 → length out ≡ k .cells → UnmapsAxis (k .constellation) a cells out
+  unmaps-axis a h e = record { known = R .fits .known; axis = h; same = rw e (R .long) }
 
   -- the bits that are read are those of the block's levels
   block-inputs : (b : Bool) {n : ℕ} {v : List ℕ} → n ≡ k .count

@@ -31,7 +31,7 @@ use Rattle.block.proofs.Dispersal.{length-dispersedParts, bits-dispersedParts, 
 use Rattle.packing.specs.Contracts.{Unpacks}
 use Rattle.blockcoder.specs.Contracts.{cellsBy, CodesParts, CodesBits, MapsParts, MapsAxesParts}
 use Rattle.block.specs.Fits.{BlockLent}
-use Rattle.blockcoder.proofs.Axes.{few, both-levels, axis, cells-low, pairs, twice, axis-levels}
+use Rattle.blockcoder.proofs.Axes.{few, alike-low, both-levels, axis, cells-low, pairs, twice, axis-levels}
 use Rattle.blockcoder.proofs.Woven.{mapped-labels, labels-woven}
 
 -- the labels of at most three levels are labels of level bits
@@ -62,9 +62,8 @@ module _ {k : Block} {a b : List ℕ} {out : List ℤ} (C : CodesParts k a b out
     pub maps-both : MapsParts (k .constellation) (k .parta) labels out
     maps-both =
         record {
-          known = C .fits .known;
+          known = alike-low (C .fits) one;
           same = sym same-count;
-          whole = rw (same-count, C .cells) (omega arith);
           part = rw same-count (omega (arith, C .cells, C .fits .part));
           high = rw same-count (omega (arith, out-low));
           low = rw e (labels-low (k .levels) a b 0 1 (k .count) (length out) (few (C .fits) one));

@@ -41,7 +41,6 @@ module _ {c n1 : ℕ} {labels : List ℕ} {out : List ℤ} (M : MapsParts c n1 l
       record {
         known = M .known;
         same = length-start (2 * n1) out (omega (arith, M .part, M .same)) ∙ sym e;
-        whole = rw e (omega arith);
         low = labels-take (2 * n1 - 0) (M .low);
       }
 
@@ -60,7 +59,6 @@ module _ {c n1 : ℕ} {labels : List ℕ} {out : List ℤ} (M : MapsParts c n1 l
         record {
           known = M .known;
           same = length-second out p (2 * n1) (omega (arith, M .part, M .same)) length-cells ∙ rw (M .same) (sym f);
-          whole = rw f (omega (arith, M .whole, M .part));
           low = labels-take (length labels - 2 * n1) (labels-drop (2 * n1) (M .low));
         }
 

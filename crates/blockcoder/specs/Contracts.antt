@@ -1,5 +1,5 @@
 -- What the functions that code and read a block require and promise: nothing of 01 is stated here.
-use Prim.Native.Nat.{ℕ, _*_, _%_, _≤_, _<_}
+use Prim.Native.Nat.{ℕ, _*_, _≤_, _<_}
 use mathlib.Core.Path.{_≡_}
 use mathlib.Core.List.{List}
 use lib.ListN.{length}
@@ -61,11 +61,10 @@ pub record BlockRead (k : Block) (cells : List ℤ) (bytes : List ℕ) (answer :
   pub answered : answer ≡ foundOf (given k cells)
   pub written : bytes' ≡ cond (given k cells) (bytesRead k cells) bytes
 
--- Labels of whole cells, the first n1 cells of which are part A's.
+-- Labels of a constellation whose axes have one labelling, those of the first n1 cells being part A's.
 pub record MapsParts (c n1 : ℕ) (labels : List ℕ) (out : List ℤ) : Type 0 where
-  pub known : c < 5
+  pub known : c < 4
   pub same : length out ≡ length labels
-  pub whole : length labels % 2 ≡ 0
   pub part : 2 * n1 ≤ length labels
   pub high : length labels ≤ 16384
   pub low : ThreeBits labels

@@ -6,7 +6,7 @@ use block::buffers::bit_buffer;
 use block::buffers::cell_buffer;
 use dispersal::bits::disperse;
 use lists::bytes::copy;
-use mapping::points::unmap_axes;
+use mapping::points::unmap_axis;
 use mapping::points::unmap_cells;
 use multilevel::places::bits_before;
 use multilevel::read::read_levels;
@@ -42,7 +42,8 @@ fn read_axes(k: Block, places: &[u16], cells: &[i16], a: &mut [u8], b: &mut [u8]
     let mut im = axis_buffer();
     let n = k.cells;
     let pairs = k.count / 2;
-    unmap_axes(k.constellation, cells, &mut re[0..n], &mut im[0..n]);
+    unmap_axis(k.constellation, 0, cells, &mut re[0..n]);
+    unmap_axis(k.constellation, 1, cells, &mut im[0..n]);
     read_levels(k, 0, 2, pairs, places, &re[0..n], a, b);
     read_levels(k, 1, 2, pairs, places, &im[0..n], a, b);
 }

@@ -1,6 +1,6 @@
 // Writes every point of the five constellations: the constellation, the numbers of level bits of its real and imaginary axis, and its coordinates.
 use libc::STDOUT_FILENO;
-use mapping::points::map_cells;
+use mapping::points::map_axes;
 ghost use Prim.Native.Nat.{_<_};
 
 fn write_number(n: u64) {
@@ -31,9 +31,10 @@ fn write_coordinate(v: i16) {
 fn write_point(c: u8, n: u8, m: u8)
     requires { ⌜ (c < 5) × (n < 8) × (m < 8) ⌝ }
 {
-    let numbers = [n, m];
+    let re = [n];
+    let im = [m];
     let mut cell = [0i16; 2];
-    map_cells(c, &numbers, &mut cell);
+    map_axes(c, &re, &im, &mut cell);
     write_number(c as u64);
     write_space();
     write_number(n as u64);

@@ -1,35 +1,20 @@
 -- Coordinates as the code holds them. Assumes nothing.
-use Prim.Native.Nat.{ℕ, zero, suc, _+_, _*_, _%_, _^_, _≤_, _<_}
-use mathlib.Core.Bool.{Bool, true, _&&_}
-use mathlib.Core.Path.{_≡_, _∙_}
-use mathlib.Core.List.{List, [], _∷_}
+use Prim.Native.Nat.{ℕ, zero, suc, _+_, _*_, _%_, _≤_, _<_}
+use mathlib.Core.Bool.{Bool, true, false, cond}
+use mathlib.Core.Path.{_≡_, refl, sym, _∙_}
+use mathlib.Core.List.{List}
 use native.Mathlib.Nat.{add-zero}
-use Rattle.lists.proofs.Rules.{both-left, both-right}
 use native.Mathlib.Omega.{arith}
-use mathlib.Core.Logic.{_⊎_, inl, inr}
-use Rattle.lists.proofs.Counting.{below-or}
 use borrow.Author.Tests.{eq-eqb, ne-eqb}
 use lib.ListN.{length, getD, set}
-use lib.Dec.{T, ltb, ltb→lt}
+use lib.Dec.{eqb}
 use lib.IntN.{ℤ, pos}
-use lib.Signed.{mag}
 use Rattle.lists.proofs.Tables.{Filled, filled-start, filled-turn, filled-end}
 use Rattle.block.specs.Mapping.{Constellation, constellation, axis, weave}
 use Rattle.mapping.specs.Labels.{coordinates}
 use Rattle.block.proofs.Mapping.{getD-weave}
 
--- every coordinate of a labelling is a signed 16-bit number
-unfoldable pub fitting : List ℤ → Bool
-fitting [] = true
-fitting (v ∷ l) = ltb (mag v) (2 ^ 15) && fitting l
-
-pub fitting-at : (l : List ℤ) → T (fitting l) → (n : ℕ) → mag (getD l n (pos 0)) < 2 ^ 15
-unfolding fitting
-fitting-at [] t n = omega arith
-fitting-at (v ∷ l) t zero = ltb→lt _ _ (both-left (ltb (mag v) (2 ^ 15)) (fitting l) t)
-fitting-at (v ∷ l) t (suc n) = fitting-at l (both-right (ltb (mag v) (2 ^ 15)) (fitting l) t) n
-
--- the labelling of an even number is the real axis's, of an odd one the imaginary axis's, of any that of both
+-- the labelling of an even number is the real axis's, of an odd one the imaginary axis's
 pub axis-even : (k : Constellation) (j : ℕ) → j % 2 ≡ 0 → axis k j ≡ k .real
 unfolding axis
 axis-even k j e = rw (eq-eqb (j % 2) 0 e)
@@ -38,12 +23,35 @@ pub axis-odd : (k : Constellation) (j : ℕ) → j % 2 ≡ 1 → axis k j ≡ k 
 unfolding axis
 axis-odd k j e = rw (ne-eqb (j % 2) 0 (omega arith))
 
-pub axis-alike : (k : Constellation) (l : List ℤ) (j : ℕ) → k .real ≡ l → k .imaginary ≡ l → axis k j ≡ l
-axis-alike k l j a b = go (below-or (j % 2) 1)
+-- a rule of both axes
+pub both-axes : (P : ℕ → Type 0) → P 0 → P 1 → (a : ℕ) → a < 2 → P a
+both-axes P p q zero h = p
+both-axes P p q (suc zero) h = q
+both-axes P p q (suc (suc a)) h = absurd (omega arith)
+
+-- the labelling of a coordinate by its axis
+pub axis-of : (K : Constellation) (k a : ℕ) → a < 2 → axis K (2 * k + a) ≡ axis K a
+axis-of K k = both-axes (λ a. axis K (2 * k + a) ≡ axis K a)
+    (axis-even K (2 * k + 0) (omega arith) ∙ sym (axis-even K 0 refl))
+    (axis-odd K (2 * k + 1) (omega arith) ∙ sym (axis-odd K 1 refl))
+
+-- where both axes of a constellation have one labelling
+pub one-labelling : (K : Constellation) (l : List ℤ) → K .real ≡ l → K .imaginary ≡ l → (a : ℕ) → axis K a ≡ l
+unfolding axis
+one-labelling K l e f a = go (eqb (a % 2) 0)
   where
-    go : (j % 2 < 1) ⊎ (1 ≤ j % 2) → axis k j ≡ l
-    go (inl h) = axis-even k j (omega arith) ∙ a
-    go (inr h) = axis-odd k j (omega arith) ∙ b
+    go : (b : Bool) → cond b (K .real) (K .imaginary) ≡ l
+    go true = e
+    go false = f
+
+-- as in all but HMmix
+pub alike : (c : ℕ) → c < 4 → (j : ℕ) → axis (constellation c) j ≡ axis (constellation c) 0
+unfolding axis constellation
+alike zero h = one-labelling (constellation 0) _ refl refl
+alike (suc zero) h = one-labelling (constellation 1) _ refl refl
+alike (suc (suc zero)) h = one-labelling (constellation 2) _ refl refl
+alike (suc (suc (suc zero))) h = one-labelling (constellation 3) _ refl refl
+alike (suc (suc (suc (suc c)))) h = absurd (omega arith)
 
 -- before the turn at cell k of the coordinates of labels
 pub record Placing (c : ℕ) (labels : List ℕ) (d out : List ℤ) (k : ℕ) : Type 0 where
@@ -57,13 +65,12 @@ start c labels d e = record { long = e; whole = omega arith; filled = filled-sta
 -- a turn places the two coordinates of a cell, whose labels are re and im
 pub turn : {c : ℕ} {labels : List ℕ} {d out : List ℤ} {k : ℕ} {a b : ℤ} → Placing c labels d out k → 2 * k + 1 < length d
     → (re im : ℕ) → re ≡ getD labels (2 * k) 0 → im ≡ getD labels (2 * k + 1) 0
-    → a ≡ getD (constellation c .real) re (pos 0) → b ≡ getD (constellation c .imaginary) im (pos 0)
+    → a ≡ getD (axis (constellation c) 0) re (pos 0) → b ≡ getD (axis (constellation c) 1) im (pos 0)
     → Placing c labels d (set (set out (2 * k) a) (2 * k + 1) b) (k + 1)
 turn {c} {labels} {d} {out} {k} {a} {b} P h re im e f ra ib =
-    let ea : a ≡ getD (axis (constellation c) (2 * k)) (getD labels (2 * k) 0) (pos 0)
-    = ra ∙ rw (axis-even (constellation c) (2 * k) (omega arith), e) in
-    let eb : b ≡ getD (axis (constellation c) (2 * k + 1)) (getD labels (2 * k + 1) 0) (pos 0)
-    = ib ∙ rw (axis-odd (constellation c) (2 * k + 1) (omega arith), f) in
+    let K = constellation c in
+    let ea : a ≡ getD (axis K (2 * k)) (getD labels (2 * k) 0) (pos 0) = ra ∙ rw (axis-even K 0 refl, axis-even K (2 * k) (omega arith), e) in
+    let eb : b ≡ getD (axis K (2 * k + 1)) (getD labels (2 * k + 1) 0) (pos 0) = ib ∙ rw (axis-of K k 1 (omega arith), f) in
     let one = filled-turn (pos 0) _ d out (2 * k) a (omega arith) ea (P .filled) in
     let two = filled-turn (pos 0) _ d (set out (2 * k) a) (2 * k + 1) b (omega arith) eb one in
     let n : 2 * k + 1 + 1 ≡ 2 * (k + 1) = omega arith in

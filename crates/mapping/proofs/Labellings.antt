@@ -1,13 +1,12 @@
--- Coordinates worked out by the numbers of a labelling are those of the labelling. Assumes nothing.
-use Prim.Native.Nat.{ℕ, zero, suc, _+_, _-_, _*_, _%_, _≤_, _<_}
-use mathlib.Core.Path.{_≡_, refl, sym, ap, _∙_}
+-- Coordinates that are worked out are those of the labellings. Assumes nothing.
+use Prim.Native.Nat.{ℕ, zero, suc, _-_, _≤_, _<_}
+use mathlib.Core.Bool.{Bool, true, false}
+use mathlib.Core.Path.{_≡_, refl, sym, _∙_}
 use mathlib.Core.Logic.{_⊎_, inl, inr}
-use mathlib.Core.List.{List}
-use native.Mathlib.Nat.{mul-le-mul}
 use native.Mathlib.Omega.{arith}
 use borrow.Author.Tests.{lt-ltb, le-ltb}
-use lib.ListN.{length, getD}
-use lib.IntN.{ℤ, pos, _-ℤ_}
+use lib.ListN.{getD}
+use lib.IntN.{pos, _-ℤ_}
 use mir.Syntax.{w16}
 use mir.Val.{SFits, toZ, ofZ}
 use mir.ValLaws.{toZ-pos}
@@ -16,13 +15,9 @@ use Rattle.lists.specs.Bools.{every}
 use Rattle.lists.specs.Lists.{table}
 use Rattle.lists.specs.Same.{sameNumber}
 use Rattle.lists.proofs.Counting.{below-or}
-use Rattle.lists.proofs.Tables.{table-ext}
-use Rattle.block.specs.Mapping.{Constellation, coordinate, qam4, qam16, standard64, symmetric64}
+use Rattle.block.specs.Mapping.{coordinate, qam4, qam16, standard64, symmetric64}
 use Rattle.cellbytes.proofs.Bits.{same-below}
-use Rattle.mapping.specs.Contracts.{ThreeBits}
-use Rattle.mapping.specs.Labels.{coordinates}
-use Rattle.mapping.specs.Labellings.{coordinateBy, coordinatesBy, LabelFits, Labels}
-use Rattle.mapping.proofs.Coordinates.{axis-alike}
+use Rattle.mapping.specs.Labellings.{belowTop, coordinateBy, SizeFits, Labels}
 
 -- a difference of small numbers fits
 difference-fits : (a b : ℕ) → a < 32768 → b ≤ 32768 → SFits w16 (pos a -ℤ pos b)
@@ -33,69 +28,59 @@ difference-fits a (suc b) h l = go (below-or a (suc b))
     go (inl m) = rw (lt-ltb a (suc b) m) (record { sfits = omega arith })
     go (inr m) = rw (le-ltb a (suc b) m) (record { sfits = omega arith })
 
+-- what is taken off is small
+pub below-low : (symmetric : Bool) (n : ℕ) → n < 8 → belowTop symmetric n ≤ 14
+unfolding belowTop
+below-low true n h = omega arith
+below-low false n h = omega arith
+
 -- the coordinate of a label below the size, as the code works it out
-module _ {size times odd n : ℕ} (h : LabelFits size times odd n) where
-  -- what is taken off is small
-  pub taken-low : (times * n ≤ 14) × (odd * (n % 2) ≤ 7)
-  taken-low =
-      let slope : times * n ≤ 2 * 7 = mul-le-mul {n₂ = 2} {m₂ = 7} (h .labelling .slope) (omega (arith, h .low)) in
-      let jump : odd * (n % 2) ≤ 7 * 1 = mul-le-mul {n₂ = 7} {m₂ = 1} (h .labelling .jump) (omega arith) in
-      (slope, jump)
+module _ {size n w : ℕ} (symmetric : Bool) (h : SizeFits size) (e : w ≡ belowTop symmetric n) (l : n < 8) where
+  -- both numbers are what they are as natural ones
+  plain : toZ w16 (size - 1) -ℤ toZ w16 w ≡ pos (size - 1) -ℤ pos w
+  plain = rw (toZ-pos w16 (size - 1) (omega (arith, h .most)), toZ-pos w16 w (omega (arith, e, below-low symmetric n l)))
 
-  -- so both numbers are what they are as natural ones
-  plain : toZ w16 (size - 1) -ℤ toZ w16 (times * n + odd * (n % 2)) ≡ pos (size - 1) -ℤ pos (times * n + odd * (n % 2))
-  plain =
-      rw (toZ-pos w16 (size - 1) (omega (arith, h .labelling .most)), toZ-pos w16 (times * n + odd * (n % 2)) (omega (arith, taken-low)))
+  pub coordinate-fits : SFits w16 (toZ w16 (size - 1) -ℤ toZ w16 w)
+  coordinate-fits = rw plain (difference-fits (size - 1) w (omega (arith, h .most)) (omega (arith, e, below-low symmetric n l)))
 
-  pub coordinate-fits : SFits w16 (toZ w16 (size - 1) -ℤ toZ w16 (times * n + odd * (n % 2)))
-  coordinate-fits = rw plain (difference-fits (size - 1) (times * n + odd * (n % 2)) (omega (arith, h .labelling .most)) (omega (arith, taken-low)))
-
-  pub coordinate-found : n < size → toZ w16 (ofZ w16 (toZ w16 (size - 1) -ℤ toZ w16 (times * n + odd * (n % 2)))) ≡ coordinateBy size times odd n
+  pub coordinate-found : n < size → toZ w16 (ofZ w16 (toZ w16 (size - 1) -ℤ toZ w16 w)) ≡ coordinateBy size symmetric n
   unfolding coordinateBy
-  coordinate-found l = toZ-ofZ {w = w16} coordinate-fits ∙ plain ∙ sym (rw (lt-ltb n size l))
+  coordinate-found m = toZ-ofZ {w = w16} coordinate-fits ∙ plain ∙ sym (rw (lt-ltb n size m, e))
 
 -- past the labels it is 0
-pub coordinate-past : (size times odd n : ℕ) → size ≤ n → pos 0 ≡ coordinateBy size times odd n
+pub coordinate-past : (size : ℕ) (symmetric : Bool) (n : ℕ) → size ≤ n → pos 0 ≡ coordinateBy size symmetric n
 unfolding coordinateBy
-coordinate-past size times odd n h = sym (rw (le-ltb n size h))
+coordinate-past size symmetric n h = sym (rw (le-ltb n size h))
 
--- the labellings' numbers
-pub labels4 : Labels 2 2 0 qam4
-unfolding coordinateBy coordinate sameNumber every table qam4
+-- the four labellings
+pub labels4 : Labels 2 false qam4
+unfolding belowTop coordinateBy coordinate sameNumber every table qam4
 labels4 =
     record {
-      fits = record { some = omega arith; most = omega arith; slope = omega arith; jump = omega arith };
-      each = same-below (coordinateBy 2 2 0) (λ n. getD qam4 n (pos 0)) 8 refl;
+      fits = record { some = omega arith; most = omega arith };
+      each = same-below (coordinateBy 2 false) (λ n. getD qam4 n (pos 0)) 8 refl;
     }
 
-pub labels16 : Labels 4 2 0 qam16
-unfolding coordinateBy coordinate sameNumber every table qam16
+pub labels16 : Labels 4 false qam16
+unfolding belowTop coordinateBy coordinate sameNumber every table qam16
 labels16 =
     record {
-      fits = record { some = omega arith; most = omega arith; slope = omega arith; jump = omega arith };
-      each = same-below (coordinateBy 4 2 0) (λ n. getD qam16 n (pos 0)) 8 refl;
+      fits = record { some = omega arith; most = omega arith };
+      each = same-below (coordinateBy 4 false) (λ n. getD qam16 n (pos 0)) 8 refl;
     }
 
-pub labels-standard : Labels 8 2 0 standard64
-unfolding coordinateBy coordinate sameNumber every table standard64
+pub labels-standard : Labels 8 false standard64
+unfolding belowTop coordinateBy coordinate sameNumber every table standard64
 labels-standard =
     record {
-      fits = record { some = omega arith; most = omega arith; slope = omega arith; jump = omega arith };
-      each = same-below (coordinateBy 8 2 0) (λ n. getD standard64 n (pos 0)) 8 refl;
+      fits = record { some = omega arith; most = omega arith };
+      each = same-below (coordinateBy 8 false) (λ n. getD standard64 n (pos 0)) 8 refl;
     }
 
-pub labels-symmetric : Labels 8 1 7 symmetric64
-unfolding coordinateBy coordinate sameNumber every table symmetric64
+pub labels-symmetric : Labels 8 true symmetric64
+unfolding belowTop coordinateBy coordinate sameNumber every table symmetric64
 labels-symmetric =
     record {
-      fits = record { some = omega arith; most = omega arith; slope = omega arith; jump = omega arith };
-      each = same-below (coordinateBy 8 1 7) (λ n. getD symmetric64 n (pos 0)) 8 refl;
+      fits = record { some = omega arith; most = omega arith };
+      each = same-below (coordinateBy 8 true) (λ n. getD symmetric64 n (pos 0)) 8 refl;
     }
-
--- where both axes have one labelling, all labels have their coordinates by it
-pub alike : {size times odd : ℕ} (k : Constellation) (labels : List ℕ) → ThreeBits labels → Labels size times odd (k .real) → k .imaginary ≡ k .real
-    → coordinatesBy size times odd labels ≡ coordinates k labels
-unfolding coordinatesBy coordinates
-alike {size} {times} {odd} k labels low a e =
-    table-ext _ _ 0 (length labels)
-    (λ j _ _. a .each (getD labels j 0) (low .low j) ∙ ap (λ (l : List ℤ). getD l (getD labels j 0) (pos 0)) (sym (axis-alike k (k .real) j refl e)))

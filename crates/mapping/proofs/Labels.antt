@@ -1,46 +1,33 @@
 -- Coordinates back to the labels of their level bits, by their four lowest binary digits. Assumes nothing.
-use Prim.Native.Nat.{ℕ, zero, suc, _+_, _*_, _/_, _%_, _^_, _≤_, _<_}
-use mathlib.Core.Bool.{Bool, true, false, cond}
-use mathlib.Core.Path.{_≡_, refl, sym, ap, _∙_}
+use Prim.Native.Nat.{ℕ, zero, suc, _+_, _*_, _/_, _≤_, _<_}
+use mathlib.Core.Bool.{Bool, true, false}
+use mathlib.Core.Path.{_≡_, refl, sym, _∙_}
+use mathlib.Core.Logic.{_⊎_, inl, inr}
 use mathlib.Core.List.{List}
 use native.Mathlib.Omega.{arith}
-use borrow.Author.Needs.{sfits-of}
-use borrow.Author.Tests.{eq-eqb, ne-eqb, eqb-true}
+use borrow.Author.Tests.{ne-eqb, lt-ltb, le-ltb}
 use lib.ListN.{length, getD, set}
-use lib.Dec.{eqb}
 use lib.Bits.{bitAnd}
 use lib.IntN.{ℤ, pos, negsuc}
-use lib.Signed.{mag}
 use mir.Syntax.{w16}
 use mir.Val.{SFits, toZ, ofZ}
 use mir.Facts.{toZ-ofZ}
+use Rattle.lists.specs.Bools.{every}
 use Rattle.lists.specs.Lists.{table}
 use Rattle.lists.specs.Same.{sameNumber}
-use Rattle.lists.proofs.Bools.{never-both}
+use Rattle.lists.proofs.Counting.{below-or}
 use Rattle.lists.proofs.Tables.{Filled, filled-start, filled-turn, filled-end, getD-table}
 use Rattle.lists.proofs.Same.{sameNumber-true}
-use Rattle.block.specs.Mapping.{Constellation, coordinate, qam4, qam16, standard64, symmetric64, constellation, axis}
+use Rattle.cellbytes.specs.CellBytes.{signed}
+use Rattle.cellbytes.specs.TwosComplement.{twosComplement}
+use Rattle.cellbytes.proofs.Bits.{same-below}
+use Rattle.block.specs.Mapping.{coordinate, qam4, qam16, standard64, symmetric64, constellation, axis}
 use Rattle.block.specs.Reading.{placeOf, labelsOf}
 use Rattle.block.proofs.Mapping.{length-numbers}
 use Rattle.mapping.specs.Labels.{axisLabels}
-use Rattle.mapping.specs.Contracts.{inTable, byDigits, labelsBy, labelBy}
-use Rattle.mapping.proofs.Coordinates.{fitting, fitting-at, axis-even, axis-odd}
-use Rattle.mapping.proofs.Signed.{number-is, number-not, digits-low}
-
--- a rule of both axes
-pub both-axes : (P : ℕ → Type 0) → P 0 → P 1 → (a : ℕ) → a < 2 → P a
-both-axes P p q zero h = p
-both-axes P p q (suc zero) h = q
-both-axes P p q (suc (suc a)) h = absurd (omega arith)
-
--- where both axes of a constellation have one labelling
-pub one-labelling : (K : Constellation) (l : List ℤ) → K .real ≡ l → K .imaginary ≡ l → (a : ℕ) → axis K a ≡ l
-unfolding axis
-one-labelling K l e f a = go (eqb (a % 2) 0)
-  where
-    go : (b : Bool) → cond b (K .real) (K .imaginary) ≡ l
-    go true = e
-    go false = f
+use Rattle.mapping.specs.Contracts.{labelsBy, labelBy}
+use Rattle.mapping.proofs.Coordinates.{both-axes, axis-of}
+use Rattle.mapping.proofs.Signed.{digits-low}
 
 -- none of 7, 5, .. -7
 pub record None (v : ℤ) : Type 0 where
@@ -85,7 +72,7 @@ unfolding placeOf table symmetric64 coordinate
 none-symmetric v n = rw (n .p7, n .n1, n .p5, n .n3, n .p3, n .n5, n .p1, n .n7)
 
 -- the labellings of the constellations are among these four
-data Known : List ℤ → Type 0 where
+pub data Known : List ℤ → Type 0 where
   k4 : Known qam4
   k16 : Known qam16
   standard : Known standard64
@@ -107,86 +94,68 @@ none-known k16 v n = none-qam16 v n
 none-known standard v n = none-standard v n
 none-known symmetric v n = none-symmetric v n
 
--- the label of a number whose digits are k: a table holds it there, or not
-module _ (labels : List ℕ) (known : List ℤ) (v : ℤ) (k : ℕ) (e : k ≡ bitAnd (ofZ w16 v) 15) where
-  pub label-here : ofZ w16 v ≡ ofZ w16 (getD known k (pos 0)) → getD labels k 0 ≡ labelBy labels known v
-  label-here h = rw (eq-eqb (ofZ w16 v) (ofZ w16 (getD known (bitAnd (ofZ w16 v) 15) (pos 0))) (rw e at h), e)
-
-  pub label-none : (ofZ w16 v ≡ ofZ w16 (getD known k (pos 0)) → ⊥) → getD labels 0 0 ≡ labelBy labels known v
-  label-none h = rw (ne-eqb (ofZ w16 v) (ofZ w16 (getD known (bitAnd (ofZ w16 v) 15) (pos 0))) (rw e at h))
-
--- a number that the table of coordinates does not hold at its digits is none of them
-none-of : (v : ℤ) → inTable byDigits v ≡ false → None v
-none-of v h = record {
-  p7 = other (pos 7) refl;
-  p5 = other (pos 5) refl;
-  p3 = other (pos 3) refl;
-  p1 = other (pos 1) refl;
-  n1 = other (negsuc 0) refl;
-  n3 = other (negsuc 2) refl;
-  n5 = other (negsuc 4) refl;
-  n7 = other (negsuc 6) refl;
+-- a number below -8 or above 7 is none of them
+none-above : (n : ℕ) → 8 ≤ n → None (pos n)
+unfolding sameNumber
+none-above n h = record {
+  p7 = ne-eqb 7 n (omega arith);
+  p5 = ne-eqb 5 n (omega arith);
+  p3 = ne-eqb 3 n (omega arith);
+  p1 = ne-eqb 1 n (omega arith);
+  n1 = refl;
+  n3 = refl;
+  n5 = refl;
+  n7 = refl;
 }
-  where
-    other : (w : ℤ) → inTable byDigits w ≡ true → sameNumber w v ≡ false
-    other w o = number-not v w (λ p. never-both (inTable byDigits v) (ap (λ n. eqb n (ofZ w16 (getD byDigits (bitAnd n 15) (pos 0)))) p ∙ o) h)
 
--- and one that it holds there is the coordinate there
-is-held : (v : ℤ) → SFits w16 v → inTable byDigits v ≡ true → v ≡ getD byDigits (bitAnd (ofZ w16 v) 15) (pos 0)
-unfolding fitting
-is-held v f e =
-    number-is v _ f (eqb-true _ _ e) ∙ toZ-ofZ {w = w16} (sfits-of {w = w16} (fitting-at byDigits tt (bitAnd (ofZ w16 v) 15)))
+none-below : (n : ℕ) → 8 ≤ n → None (negsuc n)
+unfolding sameNumber
+none-below n h = record {
+  p7 = refl;
+  p5 = refl;
+  p3 = refl;
+  p1 = refl;
+  n1 = ne-eqb 0 n (omega arith);
+  n3 = ne-eqb 2 n (omega arith);
+  n5 = ne-eqb 4 n (omega arith);
+  n7 = ne-eqb 6 n (omega arith);
+}
+
+-- and one between them is that of its four lowest binary digits
+digits-above : (n : ℕ) → n < 8 → signed (bitAnd (ofZ w16 (pos n)) 15) ≡ pos n
+unfolding signed twosComplement sameNumber every table
+digits-above = same-below (λ n. signed (bitAnd (ofZ w16 (pos n)) 15)) pos 8 refl
+
+digits-below : (n : ℕ) → n < 8 → signed (bitAnd (ofZ w16 (negsuc n)) 15) ≡ negsuc n
+unfolding signed twosComplement sameNumber every table
+digits-below = same-below (λ n. signed (bitAnd (ofZ w16 (negsuc n)) 15)) negsuc 8 refl
 
 -- so its label is found by its digits
-pub number-by : (c a : ℕ) → a < 2 → (v : ℤ) (labels : List ℕ) → SFits w16 v → labels ≡ labelsBy (axis (constellation c) a)
-    → labelBy labels byDigits v ≡ placeOf (axis (constellation c) a) v
-unfolding labelsBy
-number-by c a h v labels f e = go (inTable byDigits v) refl
-  where
-    at : (k : ℕ) → k < 16 → getD labels k 0 ≡ placeOf (axis (constellation c) a) (getD byDigits k (pos 0))
-    at k l = rw (e, getD-table 0 (λ k. placeOf (axis (constellation c) a) (getD byDigits k (pos 0))) 16 k l)
+module _ {l : List ℤ} (known : Known l) {labels : List ℕ} (e : labels ≡ labelsBy l) where
+  held : (v : ℤ) → signed (bitAnd (ofZ w16 v) 15) ≡ v → getD labels (bitAnd (ofZ w16 v) 15) 0 ≡ placeOf l v
+  unfolding labelsBy
+  held v h = rw (e, getD-table 0 (λ k. placeOf l (signed k)) 16 (bitAnd (ofZ w16 v) 15) (digits-low (ofZ w16 v)), h)
 
-    go : (b : Bool) → inTable byDigits v ≡ b → cond b (getD labels (bitAnd (ofZ w16 v) 15) 0) (getD labels 0 0) ≡ placeOf (axis (constellation c) a) v
-    go true p = at (bitAnd (ofZ w16 v) 15) (digits-low (ofZ w16 v)) ∙ ap (placeOf (axis (constellation c) a)) (sym (is-held v f p))
-    go false p = at 0 (omega arith) ∙ sym (none-known (known-axis c a h) v (none-of v p))
+  other : (v : ℤ) → None v → getD labels 0 0 ≡ placeOf l v
+  unfolding labelsBy signed twosComplement
+  other v n = rw (e, getD-table 0 (λ k. placeOf l (signed k)) 16 0 (omega arith)) (sym (none-known known v n))
 
--- a number that was read from a slice of signed 16-bit numbers
-pub number-read : (c a : ℕ) → a < 2 → (v : ℤ) (labels : List ℕ) (r : ℕ) → mag v < 2 ^ 15 → labels ≡ labelsBy (axis (constellation c) a)
-    → r ≡ labelBy labels byDigits (toZ w16 (ofZ w16 v)) → r ≡ placeOf (axis (constellation c) a) v
-number-read c a h v labels r m e f =
-    let s = sfits-of {w = w16} {z = v} m in
-    f ∙ rw (toZ-ofZ {w = w16} s) (number-by c a h v labels s e)
+  pub label-by : (v : ℤ) → labelBy labels v ≡ placeOf l v
+  label-by (pos n) = go (below-or n 8)
+    where
+      go : (n < 8) ⊎ (8 ≤ n) → labelBy labels (pos n) ≡ placeOf l (pos n)
+      go (inl h) = rw (lt-ltb n 8 h) (held (pos n) (digits-above n h))
+      go (inr h) = rw (le-ltb n 8 h) (other (pos n) (none-above n h))
+  label-by (negsuc n) = go (below-or n 8)
+    where
+      go : (n < 8) ⊎ (8 ≤ n) → labelBy labels (negsuc n) ≡ placeOf l (negsuc n)
+      go (inl h) = rw (lt-ltb n 8 h) (held (negsuc n) (digits-below n h))
+      go (inr h) = rw (le-ltb n 8 h) (other (negsuc n) (none-below n h))
 
--- the labelling of a coordinate by its axis
-pub axis-of : (K : Constellation) (k a : ℕ) → a < 2 → axis K (2 * k + a) ≡ axis K a
-axis-of K k = both-axes (λ a. axis K (2 * k + a) ≡ axis K a)
-    (axis-even K (2 * k + 0) (omega arith) ∙ sym (axis-even K 0 refl))
-    (axis-odd K (2 * k + 1) (omega arith) ∙ sym (axis-odd K 1 refl))
-
--- before the turn at cell k of the labels of all coordinates
-pub record Unplacing (c : ℕ) (cells : List ℤ) (d out : List ℕ) (k : ℕ) : Type 0 where
-  pub whole : 2 * k ≤ length d
-  pub filled : Filled 0 (λ j. placeOf (axis (constellation c) j) (getD cells j (pos 0))) d out (2 * k)
-
-pub start : (c : ℕ) (cells : List ℤ) (d : List ℕ) → Unplacing c cells d d 0
-start c cells d = record { whole = omega arith; filled = filled-start 0 _ d }
-
-pub turn : {c : ℕ} {cells : List ℤ} {d out : List ℕ} {k : ℕ} → Unplacing c cells d out k → 2 * k + 1 < length d
-    → (re im : ℕ) → re ≡ placeOf (axis (constellation c) 0) (getD cells (2 * k) (pos 0)) → im ≡ placeOf (axis (constellation c) 1) (getD cells (2 * k + 1) (pos 0))
-    → Unplacing c cells d (set (set out (2 * k) re) (2 * k + 1) im) (k + 1)
-turn {c} {cells} {d} {out} {k} P h re im e f =
-    let K = constellation c in
-    let one = filled-turn 0 _ d out (2 * k) re (omega arith) (e ∙ rw (axis-even K 0 refl, axis-even K (2 * k) (omega arith))) (P .filled) in
-    let two = filled-turn 0 _ d (set out (2 * k) re) (2 * k + 1) im (omega arith) (f ∙ rw (axis-of K k 1 (omega arith))) one in
-    let n : 2 * k + 1 + 1 ≡ 2 * (k + 1) = omega arith in
-    record { whole = omega arith; filled = rw n at two }
-
-pub done : {c : ℕ} {cells : List ℤ} {d out : List ℕ} {k : ℕ} → Unplacing c cells d out k → length d ≡ length cells → length d ≤ 2 * k
-    → out ≡ labelsOf (constellation c) cells
-unfolding labelsOf
-done {c} {cells} {d} {out} {k} P e h =
-    let n : 2 * k ≡ length cells = omega (arith, P .whole) in
-    filled-end 0 _ d out (length cells) e (rw n at (P .filled))
+-- the label of a number that was read from a slice of signed 16-bit numbers, on an axis of a constellation
+pub number-read : (c a : ℕ) → a < 2 → (v : ℤ) (labels : List ℕ) (r : ℕ) → SFits w16 v → labels ≡ labelsBy (axis (constellation c) a)
+    → r ≡ labelBy labels (toZ w16 (ofZ w16 v)) → r ≡ placeOf (axis (constellation c) a) v
+number-read c a h v labels r s e f = f ∙ rw (toZ-ofZ {w = w16} s) (label-by (known-axis c a h) e v)
 
 -- before the turn at cell k of the labels of one axis
 pub record Axis (c a : ℕ) (cells : List ℤ) (d out : List ℕ) (k : ℕ) : Type 0 where
@@ -197,12 +166,12 @@ pub axis-start : (c a : ℕ) (cells : List ℤ) (d : List ℕ) → Axis c a cell
 axis-start c a cells d = record { whole = omega arith; filled = filled-start 0 _ d }
 
 pub axis-turn : {c a : ℕ} {cells : List ℤ} {d out : List ℕ} {k : ℕ} → Axis c a cells d out k → a < 2 → k < length d → length cells ≡ 2 * length d
-    → (j r : ℕ) → j ≡ 2 * k + a → r ≡ placeOf (axis (constellation c) a) (getD cells j (pos 0)) → Axis c a cells d (set out k r) (k + 1)
+    → (r : ℕ) → r ≡ placeOf (axis (constellation c) a) (getD cells (2 * k + a) (pos 0)) → Axis c a cells d (set out k r) (k + 1)
 unfolding labelsOf
-axis-turn {c} {a} {cells} {d} {out} {k} P h m n j r g e =
+axis-turn {c} {a} {cells} {d} {out} {k} P h m n r e =
     let K = constellation c in
     let f = getD-table 0 (λ j. placeOf (axis K j) (getD cells j (pos 0))) (length cells) (2 * k + a) (omega arith) in
-    record { whole = omega arith; filled = filled-turn 0 _ d out k r m (rw g at e ∙ sym (rw (axis-of K k a h) at f)) (P .filled) }
+    record { whole = omega arith; filled = filled-turn 0 _ d out k r m (e ∙ sym (rw (axis-of K k a h) at f)) (P .filled) }
 
 pub axis-done : {c a : ℕ} {cells : List ℤ} {d out : List ℕ} {k : ℕ} → Axis c a cells d out k → length d ≤ k → length cells ≡ 2 * length d
     → out ≡ axisLabels a (labelsOf (constellation c) cells)

@@ -1,7 +1,6 @@
 -- Signed 16-bit numbers by their bits. Assumes nothing.
 use Prim.Native.Nat.{ℕ, _%_, _<_}
-use mathlib.Core.Bool.{Bool, true, false}
-use mathlib.Core.Path.{_≡_, refl, sym, ap, _∙_}
+use mathlib.Core.Path.{_≡_, sym, ap, _∙_}
 use native.Mathlib.Omega.{arith}
 use lib.Dec.{T}
 use lib.Bits.{bitAnd, and-le-r, and-mask}
@@ -10,20 +9,11 @@ use lib.Signed.{nonNeg}
 use mir.Syntax.{w16}
 use mir.Val.{SFits, toZ, ofZ}
 use mir.Facts.{toZ-ofZ}
-use Rattle.lists.specs.Same.{sameNumber}
-use Rattle.lists.proofs.Same.{sameNumber-true, low-digits}
+use Rattle.lists.proofs.Same.{low-digits}
 
 -- bits that are known give the number
 pub number-is : (v : ℤ) (n : ℕ) → SFits w16 v → ofZ w16 v ≡ n → v ≡ toZ w16 n
 number-is v n f e = sym (toZ-ofZ {w = w16} f) ∙ ap (toZ w16) e
-
--- other bits, another number
-pub number-not : (v w : ℤ) → (ofZ w16 v ≡ ofZ w16 w → ⊥) → sameNumber w v ≡ false
-number-not v w h = go (sameNumber w v) refl
-  where
-    go : (b : Bool) → sameNumber w v ≡ b → sameNumber w v ≡ false
-    go true e = absurd (h (ap (ofZ w16) (sym (sameNumber-true w v e))))
-    go false e = e
 
 -- the four lowest binary digits of a number
 pub digits-low : (n : ℕ) → bitAnd n 15 < 16

@@ -1,11 +1,12 @@
 -- What the functions of this crate require of the buffers that they are lent, and promise of them: nothing of 01 is stated here.
 use Prim.Native.Nat.{ℕ, _*_, _%_, _<_, _+_, _-_, _/_}
 use mathlib.Core.Path.{_≡_}
-use mathlib.Core.List.{List, [], _∷_}
+use mathlib.Core.List.{List}
 use lib.ListN.{length, getD}
 use lib.IntN.{ℤ, pos, negsuc}
 use mathlib.Core.Bool.{Bool, cond, _&&_, _||_}
 use lib.Dec.{eqb}
+use lib.Signed.{ltZ}
 use lib.Bits.{bitAnd}
 use mir.Syntax.{w16}
 use mir.Val.{SFits, ofZ}
@@ -19,11 +20,10 @@ use Rattle.cellbytes.specs.CellBytes.{signed}
 pub record ThreeBits (l : List ℕ) : Type 0 where
   pub low : (k : ℕ) → getD l k 0 < 8
 
--- A constellation, whole cells, and a number of level bits for each coordinate.
+-- A constellation whose axes have one labelling, and a number of level bits for each coordinate.
 pub record Maps (c : ℕ) (labels : List ℕ) (out : List ℤ) : Type 0 where
-  pub known : c < 5
+  pub known : c < 4
   pub same : length out ≡ length labels
-  pub whole : length labels % 2 ≡ 0
   pub low : ThreeBits labels
 
 -- A constellation, and a number of level bits of each axis for each cell.
@@ -34,33 +34,24 @@ pub record MapsAxes (c : ℕ) (re im : List ℕ) (out : List ℤ) : Type 0 where
   pub lowReal : ThreeBits re
   pub lowImaginary : ThreeBits im
 
--- A constellation, whole cells, and room for a number for each coordinate.
+-- A constellation whose axes have one labelling, and room for a number for each coordinate.
 pub record Unmaps (c : ℕ) (cells : List ℤ) (out : List ℕ) : Type 0 where
-  pub known : c < 5
+  pub known : c < 4
   pub same : length out ≡ length cells
-  pub whole : length cells % 2 ≡ 0
 
--- A constellation, whole cells, and room for a number of each axis for each cell.
-pub record UnmapsAxes (c : ℕ) (cells : List ℤ) (re im : List ℕ) : Type 0 where
+-- A constellation's axis, whole cells, and room for a number of the axis for each cell.
+pub record UnmapsAxis (c a : ℕ) (cells : List ℤ) (out : List ℕ) : Type 0 where
   pub known : c < 5
-  pub same : length cells ≡ 2 * length re
-  pub both : length im ≡ length re
+  pub axis : a < 2
+  pub same : length cells ≡ 2 * length out
 
--- Number v is the one that a table holds at its four lowest binary digits.
-abbrev pub inTable : List ℤ → ℤ → Bool
-inTable known v = eqb (ofZ w16 v) (ofZ w16 (getD known (bitAnd (ofZ w16 v) 15) (pos 0)))
-
--- The coordinates by their four lowest binary digits, 0 where there is none.
-abbrev pub byDigits : List ℤ
-byDigits = pos 0 ∷ pos 1 ∷ pos 0 ∷ pos 3 ∷ pos 0 ∷ pos 5 ∷ pos 0 ∷ pos 7 ∷ pos 0 ∷ negsuc 6 ∷ pos 0 ∷ negsuc 4 ∷ pos 0 ∷ negsuc 2 ∷ pos 0 ∷ negsuc 0 ∷ []
-
--- The labels of a labelling by these digits; the first one is that of what is no coordinate.
+-- The labels of a labelling by the four lowest binary digits of a number from -8 to 7; the first one is that of what is no coordinate.
 unfoldable pub labelsBy : List ℤ → List ℕ
-labelsBy l = table (λ k. placeOf l (getD byDigits k (pos 0))) 0 16
+labelsBy l = table (λ k. placeOf l (signed k)) 0 16
 
--- The label of number v by its four lowest binary digits; the first one where another number stands in a table there.
-abbrev pub labelBy : List ℕ → List ℤ → ℤ → ℕ
-labelBy labels known v = cond (inTable known v) (getD labels (bitAnd (ofZ w16 v) 15) 0) (getD labels 0 0)
+-- The label of number v by its four lowest binary digits; the first one where v is below -8 or above 7.
+abbrev pub labelBy : List ℕ → ℤ → ℕ
+labelBy labels v = cond (ltZ (negsuc 8) v && ltZ v (pos 8)) (getD labels (bitAnd (ofZ w16 v) 15) 0) (getD labels 0 0)
 
 -- In the places of a mask number v has 1, or all that is there.
 abbrev pub byMask : ℤ → ℤ → Bool

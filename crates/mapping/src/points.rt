@@ -7,86 +7,82 @@ ghost use mir.Val.{ofZ};
 ghost use Rattle.block.specs.Mapping.{constellation, axis, weave};
 ghost use Rattle.block.specs.Reading.{placeOf, labelsOf};
 ghost use Rattle.mapping.specs.Labels.{coordinates, axisLabels};
-ghost use Rattle.mapping.specs.Labellings.{coordinateBy, coordinatesBy, LabelFits, MapsAlike, Labels};
-ghost use Rattle.mapping.specs.Contracts.{labelsBy, labelBy, Maps, MapsAxes, Unmaps, UnmapsAxes};
+ghost use Rattle.mapping.specs.Labellings.{belowTop, coordinateBy, SizeFits, Labels};
+ghost use Rattle.mapping.specs.Contracts.{labelsBy, labelBy, Maps, MapsAxes, Unmaps, UnmapsAxis};
 
-// An axis's labelling in numbers: coordinates go down from size - 1, by times the label and by odd more where that is odd.
+// An axis's labelling: how many coordinates it has, and whether they go down by HMsym's rule.
 struct Labelling {
     size: u8,
-    times: u8,
-    odd: u8,
+    symmetric: bool,
 }
 
 const QAM4: Labelling = Labelling {
     size: 2,
-    times: 2,
-    odd: 0,
+    symmetric: false,
 };
 
 const QAM16: Labelling = Labelling {
     size: 4,
-    times: 2,
-    odd: 0,
+    symmetric: false,
 };
 
 const STANDARD64: Labelling = Labelling {
     size: 8,
-    times: 2,
-    odd: 0,
+    symmetric: false,
 };
 
 const SYMMETRIC64: Labelling = Labelling {
     size: 8,
-    times: 1,
-    odd: 7,
+    symmetric: true,
 };
 
-// The labelling of a constellation's real axis.
-fn real_axis(c: u8) -> Labelling
-    requires { ⌜ c < 5 ⌝ }
-    ensures { λ r. ⌜ Labels (r .size) (r .times) (r .odd) (constellation c .real) ⌝ }
+// The labelling of a constellation's axis: axis 0 is the real, axis 1 the imaginary one.
+fn axis_labelling(c: u8, a: usize) -> Labelling
+    requires { ⌜ (c < 5) × (a < 2) ⌝ }
+    ensures { λ r. ⌜ Labels (r .size) (r .symmetric) (axis (constellation c) a) ⌝ }
 {
     match c {
         0 => QAM4,
         1 => QAM16,
         2 => STANDARD64,
         3 => SYMMETRIC64,
-        4 => SYMMETRIC64,
-        _ => QAM4,
+        _ => {
+            if a == 0 {
+                return SYMMETRIC64;
+            }
+            STANDARD64
+        }
     }
 }
 
-// The labelling of a constellation's imaginary axis.
-fn imaginary_axis(c: u8) -> Labelling
-    requires { ⌜ c < 5 ⌝ }
-    ensures { λ r. ⌜ Labels (r .size) (r .times) (r .odd) (constellation c .imaginary) ⌝ }
+// How far a label's coordinate is below the largest one. With HMsym's rule i0 has the greatest weight.
+fn below_top(symmetric: bool, label: u8) -> u8
+    requires { ⌜ label < 8 ⌝ }
+    ensures { λ r. ⌜ r ≡ belowTop symmetric label ⌝ }
 {
-    match c {
-        0 => QAM4,
-        1 => QAM16,
-        2 => STANDARD64,
-        3 => SYMMETRIC64,
-        4 => STANDARD64,
-        _ => QAM4,
+    if symmetric {
+        return label + 7 * (label % 2);
     }
+    2 * label
 }
 
 // The coordinate of a label: worked out, not looked up, so that many labels are mapped at once.
 fn coordinate_of(l: Labelling, label: u8) -> i16
-    requires { ⌜ LabelFits (l .size) (l .times) (l .odd) label ⌝ }
-    ensures { λ r. ⌜ r ≡ coordinateBy (l .size) (l .times) (l .odd) label ⌝ }
+    requires { ⌜ SizeFits (l .size) × (label < 8) ⌝ }
+    ensures { λ r. ⌜ r ≡ coordinateBy (l .size) (l .symmetric) label ⌝ }
 {
     if label < l.size {
-        return (l.size - 1) as i16 - (l.times * label + l.odd * (label % 2)) as i16;
+        return (l.size - 1) as i16 - below_top(l.symmetric, label) as i16;
     }
     0
 }
 
-// Labels of both axes to coordinates by one labelling.
-fn map_alike(l: Labelling, labels: &[u8], out: &mut [i16])
-    requires { ⌜ MapsAlike (l .size) (l .times) (l .odd) (now labels) (now out) ⌝ }
-    ensures { λ r. ⌜ now (out .exit) ≡ coordinatesBy (l .size) (l .times) (l .odd) (now (labels .entry)) ⌝ }
+// Labels i0 + 2 × i1 + 4 × i2, flat, real before imaginary, to coordinates, where both axes have one labelling.
+pub fn map_cells(c: u8, labels: &[u8], out: &mut [i16])
+    requires { ⌜ Maps c (now labels) (now out) ⌝ }
+    ensures { λ r. ⌜ now (out .exit) ≡ coordinates (constellation c) (now (labels .entry)) ⌝ }
 {
+    let l = axis_labelling(c, 0);
     let mut k = 0;
     while k < labels.len() {
         out[k] = coordinate_of(l, labels[k]);
@@ -94,49 +90,13 @@ fn map_alike(l: Labelling, labels: &[u8], out: &mut [i16])
     }
 }
 
-// Labels of the two axes by turns to coordinates, whatever their labellings.
-fn map_pairs(c: u8, labels: &[u8], out: &mut [i16])
-    requires { ⌜ Maps c (now labels) (now out) ⌝ }
-    ensures { λ r. ⌜ now (out .exit) ≡ coordinates (constellation c) (now (labels .entry)) ⌝ }
-{
-    let real = real_axis(c);
-    let imaginary = imaginary_axis(c);
-    let cells = out.len() / 2;
-    let mut k = 0;
-    while k < cells {
-        out[2 * k] = coordinate_of(real, labels[2 * k]);
-        out[2 * k + 1] = coordinate_of(imaginary, labels[2 * k + 1]);
-        k += 1;
-    }
-}
-
-// Labels i0 + 2 × i1 + 4 × i2, flat, real before imaginary, to coordinates.
-pub fn map_cells(c: u8, labels: &[u8], out: &mut [i16])
-    requires { ⌜ Maps c (now labels) (now out) ⌝ }
-    ensures { λ r. ⌜ now (out .exit) ≡ coordinates (constellation c) (now (labels .entry)) ⌝ }
-{
-    if c == block::QAM16 {
-        map_alike(QAM16, labels, out);
-        return;
-    }
-    if c == block::SM64 {
-        map_alike(STANDARD64, labels, out);
-        return;
-    }
-    if c == block::HMSYM {
-        map_alike(SYMMETRIC64, labels, out);
-        return;
-    }
-    map_pairs(c, labels, out);
-}
-
 // Labels of the real and of the imaginary axis to coordinates.
 pub fn map_axes(c: u8, re: &[u8], im: &[u8], out: &mut [i16])
     requires { ⌜ MapsAxes c (now re) (now im) (now out) ⌝ }
     ensures { λ r. ⌜ now (out .exit) ≡ coordinates (constellation c) (weave (now (re .entry)) (now (im .entry))) ⌝ }
 {
-    let real = real_axis(c);
-    let imaginary = imaginary_axis(c);
+    let real = axis_labelling(c, 0);
+    let imaginary = axis_labelling(c, 1);
     let mut k = 0;
     while k < re.len() {
         out[2 * k] = coordinate_of(real, re[k]);
@@ -144,9 +104,6 @@ pub fn map_axes(c: u8, re: &[u8], im: &[u8], out: &mut [i16])
         k += 1;
     }
 }
-
-// The coordinates by their four lowest binary digits, 0 where there is none.
-const COORDINATES: [i16; 16] = [0, 1, 0, 3, 0, 5, 0, 7, 0, -7, 0, -5, 0, -3, 0, -1];
 
 // The four lowest binary digits of a number.
 fn low_digits(v: i16) -> usize
@@ -183,13 +140,12 @@ fn axis_labels(c: u8, a: usize) -> [u8; 16]
     }
 }
 
-// The number of a coordinate's level bits. By tables, since a processor does not foresee jumps that follow cells.
-fn label_of(labels: &[u8; 16], known: &[i16; 16], v: i16) -> u8
-    ensures { λ r. ⌜ r ≡ labelBy (now (labels .entry)) (now (known .entry)) v ⌝ }
+// The number of a coordinate's level bits. By a table, since a processor does not foresee jumps that follow cells.
+fn label_of(labels: &[u8; 16], v: i16) -> u8
+    ensures { λ r. ⌜ r ≡ labelBy (now (labels .entry)) v ⌝ }
 {
-    let k = low_digits(v);
-    if v == known[k] {
-        return labels[k];
+    if (-9 < v) & (v < 8) {
+        return labels[low_digits(v)];
     }
     labels[0]
 }
@@ -200,40 +156,31 @@ pub fn axis_label(c: u8, a: usize, v: i16) -> u8
     ensures { λ r. ⌜ r ≡ placeOf (axis (constellation c) a) v ⌝ }
 {
     let labels = axis_labels(c, a);
-    let known = COORDINATES;
-    label_of(&labels, &known, v)
+    label_of(&labels, v)
 }
 
-// Coordinates, real before imaginary, back to labels.
+// Coordinates, real before imaginary, back to labels, where both axes have one labelling.
 pub fn unmap_cells(c: u8, cells: &[i16], out: &mut [u8])
     requires { ⌜ Unmaps c (now cells) (now out) ⌝ }
     ensures { λ r. ⌜ now (out .exit) ≡ labelsOf (constellation c) (now (cells .entry)) ⌝ }
 {
-    let real = axis_labels(c, 0);
-    let imaginary = axis_labels(c, 1);
-    let known = COORDINATES;
-    let n = out.len() / 2;
+    let labels = axis_labels(c, 0);
     let mut k = 0;
-    while k < n {
-        out[2 * k] = label_of(&real, &known, cells[2 * k]);
-        out[2 * k + 1] = label_of(&imaginary, &known, cells[2 * k + 1]);
+    while k < out.len() {
+        out[k] = label_of(&labels, cells[k]);
         k += 1;
     }
 }
 
-// The same, where each axis has labels of its own.
-pub fn unmap_axes(c: u8, cells: &[i16], re: &mut [u8], im: &mut [u8])
-    requires { ⌜ UnmapsAxes c (now cells) (now re) (now im) ⌝ }
-    ensures { λ r. ⌜ now (re .exit) ≡ axisLabels 0 (labelsOf (constellation c) (now (cells .entry))) ⌝ }
-    ensures { λ r. ⌜ now (im .exit) ≡ axisLabels 1 (labelsOf (constellation c) (now (cells .entry))) ⌝ }
+// The coordinates of one axis back to its labels.
+pub fn unmap_axis(c: u8, a: usize, cells: &[i16], out: &mut [u8])
+    requires { ⌜ UnmapsAxis c a (now cells) (now out) ⌝ }
+    ensures { λ r. ⌜ now (out .exit) ≡ axisLabels a (labelsOf (constellation c) (now (cells .entry))) ⌝ }
 {
-    let real = axis_labels(c, 0);
-    let imaginary = axis_labels(c, 1);
-    let known = COORDINATES;
+    let labels = axis_labels(c, a);
     let mut k = 0;
-    while k < re.len() {
-        re[k] = label_of(&real, &known, cells[2 * k]);
-        im[k] = label_of(&imaginary, &known, cells[2 * k + 1]);
+    while k < out.len() {
+        out[k] = label_of(&labels, cells[2 * k + a]);
         k += 1;
     }
 }

@@ -10,7 +10,7 @@ use Rattle.blockcoder.proofs.candidate.read_both.Statement.{statement}
 use Rattle.blockcoder.proofs.candidate.read_both.Tie as tie
 
 unmap-cells-requires : tie.Need-unmap-cells-requires
-unmap-cells-requires c κs = let p = c .before .before .before .before .before .pre .0 .0 in unmaps p (length-start _ _ (omega (arith, cells-low p, c .before .cell-buffer .ensures .long)))
+unmap-cells-requires c κs = let p = c .before .before .before .before .before .pre .0 in unmaps (p .0) (p .1) (length-start _ _ (omega (arith, cells-low (p .0), c .before .cell-buffer .ensures .long)))
 
 part-end : tie.Need-part-read-levels-end
 part-end c =

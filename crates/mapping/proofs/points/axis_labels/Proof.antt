@@ -4,14 +4,16 @@ use native.Mathlib.Omega.{arith}
 use Rattle.lists.specs.Lists.{table}
 use Rattle.block.specs.Mapping.{coordinate, qam4, qam16, standard64, symmetric64, constellation, axis}
 use Rattle.lists.specs.Same.{sameNumber}
+use Rattle.cellbytes.specs.CellBytes.{signed}
+use Rattle.cellbytes.specs.TwosComplement.{twosComplement}
 use Rattle.block.specs.Reading.{placeOf}
 use Rattle.mapping.specs.Contracts.{labelsBy}
-use Rattle.mapping.proofs.Labels.{one-labelling}
+use Rattle.mapping.proofs.Coordinates.{one-labelling}
 use Rattle.mapping.proofs.points.axis_labels.Statement.{statement}
 use Rattle.mapping.proofs.points.axis_labels.Tie as tie
 
 pub axis-labels-spec : {M : Type 1} → statement M
-unfolding table constellation axis coordinate qam4 qam16 standard64 symmetric64 labelsBy placeOf sameNumber
+unfolding table constellation axis coordinate qam4 qam16 standard64 symmetric64 labelsBy placeOf sameNumber signed twosComplement
 axis-labels-spec =
     tie.close
     (tie.spec

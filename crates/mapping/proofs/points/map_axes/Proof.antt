@@ -24,12 +24,12 @@ loop-holds c = start _ _ _ (c .before .before .before .before .pre .same ∙ sym
 coordinate-of-requires : tie.Need-coordinate-of-requires Inv-loop μ-loop
 coordinate-of-requires c κs =
     let l = c .before .before in
-    record { labelling = l .before .before .real-axis .ensures .fits; low = l .before .before .before .before .before .pre .lowReal .low (l .loop .k) }
+    (l .before .before .axis-labelling .ensures .fits, l .before .before .before .before .before .pre .lowReal .low (l .loop .k))
 
 coordinate-of-requires-2 : tie.Need-coordinate-of-requires-2 Inv-loop μ-loop
 coordinate-of-requires-2 c κs =
     let l = c .before .before .before .before in
-    record { labelling = l .before .imaginary-axis .ensures .fits; low = l .before .before .before .before .before .pre .lowImaginary .low (l .loop .k) }
+    (l .before .axis-labelling2 .ensures .fits, l .before .before .before .before .before .pre .lowImaginary .low (l .loop .k))
 
 loop-again : tie.Need-loop-again Inv-loop μ-loop
 loop-again c =
@@ -45,8 +45,8 @@ loop-again c =
     _
     (sym (weave-even (s .args .re .now) (s .args .im .now) k (search needs)))
     (sym (weave-odd (s .args .re .now) (s .args .im .now) k (search needs)))
-    (toZ-ofZ {w = w16} (sfits-of {w = w16} (one .ok)) ∙ one .ensures ∙ l .before .before .real-axis .ensures .each _ (s .pre .lowReal .low k))
-    (toZ-ofZ {w = w16} (sfits-of {w = w16} (two .ok)) ∙ two .ensures ∙ l .before .imaginary-axis .ensures .each _ (s .pre .lowImaginary .low k))
+    (toZ-ofZ {w = w16} (sfits-of {w = w16} (one .ok)) ∙ one .ensures ∙ l .before .before .axis-labelling .ensures .each _ (s .pre .lowReal .low k))
+    (toZ-ofZ {w = w16} (sfits-of {w = w16} (two .ok)) ∙ two .ensures ∙ l .before .axis-labelling2 .ensures .each _ (s .pre .lowImaginary .low k))
 
 pub map-axes-spec : {M : Type 1} → statement M
 map-axes-spec =
