@@ -7,39 +7,45 @@ ghost use mir.Val.{ofZ};
 ghost use Rattle.block.specs.Mapping.{constellation, axis, weave};
 ghost use Rattle.block.specs.Reading.{placeOf, labelsOf};
 ghost use Rattle.mapping.specs.Labels.{coordinates, axisLabels};
-ghost use Rattle.mapping.specs.Labellings.{belowTop, coordinateBy, SizeFits, Labels};
+ghost use Rattle.mapping.specs.Labellings.{coordinateBy, LabellingFits, Labels};
 ghost use Rattle.mapping.specs.Contracts.{labelsBy, labelBy, Maps, MapsAxes, Unmaps, UnmapsAxis};
 
-// An axis's labelling: how many coordinates it has, and whether they go down by HMsym's rule.
+// An axis's labelling in numbers: coordinates go down from size - 1, by the label, by its bits that `twice` has once more, and by 7 more for each that
+// `odd` has.
 struct Labelling {
     size: u8,
-    symmetric: bool,
+    twice: u8,
+    odd: u8,
 }
 
 const QAM4: Labelling = Labelling {
     size: 2,
-    symmetric: false,
+    twice: 7,
+    odd: 0,
 };
 
 const QAM16: Labelling = Labelling {
     size: 4,
-    symmetric: false,
+    twice: 7,
+    odd: 0,
 };
 
 const STANDARD64: Labelling = Labelling {
     size: 8,
-    symmetric: false,
+    twice: 7,
+    odd: 0,
 };
 
 const SYMMETRIC64: Labelling = Labelling {
     size: 8,
-    symmetric: true,
+    twice: 0,
+    odd: 1,
 };
 
 // The labelling of a constellation's axis: axis 0 is the real, axis 1 the imaginary one.
 fn axis_labelling(c: u8, a: usize) -> Labelling
     requires { ⌜ (c < 5) × (a < 2) ⌝ }
-    ensures { λ r. ⌜ Labels (r .size) (r .symmetric) (axis (constellation c) a) ⌝ }
+    ensures { λ r. ⌜ Labels (r .size) (r .twice) (r .odd) (axis (constellation c) a) ⌝ }
 {
     match c {
         0 => QAM4,
@@ -55,24 +61,13 @@ fn axis_labelling(c: u8, a: usize) -> Labelling
     }
 }
 
-// How far a label's coordinate is below the largest one. With HMsym's rule i0 has the greatest weight.
-fn below_top(symmetric: bool, label: u8) -> u8
-    requires { ⌜ label < 8 ⌝ }
-    ensures { λ r. ⌜ r ≡ belowTop symmetric label ⌝ }
-{
-    if symmetric {
-        return label + 7 * (label % 2);
-    }
-    2 * label
-}
-
 // The coordinate of a label: worked out, not looked up, so that many labels are mapped at once.
 fn coordinate_of(l: Labelling, label: u8) -> i16
-    requires { ⌜ SizeFits (l .size) × (label < 8) ⌝ }
-    ensures { λ r. ⌜ r ≡ coordinateBy (l .size) (l .symmetric) label ⌝ }
+    requires { ⌜ LabellingFits (l .size) (l .odd) × (label < 8) ⌝ }
+    ensures { λ r. ⌜ r ≡ coordinateBy (l .size) (l .twice) (l .odd) label ⌝ }
 {
     if label < l.size {
-        return (l.size - 1) as i16 - below_top(l.symmetric, label) as i16;
+        return (l.size - 1) as i16 - (label + (label & l.twice) + 7 * (label & l.odd)) as i16;
     }
     0
 }
