@@ -201,17 +201,21 @@ module _ {p : List ℕ} {s : ℕ} {l : List ℕ} {first pairs : ℕ} {out : List
     pub lays-rounds : LaysRounds p (take (2 * pairs * length p - 0) (rs ++ drop (2 * pairs * length p - 0) buffer)) (2 * pairs) out at s
     lays-rounds = rw lent (record { sound = E .sound; round = E .round; some = E .some; reads = omega (arith, long); writes = E .room })
 
+    registers-are : (k : ℕ) → k < 2 * pairs * length p → getD rs k 0 ≡ registerAt l (suc (first - 7 + k))
+    registers-are k i =
+        let y : first - 6 + k ≡ suc (first - 7 + k) = omega (arith, E .begun) in
+        let z : k < length (take (2 * pairs * length p - 0) buffer) = rw (length-start (2 * pairs * length p) buffer buffer-there) i in
+        ap (λ x. getD x k 0) e ∙ getD-table 0 (λ k. registerAt l (first - 6 + k)) (length (take (2 * pairs * length p - 0) buffer)) k z ∙ ap (registerAt l) y
+
     -- the columns give what the bits give one by one
+    rounds-laid : roundsLaid p rs (length p) (2 * pairs) out at s ≡ sets out at (encode p (registerAt l (first - 7)) 0 (take (2 * pairs * length p) (drop first l)))
+    unfolding roundsLaid
+    rounds-laid =
+        let f : first - 7 + 7 ≡ first = omega (arith, E .begun) in
+        rw (E .round)
+        (rounds-coded (E .sound) (E .input) (λ k. getD rs k 0) (2 * pairs) (first - 7) out at (omega (arith, E .there, E .begun)) registers-are
+        ∙ ap (λ x. sets out at (encode p (registerAt l (first - 7)) 0 (take (2 * pairs * length p) (drop x l)))) f)
+
     pub rounds-done : {d : List ℕ} → d ≡ roundsLaid p (take (2 * pairs * length p - 0) (rs ++ drop (2 * pairs * length p - 0) buffer)) (length p) (2 * pairs) out at s
         → d ≡ sets out at (encode p (registerAt l (first - 7)) 0 (take (2 * pairs * length p) (drop first l)))
-    unfolding roundsLaid
-    rounds-done h =
-        let f : first - 7 + 7 ≡ first = omega (arith, E .begun) in
-        let g : (k : ℕ) → k < 2 * pairs * length p → getD rs k 0 ≡ registerAt l (suc (first - 7 + k)) =
-        λ k i.
-        let y : first - 6 + k ≡ suc (first - 7 + k) = omega (arith, E .begun) in
-        let z : k < length (take (2 * pairs * length p - 0) buffer) = rw (length-start (2 * pairs * length p) buffer (omega (arith, b, E .few))) i in
-        ap (λ x. getD x k 0) e ∙ getD-table 0 (λ k. registerAt l (first - 6 + k)) (length (take (2 * pairs * length p - 0) buffer)) k z ∙ ap (registerAt l) y in
-        h ∙ rw (lent, E .round)
-        (rounds-coded (E .sound) (E .input) (λ k. getD rs k 0) (2 * pairs) (first - 7) out at (omega (arith, E .there, E .begun)) g
-        ∙ ap (λ x. sets out at (encode p (registerAt l (first - 7)) 0 (take (2 * pairs * length p) (drop x l)))) f)
+    rounds-done h = rw lent at h ∙ rounds-laid
