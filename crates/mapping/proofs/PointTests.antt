@@ -23,10 +23,10 @@ use Rattle.lists.proofs.Tables.{table-ext}
 use Rattle.lists.proofs.Bools.{never-both}
 use Rattle.lists.proofs.Same.{sameNumber-refl, sameNumber-true}
 use Rattle.block.specs.Mapping.{coordinate, qam4, qam16, standard64, symmetric64, constellation, axis}
-use Rattle.block.specs.Points.{isEmpty, onAxis, isPoint, arePoints}
+use Rattle.block.specs.Points.{onAxis, isPoint, arePoints}
 use Rattle.mapping.specs.declared.PointTest.{PointTest}
 use Rattle.mapping.specs.PointTests.{cellPasses, pointsPass, allCells, pointsOnly}
-use Rattle.mapping.specs.Contracts.{byMask, Masks}
+use Rattle.mapping.specs.Contracts.{byMask, Masks, Finds}
 use Rattle.mapping.proofs.Coordinates.{axis-even, axis-odd}
 use Rattle.mapping.proofs.Labels.{None, coordinates-all}
 use Rattle.mapping.proofs.Signed.{number-is}
@@ -179,15 +179,9 @@ zero-bits v f = go (sameNumber (pos 0) v) refl
 
 -- what the code finds of cell i
 pub cell-read : (test : PointTest) (cells : List ℤ) (i delay : ℕ) (mask : ℤ) (r : Bool) → Masks (test .constellation) mask → delay ≡ i % test .depth
-    → mag (getD cells (2 * i) (pos 0)) < 2 ^ 15 → mag (getD cells (2 * i + 1) (pos 0)) < 2 ^ 15
-    → r ≡ (test .blank && isEmpty (toZ w16 (ofZ w16 (getD cells (2 * i) (pos 0)))) (toZ w16 (ofZ w16 (getD cells (2 * i + 1) (pos 0)))))
-    || (byMask (toZ w16 (ofZ w16 mask)) (toZ w16 (ofZ w16 (getD cells (2 * i) (pos 0)))) && byMask (toZ w16 (ofZ w16 mask)) (toZ w16 (ofZ w16 (getD cells (2 * i + 1) (pos 0)))))
-    → (ltb (test .count) delay || r) ≡ cellPasses test cells i
-unfolding cellPasses isPoint
-cell-read test cells i delay mask r M e f g p =
-    let f = sfits-of {w = w16} {z = getD cells (2 * i) (pos 0)} f in
-    let g = sfits-of {w = w16} {z = getD cells (2 * i + 1) (pos 0)} g in
-    rw (p, e, toZ-ofZ {w = w16} (M .fits), toZ-ofZ {w = w16} f, toZ-ofZ {w = w16} g, M .real _ f, M .imaginary _ g)
+    → Finds (toZ w16 (ofZ w16 mask)) (test .blank) cells i r → (ltb (test .count) delay || r) ≡ cellPasses test cells i
+unfolding cellPasses
+cell-read test cells i delay mask r M e F = rw (e, F .found (test .constellation) (rw (toZ-ofZ {w = w16} (M .fits)) M))
 
 -- where the count has reached every delay, no cell is ignored
 none-ignored : (test : PointTest) (cells : List ℤ) (i : ℕ) → 0 < test .depth → test .depth - 1 ≤ test .count

@@ -1,12 +1,11 @@
 // The one test of points: FAC and SDC cells, sent rows (refusal 13) and memory (refusal 12). 01 "Operations".
 use crate::PointTest;
 ghost use mathlib.Core.Path.{_≡_};
-ghost use mathlib.Core.Bool.{_&&_, _||_};
-ghost use Prim.Native.Nat.{_+_, _%_, _<_};
+ghost use Prim.Native.Nat.{_+_, _*_, _%_, _<_};
+ghost use lib.ListN.{length};
 ghost use Rattle.cellbytes.specs.CellBytes.{numbers};
-ghost use Rattle.block.specs.Points.{isEmpty};
 ghost use Rattle.mapping.specs.PointTests.{pointsPass, allCells};
-ghost use Rattle.mapping.specs.Contracts.{byMask, Masks, halfPasses, bytePasses, Reaches};
+ghost use Rattle.mapping.specs.Contracts.{byMask, Masks, Finds, halfPasses, bytePasses, Reaches};
 
 // The mask by which the coordinates of a constellation are told: in its places they have 1, or all that is there.
 fn mask_of(c: u8) -> i16
@@ -28,10 +27,13 @@ fn is_coordinate(mask: i16, v: i16) -> bool
     (v & mask == 1) | (v & mask == mask)
 }
 
-// A cell is a point, or (0, 0) where such cells pass.
-fn cell_passes(mask: i16, blank: bool, re: i16, im: i16) -> bool
-    ensures { λ r. ⌜ r ≡ (blank && isEmpty re im) || (byMask mask re && byMask mask im) ⌝ }
+// Cell i is a point, or (0, 0) where such cells pass.
+fn cell_passes(mask: i16, blank: bool, cells: &[i16], i: usize) -> bool
+    requires { ⌜ 2 * i + 1 < length (now cells) ⌝ }
+    ensures { λ r. ⌜ Finds mask blank (now (cells .entry)) i r ⌝ }
 {
+    let re = cells[2 * i];
+    let im = cells[2 * i + 1];
     (blank & ((re == 0) & (im == 0))) | (is_coordinate(mask, re) & is_coordinate(mask, im))
 }
 
@@ -55,7 +57,7 @@ fn all_pass(c: u8, blank: bool, cells: &[i16]) -> bool
     let mut passed = true;
     let mut i = 0;
     while i < n {
-        passed = passed & cell_passes(mask, blank, cells[2 * i], cells[2 * i + 1]);
+        passed = passed & cell_passes(mask, blank, cells, i);
         i += 1;
     }
     passed
@@ -72,9 +74,7 @@ fn some_pass(test: PointTest, cells: &[i16]) -> bool
     let mut delay = 0;
     let mut i = 0;
     while i < n {
-        passed = passed
-            & ((test.count < delay)
-                | cell_passes(mask, test.blank, cells[2 * i], cells[2 * i + 1]));
+        passed = passed & ((test.count < delay) | cell_passes(mask, test.blank, cells, i));
         delay = next_delay(test.depth, delay);
         i += 1;
     }

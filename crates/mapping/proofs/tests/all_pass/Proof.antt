@@ -17,10 +17,10 @@ abbrev μ-loop : tie.MeasureT-loop
 
 loop-again : tie.Need-loop-again Inv-loop μ-loop
 loop-again c =
-    let l = c .before .before .before .before in
+    let l = c .before .before in
     let a = l .before .before .args in
     passed-turn _ _ _ _ _ (search needs)
-    (cell-read (allCells (a .c) (a .blank)) _ (l .loop .i) 0 _ _ (l .before .mask-of .ensures) (sym (mod-one _)) (search needs) (search needs) (c .cell-passes .ensures))
+    (cell-read (allCells (a .c) (a .blank)) _ (l .loop .i) 0 _ _ (l .before .mask-of .ensures) (sym (mod-one _)) (c .cell-passes .ensures))
     (l .loop .inv)
 
 returns : tie.Need-returns Inv-loop μ-loop
@@ -29,6 +29,5 @@ returns c = passed-end _ _ _ _ (c .loop-test .left) (c .before .loop .inv)
 
 pub all-pass-spec : {M : Type 1} → statement M
 all-pass-spec =
-    tie.close (tie.spec Inv-loop μ-loop (λ c κs. search needs) (λ c. passed-start _ _) (λ c. search needs) (λ c. search needs) (λ c. search needs)
-    (λ c. search needs) (λ c. search needs) (λ c. search needs) (λ c. search needs) (λ c κs. search needs) (λ c. search needs) (λ c. search needs)
+    tie.close (tie.spec Inv-loop μ-loop (λ c κs. search needs) (λ c. passed-start _ _) (λ c κs. search needs) (λ c. search needs) (λ c. search needs)
     loop-again returns)

@@ -17,10 +17,10 @@ abbrev μ-loop : tie.MeasureT-loop
 
 loop-again : tie.Need-loop-again Inv-loop μ-loop
 loop-again c =
-    let l = c .before .before .before .before .before .before in
+    let l = c .before .before .before .before in
     let start = l .before .before in (
       passed-turn _ _ _ _ _ (search needs)
-          (cell-read (start .args .test) _ (l .loop .i) _ _ _ (l .before .mask-of .ensures) (l .loop .inv .1) (search needs) (search needs) (c .before .cell-passes .ensures))
+          (cell-read (start .args .test) _ (l .loop .i) _ _ _ (l .before .mask-of .ensures) (l .loop .inv .1) (c .before .cell-passes .ensures))
           (l .loop .inv .0),
       delay-next _ _ _ _ (l .loop .inv .1) (c .next-delay .ensures),
     )
@@ -31,7 +31,5 @@ returns c = passed-end _ _ _ _ (c .loop-test .left) (c .before .loop .inv .0)
 
 pub some-pass-spec : {M : Type 1} → statement M
 some-pass-spec =
-    tie.close (tie.spec Inv-loop μ-loop (λ c κs. search needs) (λ c. (passed-start _ _, sym (mod-eq-of-lt (search needs)))) (λ c. search needs)
-    (λ c. search needs) (λ c. search needs) (λ c. search needs) (λ c. search needs) (λ c. search needs) (λ c. search needs) (λ c κs. search needs)
-    (λ c κs. rw (c .before .before .before .before .before .loop .inv .1) (mod-lt _ (search needs))) (λ c. search needs) (λ c. search needs)
-    loop-again returns)
+    tie.close (tie.spec Inv-loop μ-loop (λ c κs. search needs) (λ c. (passed-start _ _, sym (mod-eq-of-lt (search needs)))) (λ c κs. search needs)
+    (λ c κs. rw (c .before .before .before .loop .inv .1) (mod-lt _ (search needs))) (λ c. search needs) (λ c. search needs) loop-again returns)
