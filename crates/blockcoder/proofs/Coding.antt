@@ -6,8 +6,10 @@ use mathlib.Core.Bool.{true, false}
 use mathlib.Core.List.{List, _++_}
 use native.Mathlib.Omega.{arith}
 use lib.ListN.{length, getD, take, drop, List·getD-eq-default}
+use lib.Seq.{take-at, drop-at}
 use lib.Pow.{pow-mono}
 use lib.IntN.{ℤ}
+use borrow.Rule.Slice.PartMut.{putMid, mid-len, same-len-mid}
 use Rattle.lists.specs.Lists.{table}
 use Rattle.lists.specs.Bytes.{bytesFor}
 use Rattle.component.proofs.Bits.{bits-drop}
@@ -23,13 +25,13 @@ use Rattle.block.specs.Mapping.{constellation, labelAt, mapped, weave, woven}
 use Rattle.mapping.specs.Labels.{coordinates}
 use Rattle.mapping.specs.Contracts.{ThreeBits}
 use Rattle.block.specs.Block.{levelsOf, pointsOf, oneAxis, bitCount, streamsOf, cellsOf, cellsFrom}
-use Rattle.multilevel.specs.Contracts.{bitsBefore, streamAt, stepped, BlockOrder, CodesLevels}
+use Rattle.multilevel.specs.Contracts.{bitsBefore, streamAt, stepped, BlockOrder, CodesLevels, labelsFrom, shared}
 use Rattle.multilevel.proofs.Totals.{total-A, all-bits, streams-are, length-streamAt, number-low}
 use Rattle.block.proofs.Lists.{bits-take}
 use Rattle.block.proofs.Packing.{length-unpacked}
 use Rattle.block.proofs.Dispersal.{length-dispersedParts, bits-dispersedParts, from-first}
 use Rattle.packing.specs.Contracts.{Unpacks}
-use Rattle.blockcoder.specs.Contracts.{cellsBy, CodesParts, CodesBits, MapsParts, MapsAxesParts}
+use Rattle.blockcoder.specs.Contracts.{cellsBy, HasRoom, CodesParts, CodesBits, MapsParts, MapsAxesParts}
 use Rattle.block.specs.Fits.{BlockLent}
 use Rattle.blockcoder.proofs.Axes.{few, alike-low, both-levels, axis, cells-low, pairs, twice, axis-levels}
 use Rattle.blockcoder.proofs.Woven.{mapped-labels, labels-woven}
@@ -46,17 +48,36 @@ labels-low ls a b l s m n h = record { low = λ k. go k (below-or k n) }
     go k (inr i) = rw (List·getD-eq-default (table f 0 n) 0 {n = k} (rw (length-table f 0 n) i)) (omega arith)
 
 -- levels that go to both axes
-module _ {k : Block} {a b : List ℕ} {out : List ℤ} (C : CodesParts k a b out) (one : oneAxis k ≡ false) where
+module _ {k : Block} {a b room coded : List ℕ} {out : List ℤ} (C : CodesParts k a b room coded out) (one : oneAxis k ≡ false) where
   pub out-low : length out ≤ 12236
   out-low = omega (arith, C .cells, C .fits .most)
 
-  -- they can be coded
-  pub codes-both : {order labels : List ℕ} → BlockOrder k order → length labels ≡ length out → CodesLevels (oneAxis k) (k .levels) 0 1 (k .count) order a b labels
-  codes-both O e = record { few = both-levels (C .fits) one (C .parts) O (e ∙ C .cells); inputA = C .inputA; inputB = C .inputB }
+  pub labels-room : length out ≤ length room
+  labels-room = omega (arith, C .cells, C .room .labelled)
 
-  module _ {labels : List ℕ} (e : labels ≡ table (labelAt (stepped (streamAt (k .levels) a b) 0 1 (k .count))) 0 (length out)) where
+  all-digits : k .count / shared k ≡ k .count
+  all-digits = rw one (omega arith)
+
+  -- they can be coded
+  pub codes-both : {order labels : List ℕ} → BlockOrder k order → length labels ≡ length out → CodesLevels k 0 order a b coded labels
+  codes-both {labels = labels} O e =
+      record {
+        few = rw (all-digits, one) (rw one at (both-levels (C .fits) one {labels = labels} (C .parts) O (e ∙ C .cells)));
+        inputA = C .inputA;
+        inputB = C .inputB;
+        buffer = omega (arith, e, C .cells, C .room .level);
+      }
+
+  both-labels : {labels : List ℕ} → labels ≡ labelsFrom k 0 a b (length out) → labels ≡ table (labelAt (stepped (streamAt (k .levels) a b) 0 1 (k .count))) 0 (length out)
+  unfolding labelsFrom
+  both-labels f = f ∙ rw (all-digits, one)
+
+  module _ {labels : List ℕ} (d : labels ≡ labelsFrom k 0 a b (length out)) where
+    both-table : labels ≡ table (labelAt (stepped (streamAt (k .levels) a b) 0 1 (k .count))) 0 (length out)
+    both-table = both-labels d
+
     same-count : length labels ≡ length out
-    same-count = rw e (length-table _ 0 (length out))
+    same-count = rw both-table (length-table _ 0 (length out))
 
     -- and their labels mapped
     pub maps-both : MapsParts (k .constellation) (k .parta) labels out
@@ -66,29 +87,58 @@ module _ {k : Block} {a b : List ℕ} {out : List ℤ} (C : CodesParts k a b out
           same = sym same-count;
           part = rw same-count (omega (arith, C .cells, C .fits .part));
           high = rw same-count (omega (arith, out-low));
-          low = rw e (labels-low (k .levels) a b 0 1 (k .count) (length out) (few (C .fits) one));
+          low = rw both-table (labels-low (k .levels) a b 0 1 (k .count) (length out) (few (C .fits) one));
         }
 
     -- to the cells
     pub mapped-both : {out′ : List ℤ} → out′ ≡ coordinates (constellation (k .constellation)) labels
         → out′ ≡ mapped (pointsOf k) (2 * k .cells) (streams (levelsOf k) a b)
     unfolding pointsOf
-    mapped-both f = f ∙ rw (e, streams-are (C .fits) a b, C .cells) (mapped-labels (constellation (k .constellation)) (2 * k .cells) _)
+    mapped-both f = f ∙ rw (both-table, streams-are (C .fits) a b, C .cells) (mapped-labels (constellation (k .constellation)) (2 * k .cells) _)
+
+  -- written to the front of their buffer, they are read again from there
+  module _ {part : List ℕ} (d : part ≡ labelsFrom k 0 a b (length (take (length out - 0) room))) where
+    part-is : part ≡ labelsFrom k 0 a b (length out)
+    part-is = d ∙ ap (labelsFrom k 0 a b) (length-start (length out) room labels-room)
+
+    part-long : length part ≡ length out
+    unfolding labelsFrom
+    part-long = rw part-is (length-table _ 0 (length out))
+
+    pub labels-kept : length (part ++ drop (length out - 0) room) ≡ length room
+    labels-kept = length-written room part (length out) labels-room part-long
+
+    pub labels-again : take (length out - 0) (part ++ drop (length out - 0) room) ≡ labelsFrom k 0 a b (length out)
+    labels-again = written-front part room (length out) part-long ∙ part-is
 
 -- levels that go to one axis
-module _ {k : Block} {a b : List ℕ} {out : List ℤ} (C : CodesParts k a b out) (one : oneAxis k ≡ true) where
+module _ {k : Block} {a b room coded : List ℕ} {out : List ℤ} (C : CodesParts k a b room coded out) (one : oneAxis k ≡ true) where
   -- those of the real axis can be coded, and those of the imaginary one
-  pub codes-axis : {order labels : List ℕ} → BlockOrder k order → (l : ℕ) → l ≤ 1 → length labels ≡ k .cells → CodesLevels (oneAxis k) (k .levels) l 2 (k .count / 2) order a b labels
-  codes-axis O l h e = record { few = axis-levels (C .fits) one (C .parts) O l h e; inputA = C .inputA; inputB = C .inputB }
+  pub codes-axis : {order used labels : List ℕ} → BlockOrder k order → (l : ℕ) → l ≤ 1 → length labels ≡ k .cells → length used ≡ length coded → CodesLevels k l order a b used labels
+  codes-axis {labels = labels} O l h j g =
+      record {
+        few = rw one (rw one at (axis-levels (C .fits) one {labels = labels} (C .parts) O l h j));
+        inputA = C .inputA;
+        inputB = C .inputB;
+        buffer = omega (arith, j, g, C .room .level);
+      }
 
-  module _ {re im : List ℕ}
-      (e : re ≡ table (labelAt (stepped (streamAt (k .levels) a b) 0 2 (k .count / 2))) 0 (k .cells))
-      (f : im ≡ table (labelAt (stepped (streamAt (k .levels) a b) 1 2 (k .count / 2))) 0 (k .cells)) where
+  axis-labels : (l : ℕ) → labelsFrom k l a b (k .cells) ≡ table (labelAt (stepped (streamAt (k .levels) a b) l 2 (k .count / 2))) 0 (k .cells)
+  unfolding labelsFrom
+  axis-labels l = rw one
+
+  module _ {re im : List ℕ} (d : re ≡ labelsFrom k 0 a b (k .cells)) (g : im ≡ labelsFrom k 1 a b (k .cells)) where
+    real-table : re ≡ table (labelAt (stepped (streamAt (k .levels) a b) 0 2 (k .count / 2))) 0 (k .cells)
+    real-table = d ∙ axis-labels 0
+
+    imaginary-table : im ≡ table (labelAt (stepped (streamAt (k .levels) a b) 1 2 (k .count / 2))) 0 (k .cells)
+    imaginary-table = g ∙ axis-labels 1
+
     real-count : length re ≡ k .cells
-    real-count = rw e (length-table _ 0 (k .cells))
+    real-count = rw real-table (length-table _ 0 (k .cells))
 
     imaginary-count : length im ≡ k .cells
-    imaginary-count = rw f (length-table _ 0 (k .cells))
+    imaginary-count = rw imaginary-table (length-table _ 0 (k .cells))
 
     -- their labels can be mapped
     pub maps-both-axes : MapsAxesParts (k .constellation) (k .parta) re im out
@@ -99,21 +149,67 @@ module _ {k : Block} {a b : List ℕ} {out : List ℤ} (C : CodesParts k a b out
           both = imaginary-count ∙ sym real-count;
           part = rw real-count (C .fits .part);
           high = rw real-count (omega (arith, cells-low (C .fits) one));
-          lowReal = rw e (labels-low (k .levels) a b 0 2 (k .count / 2) (k .cells) (pairs (C .fits) one));
-          lowImaginary = rw f (labels-low (k .levels) a b 1 2 (k .count / 2) (k .cells) (pairs (C .fits) one));
+          lowReal = rw real-table (labels-low (k .levels) a b 0 2 (k .count / 2) (k .cells) (pairs (C .fits) one));
+          lowImaginary = rw imaginary-table (labels-low (k .levels) a b 1 2 (k .count / 2) (k .cells) (pairs (C .fits) one));
         }
 
     -- to the cells
     pub mapped-axes : {out′ : List ℤ} → out′ ≡ coordinates (constellation (k .constellation)) (weave re im)
         → out′ ≡ mapped (pointsOf k) (2 * k .cells) (woven (streams (levelsOf k) a b))
     unfolding pointsOf
-    mapped-axes g =
+    mapped-axes h =
         let S = streamAt (k .levels) a b in
         let w : weave re im ≡ table (labelAt (woven (stepped S 0 1 (k .count)))) 0 (2 * k .cells) =
-        rw (e, f)
-        (labels-woven S (k .cells) (k .count / 2) (λ i h. length-streamAt (C .fits) (C .parts) (axis (C .fits) one) (cells-low (C .fits) one) (C .inputA) (C .inputB) i (omega (arith, twice (C .fits) one)))
+        rw (real-table, imaginary-table)
+        (labels-woven S (k .cells) (k .count / 2) (λ i j. length-streamAt (C .fits) (C .parts) (axis (C .fits) one) (cells-low (C .fits) one) (C .inputA) (C .inputB) i (omega (arith, twice (C .fits) one)))
         ∙ ap (λ m. table (labelAt (woven (stepped S 0 1 m))) 0 (2 * k .cells)) (twice (C .fits) one)) in
-        g ∙ rw (w, streams-are (C .fits) a b) (mapped-labels (constellation (k .constellation)) (2 * k .cells) _)
+        h ∙ rw (w, streams-are (C .fits) a b) (mapped-labels (constellation (k .constellation)) (2 * k .cells) _)
+
+-- the labels of the real axis at the front of their buffer, and those of the imaginary one behind them
+module _ {k : Block} {a b room coded : List ℕ} {out : List ℤ} (C : CodesParts k a b room coded out) where
+  pub axis-room : k .cells ≤ length room
+  axis-room = omega (arith, C .room .labelled)
+
+  module _ {re : List ℕ} (d : re ≡ labelsFrom k 0 a b (length (take (k .cells - 0) room))) where
+    real-is : re ≡ labelsFrom k 0 a b (k .cells)
+    real-is = d ∙ ap (labelsFrom k 0 a b) (length-start (k .cells) room axis-room)
+
+    real-long : length re ≡ k .cells
+    unfolding labelsFrom
+    real-long = rw real-is (length-table _ 0 (k .cells))
+
+    pub real-kept : length (re ++ drop (k .cells - 0) room) ≡ length room
+    real-kept = length-written room re (k .cells) axis-room real-long
+
+    pub behind-room : length (take (2 * k .cells - k .cells) (drop (k .cells) (re ++ drop (k .cells - 0) room))) ≡ k .cells
+    behind-room = mid-len (k .cells) (2 * k .cells) (re ++ drop (k .cells - 0) room) (omega (arith, real-kept, C .room .labelled)) ∙ omega arith
+
+    module _ {im : List ℕ} (g : im ≡ labelsFrom k 1 a b (length (take (2 * k .cells - k .cells) (drop (k .cells) (re ++ drop (k .cells - 0) room))))) where
+      imaginary-is : im ≡ labelsFrom k 1 a b (k .cells)
+      imaginary-is = g ∙ ap (labelsFrom k 1 a b) behind-room
+
+      imaginary-long : length im ≡ k .cells
+      unfolding labelsFrom
+      imaginary-long = rw imaginary-is (length-table _ 0 (k .cells))
+
+      abbrev axes : List ℕ
+      axes = putMid (k .cells) (2 * k .cells - k .cells) (re ++ drop (k .cells - 0) room) im
+
+      pub axes-kept : length axes ≡ length room
+      axes-kept = same-len-mid (k .cells) (2 * k .cells - k .cells) (re ++ drop (k .cells - 0) room) im (imaginary-long ∙ sym behind-room) ∙ real-kept
+
+      front-is : axes ≡ re ++ (im ++ drop (2 * k .cells - k .cells) (drop (k .cells) (re ++ drop (k .cells - 0) room)))
+      front-is = ap (λ (v : List ℕ). v ++ (im ++ drop (2 * k .cells - k .cells) (drop (k .cells) (re ++ drop (k .cells - 0) room)))) (take-at re (drop (k .cells - 0) room) (k .cells) real-long)
+
+      pub real-again : take (k .cells - 0) axes ≡ labelsFrom k 0 a b (k .cells)
+      real-again = ap (take (k .cells - 0)) front-is ∙ take-at re _ (k .cells - 0) (real-long ∙ omega arith) ∙ real-is
+
+      pub imaginary-again : take (2 * k .cells - k .cells) (drop (k .cells) axes) ≡ labelsFrom k 1 a b (k .cells)
+      imaginary-again =
+          ap (λ (v : List ℕ). take (2 * k .cells - k .cells) (drop (k .cells) v)) front-is
+          ∙ ap (take (2 * k .cells - k .cells)) (drop-at re _ (k .cells) real-long)
+          ∙ take-at im _ (2 * k .cells - k .cells) (imaginary-long ∙ omega arith)
+          ∙ imaginary-is
 
 -- the dispersed bits of a block
 module _ {k : Block} {bits : List ℕ} {out : List ℤ} (C : CodesBits k bits out) {at : ℕ} (e : at ≡ bitsBefore (k .levels) false (k .count)) where
@@ -122,14 +218,15 @@ module _ {k : Block} {bits : List ℕ} {out : List ℤ} (C : CodesBits k bits ou
   part-a = omega (arith, C .long, all-bits (C .fits))
 
   -- both parts can be coded
-  pub codes-parts : CodesParts k (take (at - 0) bits) (take (length bits - at) (drop at bits)) out
-  codes-parts =
+  pub codes-parts : {labels coded : List ℕ} → HasRoom k labels coded → CodesParts k (take (at - 0) bits) (take (length bits - at) (drop at bits)) labels coded out
+  codes-parts room =
       record {
         fits = C .fits;
         parts = record { longA = length-start at bits part-a ∙ e; longB = length-end at bits ∙ omega (arith, C .long, all-bits (C .fits)) };
         inputA = bits-take (at - 0) (C .input);
         inputB = bits-take (length bits - at) (bits-drop at (C .input));
         cells = C .cells;
+        room = room;
       }
 
   -- the streams of the parts are those of the block
@@ -179,32 +276,20 @@ module _ {k : Block} {bytes : List ℕ} {out : List ℤ} (C : BlockLent k bytes 
     unfolding cellsBy cellsFrom cellsOf
     block-cells f = f ∙ rw (e, h)
 
--- a working buffer whose first n elements were written as a table: that many, and those are read again
-module _ (f : ℕ → ℕ) (buffer part : List ℕ) (n : ℕ) (h : n ≤ length buffer) (e : part ≡ table f 0 (length (take (n - 0) buffer))) where
-  pub part-table : part ≡ table f 0 n
-  part-table = e ∙ ap (table f 0) (length-start n buffer h)
-
-  part-long : length part ≡ n
-  part-long = ap length part-table ∙ length-table f 0 n
-
-  pub part-room : n ≤ length (part ++ drop (n - 0) buffer)
-  part-room = rw (length-written buffer part n h part-long) h
-
-  pub part-again : take (n - 0) (part ++ drop (n - 0) buffer) ≡ table f 0 n
-  part-again = written-front part buffer n part-long ∙ part-table
-
 -- the bits unpacked to the front of a buffer
-module _ {k : Block} {bytes : List ℕ} {out : List ℤ} (C : BlockLent k bytes out) {n : ℕ} (h : n ≡ bitCount k) (buffer : List ℕ) (l : length buffer ≡ 36708) where
+module _ {k : Block} {bytes : List ℕ} {out : List ℤ} (C : BlockLent k bytes out) {n : ℕ} (h : n ≡ bitCount k) (buffer : List ℕ) (l : bitCount k ≤ length buffer) where
   room : n ≤ length buffer
-  room = omega (arith, total-low C h)
+  room = omega arith
 
   pub bits-room : length (take (n - 0) buffer) ≡ bitCount k
   bits-room = length-start n buffer room ∙ h
 
-  pub bits-again : {part : List ℕ} → part ≡ dispersedFrom (k .vspp) 0 (unpacked (length (take (n - 0) buffer)) bytes)
-      → (n ≤ length (part ++ drop (n - 0) buffer)) × (take (n - 0) (part ++ drop (n - 0) buffer) ≡ dispersedParts (k .vspp) (unpacked n bytes))
-  bits-again {part} e =
-      let f : part ≡ dispersedParts (k .vspp) (unpacked n bytes) =
-      e ∙ from-first (k .vspp) (unpacked (length (take (n - 0) buffer)) bytes) ∙ ap (λ m. dispersedParts (k .vspp) (unpacked m bytes)) (length-start n buffer room) in
-      let g : length part ≡ n = bits-long C h f in
-      (rw (length-written buffer part n room g) room, written-front part buffer n g ∙ f)
+  module _ {part : List ℕ} (e : part ≡ dispersedFrom (k .vspp) 0 (unpacked (length (take (n - 0) buffer)) bytes)) where
+    part-bits : part ≡ dispersedParts (k .vspp) (unpacked n bytes)
+    part-bits = e ∙ from-first (k .vspp) (unpacked (length (take (n - 0) buffer)) bytes) ∙ ap (λ m. dispersedParts (k .vspp) (unpacked m bytes)) (length-start n buffer room)
+
+    pub bits-kept : length (part ++ drop (n - 0) buffer) ≡ length buffer
+    bits-kept = length-written buffer part n room (bits-long C h part-bits)
+
+    pub bits-again : (n ≤ length (part ++ drop (n - 0) buffer)) × (take (n - 0) (part ++ drop (n - 0) buffer) ≡ dispersedParts (k .vspp) (unpacked n bytes))
+    bits-again = (rw bits-kept room, written-front part buffer n (bits-long C h part-bits) ∙ part-bits)

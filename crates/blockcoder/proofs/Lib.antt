@@ -1,6 +1,7 @@
 pub mod Axes
 pub mod Woven
 pub mod Coding
+pub mod Each
 pub mod CellsRead
 pub mod Reading
 pub mod Lists

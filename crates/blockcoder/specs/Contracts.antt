@@ -1,12 +1,13 @@
 -- What the functions that code and read a block require and promise: nothing of 01 is stated here.
-use Prim.Native.Nat.{ℕ, _*_, _≤_, _<_}
+use Prim.Native.Nat.{ℕ, zero, suc, _*_, _≤_, _<_}
 use mathlib.Core.Path.{_≡_}
-use mathlib.Core.List.{List}
-use lib.ListN.{length}
+use mathlib.Core.List.{List, [], _++_}
+use lib.ListN.{length, take, drop}
 use lib.IntN.{ℤ}
+use Rattle.lists.specs.Bytes.{bytesFor}
 use Rattle.component.specs.Bits.{Bits}
 use Rattle.block.specs.declared.Block.{Block}
-use Rattle.block.specs.Block.{bitCount, pointsOf, oneAxis, streamsOf, levelsOf}
+use Rattle.block.specs.Block.{bitCount, pointsOf, oneAxis, streamsOf, levelsOf, cellsFrom}
 use Rattle.block.specs.Fits.{BlockFits}
 use Rattle.multilevel.specs.Contracts.{PartsOf}
 use mathlib.Core.Bool.{cond, Bool}
@@ -16,13 +17,24 @@ use Rattle.block.specs.Reading.{unmapped, inputsA, inputsB, given, bytesRead}
 use Rattle.mapping.specs.Contracts.{ThreeBits}
 use Rattle.blockcoder.specs.declared.Found.the-variants.{Given, NoBits}
 
--- A block that fits, and the bits of its parts A and B.
-pub record CodesParts (k : Block) (a b : List ℕ) (out : List ℤ) : Type 0 where
+-- Working buffers of a block: for its labels, and for a level's coded bits.
+pub record HasRoom (k : Block) (labels coded : List ℕ) : Type 0 where
+  pub labelled : 2 * k .cells ≤ length labels
+  pub level : 2 * k .cells ≤ length coded
+
+-- And for its bits.
+pub record WorkLent (k : Block) (bits labels coded : List ℕ) : Type 0 where
+  pub input : bitCount k ≤ length bits
+  pub room : HasRoom k labels coded
+
+-- A block that fits, the bits of its parts A and B, and its working buffers.
+pub record CodesParts (k : Block) (a b labels coded : List ℕ) (out : List ℤ) : Type 0 where
   pub fits : BlockFits k
   pub parts : PartsOf k a b
   pub inputA : Bits a
   pub inputB : Bits b
   pub cells : length out ≡ 2 * k .cells
+  pub room : HasRoom k labels coded
 
 -- A block that fits, and its dispersed bits.
 pub record CodesBits (k : Block) (bits : List ℕ) (out : List ℤ) : Type 0 where
@@ -34,6 +46,18 @@ pub record CodesBits (k : Block) (bits : List ℕ) (out : List ℤ) : Type 0 whe
 -- The cells of a block from its dispersed bits.
 unfoldable pub cellsBy : Block → List ℕ → List ℤ
 cellsBy k u = mapped (pointsOf k) (2 * k .cells) (cond (oneAxis k) (woven (streamsOf k u)) (streamsOf k u))
+
+-- At most three blocks alike that fit, as many bytes as their bits take, and as many numbers as their cells have.
+pub record BlocksLent (k : Block) (many : ℕ) (bytes : List ℕ) (out : List ℤ) : Type 0 where
+  pub fits : BlockFits k
+  pub few : many ≤ 3
+  pub long : length bytes ≡ many * bytesFor (bitCount k)
+  pub cells : length out ≡ many * (2 * k .cells)
+
+-- The cells of the first m of them, one after the other.
+unfoldable pub cellsOfEach : Block → ℕ → List ℕ → List ℤ
+cellsOfEach k zero bytes = []
+cellsOfEach k (suc m) bytes = cellsOfEach k m bytes ++ cellsFrom k (take (bytesFor (bitCount k)) (drop (bytesFor (bitCount k) * m) bytes))
 
 -- What reading the levels from cells requires: a block that fits, its cells, and room for the bits of parts A and B.
 pub record ReadsCells (k : Block) (cells : List ℤ) (a b : List ℕ) : Type 0 where

@@ -4,21 +4,27 @@ use mathlib.Core.Path.{_≡_, refl, sym, ap, ap₂, _∙_}
 use mathlib.Core.Bool.{Bool, true, false, cond}
 use mathlib.Core.Logic.{_⊎_, inl, inr}
 use mathlib.Core.List.{List, _∷_}
-use native.Mathlib.Nat.{add-zero, zero-add, pow-suc, mul-suc}
+use native.Mathlib.Nat.{add-zero, zero-add, pow-suc, mul-suc, suc-mul, mul-le-mul-right}
 use native.Mathlib.Numerals.{add-one}
 use native.Mathlib.Omega.{arith}
 use lib.ListN.{length, getD, drop, length-drop}
 use lib.Seq.{drop-drop, length-take-le, getD-take}
 use lib.Pow.{pow-mono}
+use lib.Count.{ones-step}
 use Rattle.lists.specs.Lists.{table}
 use Rattle.lists.proofs.Counting.{below-or}
 use Rattle.lists.proofs.Tables.{take-table}
+use Rattle.patterns.specs.Patterns.{Sound}
 use Rattle.component.specs.Bits.{Bits}
+use Rattle.component.specs.Codeword.{following}
+use Rattle.component.specs.Decoding.{codedLength}
+use Rattle.component.proofs.Codeword.{following-low}
 use Rattle.component.proofs.Bits.{bits-drop}
 use Rattle.block.specs.declared.Level.{Level}
 use Rattle.block.specs.declared.Block.{Block}
 use Rattle.block.specs.Levels.{totalA, totalB, streams}
 use Rattle.block.specs.Mapping.{constellation, labelAt}
+use Rattle.block.specs.Reading.{sizeA, sizeB}
 use Rattle.block.specs.Block.{levelsOf, pointsOf, oneAxis, bitCount}
 use Rattle.block.specs.Fits.{Labels, LevelFits, LevelsFit, none, more, Alike, BlockFits}
 use Rattle.block.proofs.Lists.{bits-take}
@@ -67,6 +73,27 @@ fits-at : {n : ℕ} {ls : List Level} → LevelsFit n ls → (z : Level) (l : �
 fits-at none z l h = absurd (omega arith)
 fits-at (more F R) z zero h = F
 fits-at (more F R) z (suc l) h = fits-at R z l (omega arith)
+
+-- every input bit has a coded one at least
+coded-least : {p : List ℕ} → Sound p → (i n : ℕ) → i < length p → n ≤ codedLength p i n
+unfolding codedLength
+coded-least S i zero h = omega arith
+coded-least {p} S i (suc n) h = omega (arith, ones-step (getD p i 0), S .first i h, coded-least S (following p i) n (following-low S i))
+
+level-least : {n : ℕ} {l : Level} → LevelFits n l → l .bitsa + l .bitsb ≤ n
+unfolding sizeA sizeB
+level-least {l = l} F =
+    omega (arith, F .size, coded-least (F .heldA .sound) 0 (l .bitsa) (F .heldA .sound .some), coded-least (F .heldB .sound) 0 (l .bitsb) (F .heldB .sound .some))
+
+levels-least : {n : ℕ} {ls : List Level} → LevelsFit n ls → totalA ls + totalB ls ≤ length ls * n
+unfolding totalA totalB
+levels-least none = omega arith
+levels-least {n} (more {ls = ls} F R) = omega (arith, level-least F, levels-least R, suc-mul (length ls) n)
+
+-- at most three levels of two bits a cell, or six of one
+six : (b : Bool) (s c : ℕ) → s ≤ 3 → cond b (2 * s) s * cond b c (2 * c) ≤ 6 * c
+six true s c h = mul-le-mul-right c (omega arith)
+six false s c h = let g : s * (2 * c) ≤ 3 * (2 * c) = mul-le-mul-right (2 * c) h in omega arith
 
 -- the levels of a block
 pub levels-table : (k : Block) → k .count ≤ length (k .levels) → levelsOf k ≡ table (levelAt (k .levels)) 0 (k .count)
@@ -121,6 +148,11 @@ module _ {k : Block} (F : BlockFits k) where
   pub three : F .streams ≤ 3
   unfolding pointsOf
   three = labels-low (k .constellation) (F .streams) (F .labels)
+
+  -- a block has at most six bits a cell
+  pub bits-low : bitCount k ≤ 6 * k .cells
+  unfolding bitCount
+  bits-low = omega (arith, rw (F .levels) at (levels-least (F .fit)), six (oneAxis k) (F .streams) (k .cells) three)
 
   -- level l fits
   pub fits-level : (l : ℕ) → l < k .count → LevelFits (cond (oneAxis k) (k .cells) (2 * k .cells)) (levelAt (k .levels) l)

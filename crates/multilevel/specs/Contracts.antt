@@ -17,6 +17,8 @@ use Rattle.patterns.specs.Contracts.{patternOf, Held}
 use Rattle.interleaver.specs.Tables.{places}
 use lib.Seq.{sets}
 use Rattle.block.specs.Block.{oneAxis}
+use Rattle.block.specs.Mapping.{labelAt}
+use Rattle.lists.specs.Lists.{table}
 use Rattle.block.specs.Reading.{taken, unmixed, sizeA, sizeB, inputA, inputB}
 use Rattle.labels.specs.Contracts.{Ordered, Room, TakesPart, Weight, added}
 
@@ -98,11 +100,23 @@ pub record FewLevels (one : Bool) (ls : List Level) (first step many : ℕ) (ord
   pub near : (first ≤ 2) × (step ≤ 2)
   pub high : length labels ≤ 12236
 
--- What coding them into the labels requires.
-pub record CodesLevels (one : Bool) (ls : List Level) (first step many : ℕ) (order a b labels : List ℕ) : Type 0 where
-  pub few : FewLevels one ls first step many order a b labels
+-- How many levels of a block have the same digit, and how many digits its labels have.
+abbrev pub shared : Block → ℕ
+shared k = cond (oneAxis k) 2 1
+
+abbrev pub digits : Block → ℕ
+digits k = k .count / shared k
+
+-- The labels of the first n bits of the streams of every level from level `first` on, or of every second one.
+unfoldable pub labelsFrom : Block → ℕ → List ℕ → List ℕ → ℕ → List ℕ
+labelsFrom k first a b n = table (labelAt (stepped (streamAt (k .levels) a b) first (shared k) (digits k))) 0 n
+
+-- What coding them requires: room for each level's coded bits.
+pub record CodesLevels (k : Block) (first : ℕ) (order a b coded labels : List ℕ) : Type 0 where
+  pub few : FewLevels (oneAxis k) (k .levels) first (shared k) (digits k) order a b labels
   pub inputA : Bits a
   pub inputB : Bits b
+  pub buffer : length labels ≤ length coded
 
 -- The order of a block's coded bits: for each digit that of its levels, one after the other.
 pub record BlockOrder (k : Block) (order : List ℕ) : Type 0 where
@@ -131,6 +145,11 @@ codedOverAt ls a b l coded =
     (take (levelAt ls l .bitsa) (drop (bitsBefore ls false l) a))
     (take (levelAt ls l .bitsb) (drop (bitsBefore ls true l) b))
     coded
+
+-- The same of m levels from level l on, every s-th, one after the other.
+unfoldable pub levelsOver : List Level → List ℕ → List ℕ → ℕ → ℕ → ℕ → List ℕ → List ℕ
+levelsOver ls a b l s zero coded = coded
+levelsOver ls a b l s (suc m) coded = levelsOver ls a b (l + s) s m (codedOverAt ls a b l coded)
 
 -- What reading a level from its stream y leaves there: part A's coded bits in their order stored at the front, and then part B's.
 unfoldable pub takenOver : Level → List ℕ → List ℕ → List ℕ
@@ -280,4 +299,4 @@ abbrev pub digitsOver : List Level → ℕ → ℕ → ℕ → List ℕ → List
 digitsOver ls n s count out = tablesOver (λ i. levelAt ls (s * i)) n (count / s) out
 
 unfoldable pub blockOver : Block → List ℕ → List ℕ
-blockOver k out = digitsOver (k .levels) (cond (oneAxis k) (k .cells) (2 * k .cells)) (cond (oneAxis k) 2 1) (k .count) out
+blockOver k out = digitsOver (k .levels) (cond (oneAxis k) (k .cells) (2 * k .cells)) (shared k) (k .count) out

@@ -1,9 +1,9 @@
 // The levels of a block coded, interleaved and added up as labels. 01 "Partition" to "Bit interleaving".
 use crate::places::bits_before;
 use crate::places::digit;
+use crate::tables::sharing;
 use block::Block;
 use block::Level;
-use block::buffers::cell_buffer;
 use component::code::Coder;
 use encoder::segment::encode;
 use labels::bits::add_part;
@@ -13,12 +13,10 @@ ghost use lib.ListN.{length};
 ghost use lib.Seq.{sets};
 ghost use Rattle.component.specs.Codeword.{encode};
 ghost use Rattle.patterns.specs.Contracts.{patternOf};
-ghost use Rattle.lists.specs.Lists.{table};
-ghost use Rattle.multilevel.specs.Contracts.{streamAt, codedOver, codedOverAt, stepped, CodesAt, CodesLevels, codedWithTail, CodesA, CodedA, EncodesB, CodesB, CodesLevel};
+ghost use Rattle.multilevel.specs.Contracts.{streamAt, codedOver, codedOverAt, labelsFrom, levelsOver, shared, digits, CodesAt, CodesLevels, codedWithTail, CodesA, CodedA, EncodesB, CodesB, CodesLevel};
 ghost use Rattle.labels.specs.Contracts.{added};
 ghost use Rattle.block.specs.Levels.{mixed, stream};
 ghost use Rattle.block.specs.Block.{oneAxis};
-ghost use Rattle.block.specs.Mapping.{labelAt};
 
 // Part A coded and added to the first of the labels.
 fn code_a(
@@ -132,28 +130,27 @@ fn code_at(
     );
 }
 
-// The labels i0 + 2 × i1 + 4 × i2 of the streams of `many` levels, from level `first` on, every step-th.
+// The labels i0 + 2 × i1 + 4 × i2 of the streams of every level from level `first` on, or in HMmix of every second one.
 pub fn code_levels(
     k: Block,
     first: usize,
-    step: usize,
-    many: usize,
     places: &[u16],
     a: &[u8],
     b: &[u8],
+    coded: &mut [u8],
     labels: &mut [u8],
 )
-    requires { ⌜ CodesLevels (oneAxis k) (k .levels) first step many (now places) (now a) (now b) (now labels) ⌝ }
-    ensures { λ r. ⌜ now (labels .exit) ≡ table (labelAt (stepped (streamAt (k .levels) (now (a .entry))
-        (now (b .entry))) first step many)) 0 (length (now (labels .entry))) ⌝ }
+    requires { ⌜ CodesLevels k first (now places) (now a) (now b) (now coded) (now labels) ⌝ }
+    ensures { λ r. ⌜ now (labels .exit) ≡ labelsFrom k first (now (a .entry)) (now (b .entry)) (length (now (labels .entry))) ⌝ }
+    ensures { λ r. ⌜ now (coded .exit) ≡ levelsOver (k .levels) (now (a .entry)) (now (b .entry)) first (shared k) (digits k) (now (coded .entry)) ⌝ }
 {
     clear(labels);
-    let mut coded = cell_buffer();
+    let step = sharing(k);
     let mut l = first;
     let mut weight: u8 = 1;
-    let mut left = many;
+    let mut left = k.count / step;
     while 0 < left {
-        code_at(k, l, weight, places, a, b, &mut coded, labels);
+        code_at(k, l, weight, places, a, b, coded, labels);
         l += step;
         weight = 2 * weight;
         left -= 1;

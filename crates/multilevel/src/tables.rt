@@ -15,7 +15,7 @@ ghost use Rattle.block.specs.Block.{oneAxis};
 ghost use Rattle.block.specs.Fits.{BlockFits};
 ghost use Rattle.block.specs.Reading.{sizeA};
 ghost use Rattle.labels.specs.Contracts.{Ordered};
-ghost use Rattle.multilevel.specs.Contracts.{LevelOrder, BlockOrder, PartPlaces, LevelPlaces, BlockPlaces, partOver, levelOver, blockOver};
+ghost use Rattle.multilevel.specs.Contracts.{LevelOrder, BlockOrder, PartPlaces, LevelPlaces, BlockPlaces, partOver, levelOver, blockOver, shared};
 
 // A place for each coded bit of the largest block, and one number more.
 pub const MOST_PLACES: usize = MOST_BITS + 1;
@@ -30,14 +30,34 @@ pub fn place_buffer() -> [u16; MOST_PLACES]
 // The most cells of an SDC block, of mode A with occupancy 5; an FAC block has fewer.
 pub const SMALL_CELLS: usize = 846;
 
+// Their coordinates.
+pub const SMALL_NUMBERS: usize = 2 * SMALL_CELLS;
+
+// The most bits of so many cells.
+pub const SMALL_BITS: usize = 6 * SMALL_CELLS;
+
 // A place for each coded bit of so many cells, and one number more.
-pub const SMALL_PLACES: usize = 6 * SMALL_CELLS + 1;
+pub const SMALL_PLACES: usize = SMALL_BITS + 1;
 
 // Room for the places of a small block: to clear that of the largest takes longer than to code an FAC block.
 pub fn small_place_buffer() -> [u16; SMALL_PLACES]
     ensures { λ r. ⌜ Long 5077 r ⌝ }
 {
     [0u16; SMALL_PLACES]
+}
+
+// Room for its bits.
+pub fn small_bit_buffer() -> [u8; SMALL_BITS]
+    ensures { λ r. ⌜ Long 5076 r ⌝ }
+{
+    [0u8; SMALL_BITS]
+}
+
+// A number, or a coded bit of a level, for each of its coordinates.
+pub fn small_cell_buffer() -> [u8; SMALL_NUMBERS]
+    ensures { λ r. ⌜ Long 1692 r ⌝ }
+{
+    [0u8; SMALL_NUMBERS]
 }
 
 // A part's places and a 0 after them, if it is interleaved.
@@ -79,8 +99,8 @@ fn level_bits(k: Block) -> usize
 }
 
 // How many levels have the same places: in HMmix two, one of each axis.
-fn sharing(k: Block) -> usize
-    ensures { λ r. ⌜ r ≡ cond (oneAxis k) 2 1 ⌝ }
+pub fn sharing(k: Block) -> usize
+    ensures { λ r. ⌜ r ≡ shared k ⌝ }
 {
     if k.constellation == HMMIX {
         return 2;
