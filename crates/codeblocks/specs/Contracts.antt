@@ -6,27 +6,15 @@ use lib.ListN.{length}
 use lib.IntN.{ℤ}
 use Rattle.settings.specs.Lengths.{nSfa}
 use Rattle.settings.specs.Sizes.{frameBytes}
-use Rattle.block.specs.Block.{cellsFrom}
-use Rattle.channels.specs.Msc.{mscBlock}
 use Rattle.superframe.specs.declared.State.{State}
 use Rattle.superframe.specs.Memory.{slotSize, stored}
 use Rattle.superframe.specs.Interleaving.{Progress, afterFrames, sentRow, sentRows, fillers}
 use Rattle.superframe.specs.Code.{progressOf, stateOf, frameCells}
-use Rattle.cellmemory.specs.Contracts.{StateFits, RowLent}
+use Rattle.cellmemory.specs.Contracts.{StateFits}
 
--- Memory with a frame's cells at the position.
-abbrev pub frameStored : State → List ℕ → List ℕ → List ℕ
-frameStored state input memory =
-    stored (slotSize (state .scheme .settings)) memory (state .position) (cellsFrom (mscBlock (state .scheme)) input)
-
--- A frame's bytes, memory and a row.
-pub record FrameFits (state : State) (bytes memory : List ℕ) (row : List ℤ) : Type 0 where
-  pub lent : RowLent state memory row
-  pub input : length bytes ≡ frameBytes (state .scheme .settings)
-
--- The frame's cells in memory, and the row that is sent then.
-pub record FrameCoded (state : State) (bytes memory memory′ : List ℕ) (row : List ℤ) : Type 0 where
-  pub held : memory′ ≡ frameStored state bytes memory
+-- A frame's cells in memory at the position, and the row that is sent then.
+pub record FrameSent (state : State) (cells : List ℤ) (memory memory′ : List ℕ) (row : List ℤ) : Type 0 where
+  pub held : memory′ ≡ stored (slotSize (state .scheme .settings)) memory (state .position) cells
   pub sent : row ≡ sentRow (state .scheme .settings) memory′ (state .position)
 
 -- The packed bytes of three frames, memory, and room for the MSC sequence.
