@@ -1,12 +1,12 @@
 -- A block coded, step by step. Assumes nothing.
-use Prim.Native.Nat.{ℕ, _-_, _*_, _/_, _≤_, _<_}
+use Prim.Native.Nat.{ℕ, _+_, _-_, _*_, _/_, _≤_, _<_}
 use mathlib.Core.Path.{_≡_, sym, ap, _∙_}
 use mathlib.Core.Logic.{_⊎_, inl, inr}
-use mathlib.Core.Bool.{true, false}
-use mathlib.Core.List.{List, _++_}
+use mathlib.Core.Bool.{Bool, true, false, cond}
+use mathlib.Core.List.{List, _++_, append-assoc}
 use native.Mathlib.Omega.{arith}
 use lib.ListN.{length, getD, take, drop, List·getD-eq-default}
-use lib.Seq.{take-at, drop-at}
+use lib.Seq.{take-at, drop-at, drop-drop}
 use lib.Pow.{pow-mono}
 use lib.IntN.{ℤ}
 use borrow.Rule.Slice.PartMut.{putMid, mid-len, same-len-mid}
@@ -31,7 +31,7 @@ use Rattle.block.proofs.Lists.{bits-take}
 use Rattle.block.proofs.Packing.{length-unpacked}
 use Rattle.block.proofs.Dispersal.{length-dispersedParts, bits-dispersedParts, from-first}
 use Rattle.packing.specs.Contracts.{Unpacks}
-use Rattle.blockcoder.specs.Contracts.{cellsBy, HasRoom, CodesParts, CodesBits, MapsParts, MapsAxesParts}
+use Rattle.blockcoder.specs.Contracts.{cellsBy, axisOver, codedLeft, labelsLeft, bitsOf, HasRoom, CodesParts, CodesBits, PartsLeft, BitsLeft, WorkLeft, MapsParts, MapsAxesParts}
 use Rattle.block.specs.Fits.{BlockLent}
 use Rattle.blockcoder.proofs.Axes.{few, alike-low, both-levels, axis, cells-low, pairs, twice, axis-levels}
 use Rattle.blockcoder.proofs.Woven.{mapped-labels, labels-woven}
@@ -46,6 +46,13 @@ labels-low ls a b l s m n h = record { low = λ k. go k (below-or k n) }
     go : (k : ℕ) → (k < n) ⊎ (n ≤ k) → getD (table f 0 n) k 0 < 8
     go k (inl i) = rw (getD-table 0 f n k i) (omega (arith, number-low ls a b l s m k, pow-mono {i = m} {j = 3} h))
     go k (inr i) = rw (List·getD-eq-default (table f 0 n) 0 {n = k} (rw (length-table f 0 n) i)) (omega arith)
+
+-- a choice whose test is known
+chosen : {A : Type 0} (b : Bool) (x y : A) → b ≡ true → x ≡ cond b x y
+chosen b x y e = rw e
+
+other : {A : Type 0} (b : Bool) (x y : A) → b ≡ false → y ≡ cond b x y
+other b x y e = rw e
 
 -- levels that go to both axes
 module _ {k : Block} {a b room coded : List ℕ} {out : List ℤ} (C : CodesParts k a b room coded out) (one : oneAxis k ≡ false) where
@@ -110,6 +117,15 @@ module _ {k : Block} {a b room coded : List ℕ} {out : List ℤ} (C : CodesPart
 
     pub labels-again : take (length out - 0) (part ++ drop (length out - 0) room) ≡ labelsFrom k 0 a b (length out)
     labels-again = written-front part room (length out) part-long ∙ part-is
+
+    -- that is what they leave there
+    pub both-left : {coded′ : List ℕ} → coded′ ≡ axisOver k 0 a b coded → PartsLeft k a b room coded (part ++ drop (length out - 0) room) coded′
+    unfolding labelsLeft codedLeft
+    both-left g =
+        record {
+          labelled = ap (λ (v : List ℕ). v ++ drop (length out - 0) room) part-is ∙ rw (from-start (length out), C .cells) (ap (λ (v : List ℕ). v ++ drop (2 * k .cells) room) (other (oneAxis k) _ _ one));
+          level = g ∙ other (oneAxis k) _ _ one;
+        }
 
 -- levels that go to one axis
 module _ {k : Block} {a b room coded : List ℕ} {out : List ℤ} (C : CodesParts k a b room coded out) (one : oneAxis k ≡ true) where
@@ -211,6 +227,19 @@ module _ {k : Block} {a b room coded : List ℕ} {out : List ℤ} (C : CodesPart
           ∙ take-at im _ (2 * k .cells - k .cells) (imaginary-long ∙ omega arith)
           ∙ imaginary-is
 
+      -- that is what they leave there
+      pub axes-left : oneAxis k ≡ true → {once twice : List ℕ} → once ≡ axisOver k 0 a b coded → twice ≡ axisOver k 1 a b once → PartsLeft k a b room coded axes twice
+      unfolding labelsLeft codedLeft
+      axes-left one e f =
+          let n : ℕ = k .cells in
+          let sum : n + (2 * n - n) ≡ 2 * n = omega arith in
+          let rest : drop (2 * n - n) (drop n (re ++ drop (n - 0) room)) ≡ drop (2 * n) room =
+          ap (drop (2 * n - n)) (drop-at re (drop (n - 0) room) n real-long ∙ rw (from-start n)) ∙ drop-drop (2 * n - n) n room ∙ rw sum in
+          record {
+            labelled = front-is ∙ rw (rest, ← append-assoc re im (drop (2 * n) room), real-is, imaginary-is) (ap (λ (v : List ℕ). v ++ drop (2 * n) room) (chosen (oneAxis k) _ _ one));
+            level = f ∙ ap (axisOver k 1 a b) e ∙ chosen (oneAxis k) _ _ one;
+          }
+
 -- the dispersed bits of a block
 module _ {k : Block} {bits : List ℕ} {out : List ℤ} (C : CodesBits k bits out) {at : ℕ} (e : at ≡ bitsBefore (k .levels) false (k .count)) where
   -- part A's stand first
@@ -247,13 +276,14 @@ module _ {k : Block} {bits : List ℕ} {out : List ℤ} (C : CodesBits k bits ou
   unfolding cellsBy
   axis-cells f g = g ∙ rw (parts-are, f)
 
+  -- and this is left of them
+  pub bits-left : {labels coded labels′ coded′ : List ℕ} → PartsLeft k (take (at - 0) bits) (take (length bits - at) (drop at bits)) labels coded labels′ coded′
+      → BitsLeft k bits labels coded labels′ coded′
+  bits-left W = rw (from-start at, to-end at bits, e, ← total-A (C .fits)) at W
+
 -- the bytes of a block
 module _ {k : Block} {bytes : List ℕ} {out : List ℤ} (C : BlockLent k bytes out) where
-  -- its bits can be counted, and have room
-  pub total-low : {n : ℕ} → n ≡ bitCount k → n ≤ 36708
-  total-low e = omega (arith, C .fits .short)
-
-  -- they are there
+  -- its bits are there
   pub unpacks : {bits : List ℕ} → length bits ≡ bitCount k → Unpacks bytes 0 bits
   unfolding bytesFor
   unpacks e =
@@ -293,3 +323,12 @@ module _ {k : Block} {bytes : List ℕ} {out : List ℤ} (C : BlockLent k bytes 
 
     pub bits-again : (n ≤ length (part ++ drop (n - 0) buffer)) × (take (n - 0) (part ++ drop (n - 0) buffer) ≡ dispersedParts (k .vspp) (unpacked n bytes))
     bits-again = (rw bits-kept room, written-front part buffer n (bits-long C h part-bits) ∙ part-bits)
+
+    pub work-left : {labels coded labels′ coded′ : List ℕ} → BitsLeft k (take (n - 0) (part ++ drop (n - 0) buffer)) labels coded labels′ coded′
+        → WorkLeft k bytes buffer labels coded (part ++ drop (n - 0) buffer) labels′ coded′
+    unfolding bitsOf
+    work-left W =
+        record {
+          input = rw (part-bits, from-start n, h);
+          rest = rw (bits-again .1, h) at W;
+        }

@@ -9,9 +9,8 @@ use native.Mathlib.Omega.{arith}
 use lib.ListN.{length, take, drop, length-append, length-drop}
 use lib.Seq.{length-take-le, take-at, drop-at, take-all, take-append-le, drop-append-le}
 use lib.IntN.{ℤ}
-use borrow.Rule.Slice.PartMut.{putMid}
+use borrow.Rule.Slice.PartMut.{putMid, mid-len, same-len-mid}
 use Rattle.lists.specs.Bytes.{bytesFor}
-use Rattle.lists.proofs.Parts.{length-inside}
 use Rattle.block.specs.declared.Block.{Block}
 use Rattle.block.specs.Block.{bitCount, cellsFrom}
 use Rattle.block.specs.Fits.{BlockFits, BlockLent}
@@ -24,12 +23,6 @@ within : (w i m len : ℕ) → i < m → len ≡ m * w → w * i + w ≤ len
 within w i m len h e =
     let g : suc i * w ≤ m * w = mul-le-mul-right w h in
     omega (arith, suc-mul i w, mul-comm w i)
-
--- the length of a part of w elements
-part-of : {A : Type 0} (a w : ℕ) (l : List A) → a + w ≤ length l → length (take (a + w - a) (drop a l)) ≡ w
-part-of a w l h =
-    let e : a + w - a ≡ w = omega arith in
-    rw e (length-take-le w (drop a l) (rw length-drop (omega arith)))
 
 -- what stands before the end of a part that was written
 front-put : {A : Type 0} (a w : ℕ) (l vs : List A) → a + w ≤ length l → length vs ≡ w → take (a + w) (putMid a (a + w - a) l vs) ≡ take a l ++ vs
@@ -99,8 +92,8 @@ module _ {k : Block} {many : ℕ} {bytes : List ℕ} {out₀ : List ℤ} (L : Bl
     block-lent =
         record {
           fits = L .fits;
-          long = part-of (m * i) m bytes bytes-within ∙ e;
-          cells = part-of (2 * k .cells * i) (2 * k .cells) out (cells-within C h);
+          long = mid-len (m * i) (m * i + m) bytes bytes-within ∙ omega arith ∙ e;
+          cells = mid-len (2 * k .cells * i) (2 * k .cells * i + 2 * k .cells) out (cells-within C h) ∙ omega arith;
         }
 
     -- one block more
@@ -115,7 +108,7 @@ module _ {k : Block} {many : ℕ} {bytes : List ℕ} {out₀ : List ℤ} (L : Bl
         let made : row ≡ cellsFrom k (take (bytesFor (bitCount k)) (drop (bytesFor (bitCount k) * i) bytes)) = f ∙ rw (one, e) in
         record {
           upto = omega arith;
-          long = length-inside out row (n * i) (n * i + n - n * i) (g ∙ sym (part-of (n * i) n out (cells-within C h))) ∙ C .long;
+          long = same-len-mid (n * i) (n * i + n - n * i) out row (g ∙ sym (mid-len (n * i) (n * i + n) out (cells-within C h) ∙ omega arith)) ∙ C .long;
           front = ap (λ x. take x (putMid (n * i) (n * i + n - n * i) out row)) next ∙ front-put (n * i) n out row (cells-within C h) g ∙ rw (C .front, made, add-one i);
         }
 

@@ -9,7 +9,10 @@ use Rattle.component.specs.Bits.{Bits}
 use Rattle.block.specs.declared.Block.{Block}
 use Rattle.block.specs.Block.{bitCount, pointsOf, oneAxis, streamsOf, levelsOf, cellsFrom}
 use Rattle.block.specs.Fits.{BlockFits}
-use Rattle.multilevel.specs.Contracts.{PartsOf}
+use Rattle.block.specs.Packing.{unpacked}
+use Rattle.block.specs.Dispersal.{dispersedParts}
+use Rattle.block.specs.Levels.{totalA}
+use Rattle.multilevel.specs.Contracts.{PartsOf, levelsOver, labelsFrom, shared, digits}
 use mathlib.Core.Bool.{cond, Bool}
 use Rattle.block.specs.Mapping.{mapped, woven}
 use Rattle.blockcoder.specs.declared.Found.{Found}
@@ -26,6 +29,34 @@ pub record HasRoom (k : Block) (labels coded : List ℕ) : Type 0 where
 pub record WorkLent (k : Block) (bits labels coded : List ℕ) : Type 0 where
   pub input : bitCount k ≤ length bits
   pub room : HasRoom k labels coded
+
+-- What coding the levels of an axis leaves in the buffer of a level's coded bits.
+abbrev pub axisOver : Block → ℕ → List ℕ → List ℕ → List ℕ → List ℕ
+axisOver k first a b coded = levelsOver (k .levels) a b first (shared k) (digits k) coded
+
+-- What coding parts A and B leaves there, and in the other buffer: the labels at its front, in HMmix those of the real axis and then those of the imaginary one.
+unfoldable pub codedLeft : Block → List ℕ → List ℕ → List ℕ → List ℕ
+codedLeft k a b coded = cond (oneAxis k) (axisOver k 1 a b (axisOver k 0 a b coded)) (axisOver k 0 a b coded)
+
+unfoldable pub labelsLeft : Block → List ℕ → List ℕ → List ℕ → List ℕ
+labelsLeft k a b labels =
+    cond (oneAxis k) (labelsFrom k 0 a b (k .cells) ++ labelsFrom k 1 a b (k .cells)) (labelsFrom k 0 a b (2 * k .cells)) ++ drop (2 * k .cells) labels
+
+pub record PartsLeft (k : Block) (a b labels coded labels′ coded′ : List ℕ) : Type 0 where
+  pub labelled : labels′ ≡ labelsLeft k a b labels
+  pub level : coded′ ≡ codedLeft k a b coded
+
+-- The same of a block's dispersed bits, part A's first.
+abbrev pub BitsLeft : Block → List ℕ → List ℕ → List ℕ → List ℕ → List ℕ → Type 0
+BitsLeft k u labels coded labels′ coded′ = PartsLeft k (take (totalA (levelsOf k)) u) (drop (totalA (levelsOf k)) u) labels coded labels′ coded′
+
+-- The dispersed bits of a block from its bytes, and what coding these leaves in the working buffers.
+unfoldable pub bitsOf : Block → List ℕ → List ℕ
+bitsOf k bytes = dispersedParts (k .vspp) (unpacked (bitCount k) bytes)
+
+pub record WorkLeft (k : Block) (bytes bits labels coded bits′ labels′ coded′ : List ℕ) : Type 0 where
+  pub input : bits′ ≡ bitsOf k bytes ++ drop (bitCount k) bits
+  pub rest : BitsLeft k (bitsOf k bytes) labels coded labels′ coded′
 
 -- A block that fits, the bits of its parts A and B, and its working buffers.
 pub record CodesParts (k : Block) (a b labels coded : List ℕ) (out : List ℤ) : Type 0 where

@@ -21,7 +21,7 @@ ghost use Prim.Native.Nat.{_*_, _≤_};
 ghost use Rattle.block.specs.Levels.{streams};
 ghost use Rattle.block.specs.Mapping.{mapped, woven};
 ghost use Rattle.block.specs.Block.{levelsOf, pointsOf, oneAxis, cellsFrom};
-ghost use Rattle.blockcoder.specs.Contracts.{cellsBy, cellsOfEach, CodesParts, CodesBits, HasRoom, WorkLent, BlocksLent};
+ghost use Rattle.blockcoder.specs.Contracts.{cellsBy, cellsOfEach, CodesParts, CodesBits, HasRoom, WorkLent, BlocksLent, PartsLeft, BitsLeft, WorkLeft};
 ghost use Rattle.block.specs.Fits.{BlockLent};
 ghost use Rattle.multilevel.specs.Contracts.{BlockOrder};
 
@@ -38,6 +38,7 @@ fn code_both(
     requires { ⌜ CodesParts k (now a) (now b) (now labels) (now coded) (now out) × (oneAxis k ≡ false) ⌝ }
     requires { ⌜ BlockOrder k (now places) ⌝ }
     ensures { λ r. ⌜ now (out .exit) ≡ mapped (pointsOf k) (2 * k .cells) (streams (levelsOf k) (now (a .entry)) (now (b .entry))) ⌝ }
+    ensures { λ r. ⌜ PartsLeft k (now (a .entry)) (now (b .entry)) (now (labels .entry)) (now (coded .entry)) (now (labels .exit)) (now (coded .exit)) ⌝ }
 {
     let n = out.len();
     code_levels(k, 0, places, a, b, coded, &mut labels[0..n]);
@@ -57,6 +58,7 @@ fn code_axes(
     requires { ⌜ CodesParts k (now a) (now b) (now labels) (now coded) (now out) × (oneAxis k ≡ true) ⌝ }
     requires { ⌜ BlockOrder k (now places) ⌝ }
     ensures { λ r. ⌜ now (out .exit) ≡ mapped (pointsOf k) (2 * k .cells) (woven (streams (levelsOf k) (now (a .entry)) (now (b .entry)))) ⌝ }
+    ensures { λ r. ⌜ PartsLeft k (now (a .entry)) (now (b .entry)) (now (labels .entry)) (now (coded .entry)) (now (labels .exit)) (now (coded .exit)) ⌝ }
 {
     let n = k.cells;
     code_levels(k, 0, places, a, b, coded, &mut labels[0..n]);
@@ -82,6 +84,7 @@ fn code_streams(
     requires { ⌜ CodesBits k (now bits) (now out) × HasRoom k (now labels) (now coded) ⌝ }
     requires { ⌜ BlockOrder k (now places) ⌝ }
     ensures { λ r. ⌜ now (out .exit) ≡ cellsBy k (now (bits .entry)) ⌝ }
+    ensures { λ r. ⌜ BitsLeft k (now (bits .entry)) (now (labels .entry)) (now (coded .entry)) (now (labels .exit)) (now (coded .exit)) ⌝ }
 {
     let at = bits_before(k, false, k.count);
     if k.constellation == HMMIX {
@@ -116,6 +119,8 @@ pub fn code_lent(
     requires { ⌜ BlockLent k (now bytes) (now out) × WorkLent k (now bits) (now labels) (now coded) ⌝ }
     requires { ⌜ BlockOrder k (now places) ⌝ }
     ensures { λ r. ⌜ now (out .exit) ≡ cellsFrom k (now (bytes .entry)) ⌝ }
+    ensures { λ r. ⌜ WorkLeft k (now (bytes .entry)) (now (bits .entry)) (now (labels .entry)) (now (coded .entry))
+        (now (bits .exit)) (now (labels .exit)) (now (coded .exit)) ⌝ }
 {
     let total = bit_count(k);
     unpack_parts(bytes, k.vspp, 0, &mut bits[0..total]);

@@ -3,7 +3,7 @@ use mathlib.Core.Path.{refl}
 use native.Mathlib.Omega.{arith}
 use borrow.Author.Needs.{needs}
 use Rattle.lists.proofs.Parts.{length-start}
-use Rattle.blockcoder.proofs.Coding.{axis-room, codes-axis, real-kept, behind-room, axes-kept, real-again, imaginary-again, maps-both-axes, mapped-axes}
+use Rattle.blockcoder.proofs.Coding.{axis-room, codes-axis, real-kept, behind-room, axes-kept, real-again, imaginary-again, axes-left, maps-both-axes, mapped-axes}
 use Rattle.blockcoder.proofs.code.code_axes.Statement.{statement}
 use Rattle.blockcoder.proofs.code.code_axes.Tie as tie
 
@@ -56,7 +56,7 @@ returns c =
     let p = c .before .before .before .before .before .before .before .before .before .before .before .before .before .before .before .before .before .before .before .before .before .before .before .before .before .pre .0 in
     let r = c .before .before .before .before .before .before .before .before .before .before .before .before .before .before .before .before .before .code-levels .ensures .0 in
     let i = c .before .before .before .before .before .before .before .before .before .before .code-levels2 .ensures .0 in
-    mapped-axes (p .0) (p .1) (real-again (p .0) r i) (imaginary-again (p .0) r i) (c .before .map-axes-parts .ensures)
+    (mapped-axes (p .0) (p .1) (real-again (p .0) r i) (imaginary-again (p .0) r i) (c .before .map-axes-parts .ensures), axes-left (p .0) r i (p .1) (c .before .before .before .before .before .before .before .before .before .before .before .before .before .before .before .before .before .code-levels .ensures .1) (c .before .before .before .before .before .before .before .before .before .before .code-levels2 .ensures .1))
 
 pub code-axes-spec : {M : Type 1} → statement M
 code-axes-spec =

@@ -2,7 +2,7 @@
 use native.Mathlib.Omega.{arith}
 use borrow.Author.Needs.{needs}
 use Rattle.lists.proofs.Parts.{length-start}
-use Rattle.blockcoder.proofs.Coding.{labels-room, codes-both, labels-kept, labels-again, maps-both, mapped-both}
+use Rattle.blockcoder.proofs.Coding.{labels-room, codes-both, labels-kept, labels-again, both-left, maps-both, mapped-both}
 use Rattle.blockcoder.proofs.code.code_both.Statement.{statement}
 use Rattle.blockcoder.proofs.code.code_both.Tie as tie
 
@@ -32,7 +32,7 @@ same-length c =
 returns : tie.Need-returns
 returns c =
     let p = c .before .before .before .before .before .before .before .before .before .before .before .before .before .before .before .before .before .pre .0 in
-    mapped-both (p .0) (p .1) (labels-again (p .0) (p .1) (c .before .before .before .before .before .before .before .before .before .code-levels .ensures .0)) (c .before .map-parts .ensures)
+    (mapped-both (p .0) (p .1) (labels-again (p .0) (p .1) (c .before .before .before .before .before .before .before .before .before .code-levels .ensures .0)) (c .before .map-parts .ensures), both-left (p .0) (p .1) (c .before .before .before .before .before .before .before .before .before .code-levels .ensures .0) (c .before .before .before .before .before .before .before .before .before .code-levels .ensures .1))
 
 pub code-both-spec : {M : Type 1} → statement M
 code-both-spec =

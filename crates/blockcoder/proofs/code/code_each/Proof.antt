@@ -78,7 +78,7 @@ loop-again : tie.Need-loop-again Inv-loop μ-loop
 loop-again c =
     let i = c .before .before .before .before .before .before .before .before .before .before .before .before .before .before .loop .inv in
     let r = c .before .before .before .before .before .before .before .code-lent in
-    (coded-turn (c .before .before .before .before .before .before .before .before .before .before .before .before .before .before .before .before .before .before .before .before .before .before .pre .0 .0) (bytes-are _ (c .before .before .before .before .before .before .before .before .before .before .before .before .before .before .before .before .bit-count .ensures)) (i .0) (c .before .before .before .before .before .before .before .before .before .before .before .before .before .loop-test .taken) _ (r .ensures), r .kept .1 .1 .1 .0 ∙ i .1, r .kept .1 .1 .1 .1 .0 ∙ i .2, r .kept .1 .1 .1 .1 .1 .0 ∙ i .3)
+    (coded-turn (c .before .before .before .before .before .before .before .before .before .before .before .before .before .before .before .before .before .before .before .before .before .before .pre .0 .0) (bytes-are _ (c .before .before .before .before .before .before .before .before .before .before .before .before .before .before .before .before .bit-count .ensures)) (i .0) (c .before .before .before .before .before .before .before .before .before .before .before .before .before .loop-test .taken) _ (r .ensures .0), r .kept .1 .1 .1 .0 ∙ i .1, r .kept .1 .1 .1 .1 .0 ∙ i .2, r .kept .1 .1 .1 .1 .1 .0 ∙ i .3)
 
 same-length : tie.Need-same-length Inv-loop μ-loop
 same-length c = c .before .loop .inv .1

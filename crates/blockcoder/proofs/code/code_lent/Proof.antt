@@ -1,7 +1,7 @@
 -- `code_lent` meets its contract. Assumes nothing.
 use native.Mathlib.Omega.{arith}
 use borrow.Author.Needs.{needs}
-use Rattle.blockcoder.proofs.Coding.{unpacks, codes-bits, block-cells, bits-room, bits-again, bits-kept}
+use Rattle.blockcoder.proofs.Coding.{unpacks, codes-bits, block-cells, bits-room, bits-again, bits-kept, work-left}
 use Rattle.blockcoder.proofs.code.code_lent.Statement.{statement}
 use Rattle.blockcoder.proofs.code.code_lent.Tie as tie
 
@@ -30,7 +30,7 @@ returns : tie.Need-returns
 returns c =
     let C = c .before .before .before .before .before .before .before .before .before .before .before .before .before .before .before .before .before .before .before .before .before .pre .0 .0 in
     let e = c .before .before .before .before .before .before .before .before .before .before .before .before .before .before .before .bit-count .ensures in
-    block-cells C e (bits-again C e _ (c .before .before .before .before .before .before .before .before .before .before .before .before .before .before .before .before .before .before .before .before .before .pre .0 .1 .input) (c .before .before .before .before .before .before .before .before .before .before .before .before .before .unpack-parts .ensures) .1) (c .before .before .before .before .before .code-streams .ensures)
+    (block-cells C e (bits-again C e _ (c .before .before .before .before .before .before .before .before .before .before .before .before .before .before .before .before .before .before .before .before .before .pre .0 .1 .input) (c .before .before .before .before .before .before .before .before .before .before .before .before .before .unpack-parts .ensures) .1) (c .before .before .before .before .before .code-streams .ensures .0), work-left C e _ (c .before .before .before .before .before .before .before .before .before .before .before .before .before .before .before .before .before .before .before .before .before .pre .0 .1 .input) (c .before .before .before .before .before .before .before .before .before .before .before .before .before .unpack-parts .ensures) (c .before .before .before .before .before .code-streams .ensures .1))
 
 pub code-lent-spec : {M : Type 1} → statement M
 code-lent-spec =

@@ -3,7 +3,7 @@ use borrow.Author.Needs.{needs}
 use borrow.Author.Tests.{eq-eqb, ne-eqb}
 use Rattle.block.specs.Block.{oneAxis}
 use Rattle.multilevel.proofs.Totals.{sums-front}
-use Rattle.blockcoder.proofs.Coding.{part-a, codes-parts, both-cells, axis-cells}
+use Rattle.blockcoder.proofs.Coding.{part-a, codes-parts, both-cells, axis-cells, bits-left}
 use Rattle.blockcoder.proofs.code.code_streams.Statement.{statement}
 use Rattle.blockcoder.proofs.code.code_streams.Tie as tie
 
@@ -25,7 +25,7 @@ code-axes-requires c κs = ((codes-parts (c .before .before .before .before .bef
 
 returns : tie.Need-returns
 unfolding oneAxis
-returns c = axis-cells (c .before .before .before .before .before .before .before .before .before .before .before .before .before .before .before .before .before .before .pre .0 .0) (c .before .before .before .before .before .before .before .before .before .before .before .before .before .bits-before .ensures) (eq-eqb _ _ (c .before .before .before .before .before .before .before .before .before .before .before .if1 .taken)) (c .before .before .before .before .before .code-axes .ensures)
+returns c = (axis-cells (c .before .before .before .before .before .before .before .before .before .before .before .before .before .before .before .before .before .before .pre .0 .0) (c .before .before .before .before .before .before .before .before .before .before .before .before .before .bits-before .ensures) (eq-eqb _ _ (c .before .before .before .before .before .before .before .before .before .before .before .if1 .taken)) (c .before .before .before .before .before .code-axes .ensures .0), bits-left (c .before .before .before .before .before .before .before .before .before .before .before .before .before .before .before .before .before .before .pre .0 .0) (c .before .before .before .before .before .before .before .before .before .before .before .before .before .bits-before .ensures) (c .before .before .before .before .before .code-axes .ensures .1))
 
 end-3 : tie.Need-part-code-both-end
 end-3 c = part-a (c .before .before .before .before .before .before .before .pre .0 .0) (c .before .before .bits-before .ensures)
@@ -42,7 +42,7 @@ code-both-requires c κs = ((codes-parts (c .before .before .before .before .bef
 
 returns-2 : tie.Need-returns-2
 unfolding oneAxis
-returns-2 c = both-cells (c .before .before .before .before .before .before .before .before .before .before .before .before .before .before .before .before .before .before .pre .0 .0) (c .before .before .before .before .before .before .before .before .before .before .before .before .before .bits-before .ensures) (ne-eqb _ _ (c .before .before .before .before .before .before .before .before .before .before .before .if1 .left)) (c .before .before .before .before .before .code-both .ensures)
+returns-2 c = (both-cells (c .before .before .before .before .before .before .before .before .before .before .before .before .before .before .before .before .before .before .pre .0 .0) (c .before .before .before .before .before .before .before .before .before .before .before .before .before .bits-before .ensures) (ne-eqb _ _ (c .before .before .before .before .before .before .before .before .before .before .before .if1 .left)) (c .before .before .before .before .before .code-both .ensures .0), bits-left (c .before .before .before .before .before .before .before .before .before .before .before .before .before .before .before .before .before .before .pre .0 .0) (c .before .before .before .before .before .before .before .before .before .before .before .before .before .bits-before .ensures) (c .before .before .before .before .before .code-both .ensures .1))
 
 pub code-streams-spec : {M : Type 1} → statement M
 code-streams-spec =
