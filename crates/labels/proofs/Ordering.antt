@@ -15,8 +15,9 @@ use Rattle.interleaver.proofs.Interleaving.{put-back-any}
 use Rattle.block.specs.Reading.{taken, unmixed}
 use Rattle.labels.specs.Contracts.{added, gathered, scattered, Within, Gathers, Scatters, AddsPart, TakesPart, Ordered}
 use Rattle.block.specs.Levels.{mixed}
-use Rattle.labels.proofs.Mixing.{cycles, mixed-cycle, unmixed-cycle}
-use Rattle.labels.proofs.Weights.{weighed-le, taken-length}
+use Rattle.block.specs.Fits.{Mixes, plain, empty, cycle}
+use Rattle.labels.proofs.Mixing.{mixed-cycle, unmixed-cycle}
+use Rattle.labels.proofs.Weights.{weighed-le, taken-length, taken-none}
 
 -- the places of a part's bits
 pub places-length : (t n : ℕ) → length (places t n) ≡ n
@@ -96,14 +97,19 @@ pub scattering-end : {ps values d out : List ℕ} {i : ℕ} → length ps ≤ i 
 unfolding scattered
 scattering-end {ps} {values} {d} {out} {i} h w = rw (drop-all ps i h) at (w .left)
 
+-- the order of a part's bits, if there are any, is within them
+order-within : {t n : ℕ} {order : List ℕ} → Mixes t n → (t ≡ 0 → ⊥) → t < 64 → n ≤ 12236 → Ordered t n order → (l : List ℕ) → length l ≡ n → Within order l
+order-within (plain e) p s h O l f = absurd (p e)
+order-within (empty e) p s h O l f = record { long = O .long ∙ sym f; low = λ i k. absurd (omega (arith, O .long, k)); high = omega (arith, f) }
+order-within (cycle c) p s h O l f = rw (O .order-is p) (places-within (record { cycles = c; high = omega arith; small = s }) l f)
+
 -- a part's bits in their order
 module _ {t w : ℕ} {order bits d : List ℕ} (R : AddsPart t w bits d) (O : Ordered t (length d) order) (p : t ≡ 0 → ⊥) where
   -- can be gathered
-  pub gathers-part : (length bits ≡ 0 → ⊥) → Gathers w order bits d
-  gathers-part q =
-      let c : Cycles t (length d) = cycles (R .mixes) p (λ e. q (R .same ∙ e)) in
+  pub gathers-part : Gathers w order bits d
+  gathers-part =
       record {
-        within = rw (O .order-is p) (places-within (record { cycles = c; high = omega (arith, R .room .high); small = R .room .small }) bits (R .same));
+        within = order-within (R .mixes) p (R .room .small) (R .room .high) O bits (R .same);
         same = sym (R .same);
         bit = R .input .bit;
         room = R .room .sums;
@@ -113,22 +119,30 @@ module _ {t w : ℕ} {order bits d : List ℕ} (R : AddsPart t w bits d) (O : Or
   pub added-part : {out : List ℕ} → out ≡ added w (gathered order bits) d → out ≡ added w (mixed t bits) d
   added-part f = rw (mixed-cycle t bits p, ← gathered-places t bits) (rw (O .order-is p, ← R .same) at f)
 
-module _ {t w : ℕ} {order labels out : List ℕ} (R : TakesPart t w labels out) (O : Ordered t (length labels) order) (p : t ≡ 0 → ⊥) (q : length labels ≡ 0 → ⊥) where
-  cycle-is : Cycles t (length labels)
-  cycle-is = cycles (R .mixes) p q
+-- no bits have gone back
+back-none : (t w : ℕ) (order labels out : List ℕ) → length order ≡ 0 → length labels ≡ 0 → length out ≡ 0
+    → scattered order (taken w labels) out ≡ deinterleaved 0 t (taken w labels)
+unfolding scattered
+back-none t w [] labels out e f g = taken-none t w labels out f g
+back-none t w (x ∷ order) labels out e f g = absurd (omega arith)
 
+module _ {t w : ℕ} {order labels out : List ℕ} (R : TakesPart t w labels out) (O : Ordered t (length labels) order) (p : t ≡ 0 → ⊥) where
   -- can be scattered
   pub scatters-part : Scatters w order labels out
   scatters-part =
       record {
-        within = rw (O .order-is p) (places-within (record { cycles = cycle-is; high = omega (arith, R .high); small = R .small }) labels refl);
+        within = order-within (R .mixes) p (R .small) (R .high) O labels refl;
         same = R .same;
         weighs = R .weighs;
       }
 
   -- and have then gone back
-  pub taken-part : {out′ : List ℕ} → out′ ≡ scattered order (taken w labels) out → out′ ≡ unmixed t (taken w labels)
-  taken-part f =
+  back : Mixes t (length labels) → scattered order (taken w labels) out ≡ deinterleaved 0 t (taken w labels)
+  back (plain e) = absurd (p e)
+  back (empty e) = back-none t w order labels out (O .long ∙ e) e (R .same ∙ e)
+  back (cycle c) =
       let e = taken-length w labels in
-      let g = rw e at (scattered-places t (taken w labels) out (rw e cycle-is) (R .same ∙ sym e)) in
-      rw (unmixed-cycle t (taken w labels) p) ((rw (O .order-is p) at f) ∙ g)
+      rw (O .order-is p) (rw e at (scattered-places t (taken w labels) out (rw e c) (R .same ∙ sym e)))
+
+  pub taken-part : {out′ : List ℕ} → out′ ≡ scattered order (taken w labels) out → out′ ≡ unmixed t (taken w labels)
+  taken-part f = f ∙ back (R .mixes) ∙ sym (unmixed-cycle t (taken w labels) p)

@@ -88,13 +88,7 @@ drop-taken w n labels =
     let l : i < length labels - n = rw length-drop at h in
     rw (getD-drop n labels i 0, getD-drop n (table f 0 (length labels)) i 0, table-at f 0 (length labels) (n + i) 0 (omega arith), zero-add)))
 
--- no labels stay as they are
-pub added-none : (w : ℕ) (bits d : List ℕ) → length d ≡ 0 → d ≡ added w bits d
-unfolding added table
-added-none w bits [] e = refl
-added-none w bits (x ∷ d) e = absurd (omega arith)
-
--- and no bits are taken out of them
+-- no bits are taken out of no labels
 pub taken-none : (t w : ℕ) (d out : List ℕ) → length d ≡ 0 → length out ≡ 0 → out ≡ deinterleaved 0 t (taken w d)
 unfolding taken table
 taken-none t w [] [] e f = sym (deinterleaved-none 0 t)

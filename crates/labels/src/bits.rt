@@ -40,9 +40,6 @@ pub fn add_part(t: usize, weight: u8, places: &[u16], bits: &[u8], labels: &mut 
         add_plain(weight, bits, labels);
         return;
     }
-    if bits.len() == 0 {
-        return;
-    }
     gather(weight, places, bits, labels);
 }
 
@@ -86,9 +83,6 @@ pub fn take_part(t: usize, weight: u8, places: &[u16], labels: &[u8], out: &mut 
 {
     if t == 0 {
         take_plain(weight, labels, out);
-        return;
-    }
-    if labels.len() == 0 {
         return;
     }
     scatter(weight, places, labels, out);

@@ -1,9 +1,7 @@
--- `bits::add_part` meets its contract: bits as they are, no bits, and interleaved ones. Assumes nothing.
-use mathlib.Core.Path.{_∙_, sym}
+-- `bits::add_part` meets its contract: bits as they are, and interleaved ones. Assumes nothing.
 use borrow.Author.Needs.{needs}
 use Rattle.labels.proofs.Mixing.{mixed-plain}
 use Rattle.labels.proofs.Ordering.{gathers-part, added-part}
-use Rattle.labels.proofs.Weights.{added-none}
 use Rattle.labels.proofs.bits.add_part.Statement.{statement}
 use Rattle.labels.proofs.bits.add_part.Tie as tie
 
@@ -13,14 +11,11 @@ add-plain-requires c κs = rw (c .before .if1 .taken) at (c .before .before .bef
 returns : tie.Need-returns
 returns c = rw (mixed-plain _ _ (c .before .before .before .before .if1 .taken)) (c .before .before .add-plain .ensures)
 
-returns-2 : tie.Need-returns-2
-returns-2 c = added-none _ _ _ (sym (c .before .before .before .before .before .pre .0 .same) ∙ c .if2 .taken)
-
 gather-requires : tie.Need-gather-requires
-gather-requires c κs = gathers-part (c .before .before .before .before .before .before .pre .0) (c .before .before .before .before .before .before .pre .1) (c .before .before .if1 .left) (c .before .if2 .left)
+gather-requires c κs = gathers-part (c .before .before .before .before .before .pre .0) (c .before .before .before .before .before .pre .1) (c .before .if1 .left)
 
-returns-3 : tie.Need-returns-3
-returns-3 c = added-part (c .before .before .before .before .before .before .before .before .before .pre .0) (c .before .before .before .before .before .before .before .before .before .pre .1) (c .before .before .before .before .before .if1 .left) (c .before .before .gather .ensures)
+returns-2 : tie.Need-returns-2
+returns-2 c = added-part (c .before .before .before .before .before .before .before .before .pre .0) (c .before .before .before .before .before .before .before .before .pre .1) (c .before .before .before .before .if1 .left) (c .before .before .gather .ensures)
 
 pub add-part-spec : {M : Type 1} → statement M
-add-part-spec = tie.close (tie.spec add-plain-requires (λ c. search needs) returns returns-2 gather-requires (λ c. search needs) returns-3)
+add-part-spec = tie.close (tie.spec add-plain-requires (λ c. search needs) returns gather-requires (λ c. search needs) returns-2)
