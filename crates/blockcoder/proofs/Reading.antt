@@ -1,13 +1,14 @@
 -- A block read back, step by step. Assumes nothing.
-use Prim.Native.Nat.{ℕ, _≤_}
+use Prim.Native.Nat.{ℕ, _-_, _*_, _≤_}
 use mathlib.Core.Path.{_≡_, ap, _∙_}
 use mathlib.Core.Bool.{cond}
-use mathlib.Core.List.{List}
+use mathlib.Core.List.{List, _++_}
 use native.Mathlib.Omega.{arith}
-use lib.ListN.{length}
+use lib.ListN.{length, take, drop}
 use lib.IntN.{ℤ}
 use Rattle.lists.specs.Buffers.{Long}
 use Rattle.lists.specs.Bytes.{bytesFor}
+use Rattle.lists.proofs.Parts.{part-room}
 use Rattle.lists.specs.Same.{sameNumbers}
 use Rattle.block.specs.declared.Block.{Block}
 use Rattle.block.specs.Packing.{packed}
@@ -15,29 +16,39 @@ use Rattle.block.specs.Block.{bitCount, cellsOf, cellsFrom}
 use Rattle.block.specs.Reading.{candidate, given, bytesRead}
 use Rattle.packing.specs.Contracts.{Packs}
 use Rattle.blockcoder.specs.declared.Found.{Found}
-use Rattle.blockcoder.specs.Contracts.{ReadsCandidate, BlockRead, foundOf}
+use Rattle.blockcoder.specs.Contracts.{HasRoom, WorkLent, ReadsCandidate, BlockRead, foundOf}
 use Rattle.block.specs.Fits.{BlockLent}
 use Rattle.block.proofs.Blocks.{candidate-block, unpacked-block}
 
 module _ {k : Block} {cells : List ℤ} {bytes : List ℕ} (R : BlockLent k bytes cells) where
   -- its bits, bytes and coordinates have room
-  pub bits-in : {n : ℕ} {buffer : List ℕ} → n ≡ bitCount k → Long 36708 buffer → n ≤ length buffer
-  bits-in e l = omega (arith, e, l .long, R .fits .short)
+  pub bits-in : {n : ℕ} (buffer : List ℕ) → n ≡ bitCount k → bitCount k ≤ length buffer → n ≤ length buffer
+  bits-in buffer e h = rw e h
 
   pub bytes-in : {buffer : List ℕ} → Long 4589 buffer → length bytes ≤ length buffer
   unfolding bytesFor
   bytes-in l = omega (arith, l .long, R .long, R .fits .short)
 
-  pub cells-in : {buffer : List ℤ} → Long 12236 buffer → length cells ≤ length buffer
-  cells-in l = omega (arith, l .long, R .cells, R .fits .most)
+  pub cells-in : (buffer : List ℤ) → 2 * k .cells ≤ length buffer → length cells ≤ length buffer
+  cells-in buffer h = rw (R .cells) h
 
   -- the candidate can be worked out
-  pub reads-candidate : {bits : List ℕ} → length bits ≡ bitCount k → ReadsCandidate k cells bits
-  reads-candidate e = record { fits = R .fits; whole = R .cells; long = e }
+  pub reads-candidate : {labels coded bits : List ℕ} → length bits ≡ bitCount k → HasRoom k labels coded → ReadsCandidate k cells labels coded bits
+  reads-candidate e h = record { fits = R .fits; whole = R .cells; long = e; room = h }
 
   -- and its bytes coded again
   pub codes-again : {p : List ℕ} {g : List ℤ} → length p ≡ length bytes → length g ≡ length cells → BlockLent k p g
   codes-again e f = record { fits = R .fits; long = e ∙ R .long; cells = f ∙ R .cells }
+
+  -- in the same working buffers
+  pub work-again : {bits labels coded labels′ coded′ : List ℕ} {n : ℕ} → WorkLent k bits labels coded → n ≡ bitCount k → (part : List ℕ)
+      → length part ≡ length (take (n - 0) bits) → length labels′ ≡ length labels → length coded′ ≡ length coded
+      → WorkLent k (part ++ drop (n - 0) bits) labels′ coded′
+  work-again {bits} {n = n} W e part h f g =
+      record {
+        input = rw (← e) (part-room bits part n (bits-in bits e (W .input)) h);
+        room = record { labelled = rw f (W .room .labelled); level = rw g (W .room .level) };
+      }
 
   module _ {u : List ℕ} (eu : u ≡ candidate k cells) where
     -- packed

@@ -14,9 +14,9 @@ use Rattle.block.specs.Dispersal.{dispersedParts}
 use Rattle.block.specs.Levels.{totalA}
 use Rattle.multilevel.specs.Contracts.{PartsOf, levelsOver, labelsFrom, shared, digits}
 use mathlib.Core.Bool.{cond, Bool}
-use Rattle.block.specs.Mapping.{mapped, woven}
+use Rattle.block.specs.Mapping.{constellation, mapped, woven}
 use Rattle.blockcoder.specs.declared.Found.{Found}
-use Rattle.block.specs.Reading.{unmapped, inputsA, inputsB, given, bytesRead}
+use Rattle.block.specs.Reading.{labelsOf, unmapped, inputsA, inputsB, given, bytesRead}
 use Rattle.mapping.specs.Contracts.{ThreeBits}
 use Rattle.blockcoder.specs.declared.Found.the-variants.{Given, NoBits}
 
@@ -90,22 +90,22 @@ unfoldable pub cellsOfEach : Block → ℕ → List ℕ → List ℤ
 cellsOfEach k zero bytes = []
 cellsOfEach k (suc m) bytes = cellsOfEach k m bytes ++ cellsFrom k (take (bytesFor (bitCount k)) (drop (bytesFor (bitCount k) * m) bytes))
 
--- What reading the levels from cells requires: a block that fits, its cells, and room for the bits of parts A and B.
-pub record ReadsCells (k : Block) (cells : List ℤ) (a b : List ℕ) : Type 0 where
-  pub fits : BlockFits k
-  pub long : length cells ≡ 2 * k .cells
-  pub parts : PartsOf k a b
-
--- What it promises: the bits of all levels in part A, and in part B.
-pub record CellsRead (k : Block) (cells : List ℤ) (a b : List ℕ) : Type 0 where
-  pub partA : a ≡ inputsA (levelsOf k) (unmapped (pointsOf k) (oneAxis k) (length (levelsOf k)) cells)
-  pub partB : b ≡ inputsB (levelsOf k) (unmapped (pointsOf k) (oneAxis k) (length (levelsOf k)) cells)
-
--- What the candidate requires: a block that fits, its cells, and room for its bits.
-pub record ReadsCandidate (k : Block) (cells : List ℤ) (bits : List ℕ) : Type 0 where
+-- What reading the levels from cells requires: a block that fits, its cells, room for its bits, and its working buffers.
+pub record ReadsCandidate (k : Block) (cells : List ℤ) (labels coded bits : List ℕ) : Type 0 where
   pub fits : BlockFits k
   pub whole : length cells ≡ 2 * k .cells
   pub long : length bits ≡ bitCount k
+  pub room : HasRoom k labels coded
+
+-- The labels of a block's cells.
+abbrev pub labelsIn : Block → List ℤ → List ℕ
+labelsIn k cells = labelsOf (constellation (k .constellation)) cells
+
+-- The bits of all levels from cells: those of part A, and then those of part B.
+unfoldable pub levelBits : Block → List ℤ → List ℕ
+levelBits k cells =
+    let ys = unmapped (pointsOf k) (oneAxis k) (length (levelsOf k)) cells in
+    inputsA (levelsOf k) ys ++ inputsB (levelsOf k) ys
 
 -- What reading a block finds: bits that give the cells, or that no bits do.
 unfoldable pub foundOf : Bool → Found

@@ -1,1 +1,2 @@
+pub mod BlockTurns
 pub mod FrameTurns

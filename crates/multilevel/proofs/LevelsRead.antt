@@ -1,67 +1,86 @@
 -- Levels read one after the other into parts A and B. Assumes nothing.
-use Prim.Native.Nat.{ℕ, suc, _+_, _-_, _*_, _≤_, _<_}
-use mathlib.Core.Path.{_≡_, refl, sym, _∙_}
+use Prim.Native.Nat.{ℕ, suc, _+_, _-_, _*_, _/_, _≤_, _<_}
+use mathlib.Core.Path.{_≡_, refl, _∙_}
 use mathlib.Core.Bool.{Bool, true, false}
-use mathlib.Core.List.{List, _++_, append-assoc}
+use mathlib.Core.List.{List, [], _∷_}
 use native.Mathlib.Omega.{arith}
-use lib.ListN.{length, take, drop}
-use lib.Seq.{sets, sets-eq, length-sets, drop-drop}
+use lib.ListN.{length, set, take, drop, length-take, length-drop}
+use lib.Seq.{sets, length-take-le, take-set-lt, take-set-le, drop-set-add, drop-set-lt}
+use Rattle.block.specs.Block.{oneAxis}
 use Rattle.block.specs.Reading.{taken, inputA, inputB}
-use Rattle.component.proofs.Decoding.{length-decode}
+use Rattle.block.specs.declared.Block.{Block}
 use Rattle.block.specs.declared.Level.{Level}
-use Rattle.multilevel.specs.Contracts.{levelAt, bitsIn, bitsBefore, LevelThere, FewLevels, ReadsLevel, LevelRead, ReadsAt, ReadAt, digitAt, inputIn, readOver}
-use Rattle.multilevel.proofs.Partition.{part-is, part-long, ends-a, ends-b}
+use Rattle.multilevel.specs.Contracts.{levelAt, levelBitsOver, bitsIn, bitsBefore, frontBits, partA, partB, shared, digits, LevelThere, FewLevels, ReadsLevel, ReadsAt, ReadAt, ReadsLevels, LevelsRead, digitAt, inputIn, readOver, takenOver, takenOvers}
+use Rattle.multilevel.proofs.Partition.{part-is, ends-a, ends-b}
+use Rattle.multilevel.proofs.Totals.{all-bits}
 use Rattle.multilevel.proofs.Turns.{Turn, first-turn, level-there, next-turn}
-
--- a part of v from d on, written over, is stored in v
-pub stored-part : (x v : List ℕ) (s n d : ℕ) → s ≡ d → length x ≡ n → d + n ≤ length v
-    → take s v ++ (x ++ drop (s + n - s) (drop s v)) ≡ sets v d x
-stored-part x v s n d e k h =
-    let f : d + n - d ≡ n = omega arith in
-    rw (e, f, drop-drop n d v, sets-eq x v d (omega arith), k) (sym (append-assoc (take d v) x (drop (d + n) v)))
-
--- how many input bits a level has in each part
-length-inputA : (l : Level) (y : List ℕ) → length (inputA l y) ≡ l .bitsa
-unfolding inputA
-length-inputA l y = length-decode _ 0 0 (l .bitsa) _
-
-length-inputB : (l : Level) (y : List ℕ) → length (inputB l y) ≡ l .bitsb
-unfolding inputB
-length-inputB l y = length-decode _ _ 0 (l .bitsb) _
+use Rattle.multilevel.proofs.OneRead.{length-inputA, length-inputB}
 
 pub length-inputIn : (b : Bool) (l : Level) (y : List ℕ) → length (inputIn b l y) ≡ bitsIn b l
 unfolding inputIn bitsIn
 length-inputIn true l y = length-inputB l y
 length-inputIn false l y = length-inputA l y
 
-module _ {one : Bool} {ls : List Level} {l w : ℕ} {order labels coded a b : List ℕ} (R : ReadsAt one ls l w order labels coded a b)
-    {s r : ℕ} (es : s ≡ bitsBefore ls false l) (er : r ≡ bitsBefore ls true l) where
+-- what is stored before place n, and what from there on
+take-stored : (x v : List ℕ) (i n : ℕ) → i + length x ≤ n → take n (sets v i x) ≡ sets (take n v) i x
+take-stored [] v i n h = refl
+take-stored (a ∷ x) v i n h = take-stored x (set v i a) (suc i) n (omega arith) ∙ rw (take-set-lt n v i a (omega arith))
+
+take-behind : (x v : List ℕ) (i n : ℕ) → n ≤ i → take n (sets v i x) ≡ take n v
+take-behind [] v i n h = refl
+take-behind (a ∷ x) v i n h = take-behind x (set v i a) (suc i) n (omega arith) ∙ take-set-le n v i a h
+
+drop-stored : (x v : List ℕ) (i n : ℕ) → drop n (sets v (n + i) x) ≡ sets (drop n v) i x
+drop-stored [] v i n = refl
+drop-stored (a ∷ x) v i n =
+    let e : suc (n + i) ≡ n + suc i = omega arith in
+    let f : drop n (sets (set v (n + i) a) (suc (n + i)) x) ≡ sets (set (drop n v) i a) (suc i) x =
+    rw (e, drop-stored x (set v (n + i) a) (suc i) n, drop-set-add n v i a) in
+    f
+
+pub drop-before : (x v : List ℕ) (i n : ℕ) → i + length x ≤ n → drop n (sets v i x) ≡ drop n v
+drop-before [] v i n h = refl
+drop-before (a ∷ x) v i n h = drop-before x (set v i a) (suc i) n (omega arith) ∙ drop-set-lt n v i a (omega arith)
+
+module _ {k : Block} {l w : ℕ} {order labels coded bits : List ℕ} (R : ReadsAt k l w order labels coded bits)
+    {at front r : ℕ} (ea : at ≡ bitsBefore (k .levels) false l) (ef : front ≡ frontBits k) (er : r ≡ bitsBefore (k .levels) true l) where
+  -- part A's bits stand first in the block's
+  pub whole : (length (partA k bits) ≡ frontBits k) × (length (partB k bits) ≡ length bits - frontBits k) × (frontBits k ≤ length bits) × (length bits ≤ 36708)
+  unfolding partA partB
+  whole =
+      let f : frontBits k ≤ length bits = omega (arith, R .long, all-bits (R .fits)) in
+      (length-take-le (frontBits k) bits f, length-drop (frontBits k) bits, f, omega (arith, R .long, R .fits .short))
+
+  pub ends : (at + levelAt (k .levels) l .bitsa ≤ frontBits k) × (front + r + levelAt (k .levels) l .bitsb ≤ length bits)
+  ends = let W = whole in (omega (arith, ends-a (R .level) ea, W .0), omega (arith, ends-b (R .level) er, ef, W .1, W .2))
+
   -- what reading the level requires
-  pub reads-level : {d : ℕ} → d ≡ digitAt one l → ReadsLevel (levelAt ls l) w (take (d * length labels + length labels - d * length labels) (drop (d * length labels) order)) labels coded (take (s + levelAt ls l .bitsa - s) (drop s a)) (take (r + levelAt ls l .bitsb - r) (drop r b))
+  pub reads-level : {d : ℕ} → d ≡ digitAt (oneAxis k) l
+      → ReadsLevel (levelAt (k .levels) l) w (take (d * length labels + length labels - d * length labels) (drop (d * length labels) order)) labels coded bits at (front + r)
   reads-level {d} ed =
       record {
         ordered = rw (part-is order (d * length labels) (length labels) (d * length labels) refl, ed) (R .level .ordered);
         fits = R .level .fits;
-        longA = part-long a s (levelAt ls l .bitsa) s refl (ends-a (R .level) es);
-        longB = part-long b r (levelAt ls l .bitsb) r refl (ends-b (R .level) er);
+        endA = omega (arith, ends .0, whole .2);
+        endB = ends .1;
         high = R .level .high;
         buffer = R .buffer;
+        short = omega (arith, whole .3);
         weighs = R .weighs;
       }
 
   -- and then its bits stand at their places
-  pub read-at : {a′ b′ : List ℕ} → LevelRead (levelAt ls l) (taken w labels) a′ b′
-      → ReadAt ls l (taken w labels) a b
-      (take s a ++ (a′ ++ drop (s + levelAt ls l .bitsa - s) (drop s a)))
-      (take r b ++ (b′ ++ drop (r + levelAt ls l .bitsb - r) (drop r b)))
-  unfolding inputIn
-  read-at {a′} {b′} L =
+  pub read-at : {bits′ : List ℕ} → bits′ ≡ levelBitsOver (levelAt (k .levels) l) (taken w labels) at (front + r) bits
+      → ReadAt (k .levels) l (taken w labels) (partA k bits) (partB k bits) (partA k bits′) (partB k bits′)
+  unfolding inputIn partA partB
+  read-at {bits′} e =
+      let L = levelAt (k .levels) l in
       let y = taken w labels in
-      let la : length a′ ≡ levelAt ls l .bitsa = rw (L .partA) (length-inputA (levelAt ls l) y) in
-      let lb : length b′ ≡ levelAt ls l .bitsb = rw (L .partB) (length-inputB (levelAt ls l) y) in
+      let n = frontBits k in
+      let h : at + length (inputA L y) ≤ n = rw (length-inputA L y) (ends .0) in
       record {
-        partA = stored-part a′ a s (levelAt ls l .bitsa) (bitsBefore ls false l) es la (rw es at (ends-a (R .level) es)) ∙ rw (L .partA);
-        partB = stored-part b′ b r (levelAt ls l .bitsb) (bitsBefore ls true l) er lb (rw er at (ends-b (R .level) er)) ∙ rw (L .partB);
+        partA = rw (e, ef, take-behind (inputB L y) (sets bits at (inputA L y)) (n + r) n (omega arith), ← ea) (take-stored (inputA L y) bits at n h);
+        partB = rw (e, ef, drop-stored (inputB L y) (sets bits at (inputA L y)) r n, drop-before (inputA L y) bits at n h, er);
       }
 
 -- a level has places in parts that are as long
@@ -80,35 +99,54 @@ same-there L e f =
     }
 
 -- before the turn at level l, with m levels left: reading these leads to what reading all leads to
-pub record Reading (one : Bool) (ls : List Level) (order labels a₀ b₀ : List ℕ) (first s count : ℕ) (a b : List ℕ) (l w m : ℕ) : Type 0 where
-  pub turn : Turn one ls (length labels) order a₀ b₀ first s count l w m
-  pub sameA : length a ≡ length a₀
-  pub sameB : length b ≡ length b₀
-  pub wholeA : readOver ls false labels l s w m a ≡ readOver ls false labels first s 1 count a₀
-  pub wholeB : readOver ls true labels l s w m b ≡ readOver ls true labels first s 1 count b₀
+pub record Reading (k : Block) (order labels coded₀ bits₀ : List ℕ) (first s count : ℕ) (coded bits : List ℕ) (l w m : ℕ) : Type 0 where
+  pub few : FewLevels (oneAxis k) (k .levels) first s count order (partA k bits₀) (partB k bits₀) labels
+  pub turn : Turn (oneAxis k) (k .levels) (length labels) order (partA k bits₀) (partB k bits₀) first s count l w m
+  pub same : length bits ≡ length bits₀
+  pub sameCoded : length coded ≡ length coded₀
+  pub front : readOver (k .levels) false labels l s w m (partA k bits) ≡ readOver (k .levels) false labels first s 1 count (partA k bits₀)
+  pub rest : readOver (k .levels) true labels l s w m (partB k bits) ≡ readOver (k .levels) true labels first s 1 count (partB k bits₀)
+  pub buffer : takenOvers (k .levels) labels l s w m coded ≡ takenOvers (k .levels) labels first s 1 count coded₀
 
-module _ {one : Bool} {ls : List Level} {order labels a₀ b₀ : List ℕ} {first s count : ℕ} where
-  pub start : FewLevels one ls first s count order a₀ b₀ labels → Reading one ls order labels a₀ b₀ first s count a₀ b₀ first 1 count
-  start F = record { turn = first-turn F; sameA = refl; sameB = refl; wholeA = refl; wholeB = refl }
+module _ {k : Block} {first : ℕ} {order labels coded₀ bits₀ : List ℕ} (F : ReadsLevels k first order labels coded₀ bits₀) where
+  pub start : {s m : ℕ} → s ≡ shared k → m ≡ k .count / s → Reading k order labels coded₀ bits₀ first s m coded₀ bits₀ first 1 m
+  start {s} {m} e f =
+      let few : FewLevels (oneAxis k) (k .levels) first s m order (partA k bits₀) (partB k bits₀) labels = rw (f, e) (F .few) in record { few = few; turn = first-turn few; same = refl; sameCoded = refl; front = refl; rest = refl; buffer = refl }
 
-  module _ {a b : List ℕ} {l w m : ℕ} (R : Reading one ls order labels a₀ b₀ first s count a b l w m) where
+  module _ {s count : ℕ} {coded bits : List ℕ} {l w m : ℕ} (R : Reading k order labels coded₀ bits₀ first s count coded bits l w m) where
     -- what reading the level requires
-    pub reads-at : 0 < m → {coded : List ℕ} → length labels ≤ 12236 → length coded ≡ 12236 → ReadsAt one ls l w order labels coded a b
-    reads-at h g e = record { level = same-there (level-there (R .turn) h) (R .sameA) (R .sameB); buffer = omega arith; weighs = R .turn .weighs }
-
-    -- and the turn
-    pub turned : 0 < m → {a′ b′ : List ℕ} → ReadAt ls l (taken w labels) a b a′ b′ → Reading one ls order labels a₀ b₀ first s count a′ b′ (l + s) (2 * w) (m - 1)
-    unfolding readOver
-    turned h E =
-        let f : m ≡ suc (m - 1) = omega arith in
+    pub reads-at : 0 < m → ReadsAt k l w order labels coded bits
+    unfolding partA partB
+    reads-at h =
         record {
-          turn = next-turn (R .turn) h;
-          sameA = rw (E .partA) (length-sets a (bitsBefore ls false l) (inputIn false (levelAt ls l) (taken w labels))) ∙ R .sameA;
-          sameB = rw (E .partB) (length-sets b (bitsBefore ls true l) (inputIn true (levelAt ls l) (taken w labels))) ∙ R .sameB;
-          wholeA = rw (E .partA) (rw f at (R .wholeA));
-          wholeB = rw (E .partB) (rw f at (R .wholeB));
+          fits = F .fits;
+          long = R .same ∙ F .long;
+          level = same-there (level-there (R .turn) h) (rw (length-take, length-take, R .same)) (rw (length-drop, length-drop, R .same));
+          buffer = rw (R .sameCoded) (F .buffer);
+          weighs = R .turn .weighs;
         }
 
-    pub done : m ≤ 0 → (a ≡ readOver ls false labels first s 1 count a₀) × (b ≡ readOver ls true labels first s 1 count b₀)
-    unfolding readOver
-    done h = let f : m ≡ 0 = omega arith in (rw f at (R .wholeA), rw f at (R .wholeB))
+    -- and the turn
+    pub turned : 0 < m → {coded′ bits′ : List ℕ} → length bits′ ≡ length bits → length coded′ ≡ length coded
+        → ReadAt (k .levels) l (taken w labels) (partA k bits) (partB k bits) (partA k bits′) (partB k bits′)
+        → coded′ ≡ takenOver (levelAt (k .levels) l) (taken w labels) coded
+        → Reading k order labels coded₀ bits₀ first s count coded′ bits′ (l + s) (2 * w) (m - 1)
+    unfolding readOver takenOvers
+    turned h p q E e =
+        let f : m ≡ suc (m - 1) = omega arith in
+        record {
+          few = R .few;
+          turn = next-turn (R .turn) h;
+          same = p ∙ R .same;
+          sameCoded = q ∙ R .sameCoded;
+          front = rw (E .partA) (rw f at (R .front));
+          rest = rw (E .partB) (rw f at (R .rest));
+          buffer = rw e (rw f at (R .buffer));
+        }
+
+    pub done : s ≡ shared k → count ≡ k .count / s → m ≤ 0
+        → LevelsRead k first labels bits₀ bits × (coded ≡ takenOvers (k .levels) labels first (shared k) 1 (digits k) coded₀)
+    unfolding readOver takenOvers
+    done e g h =
+        let f : m ≡ 0 = omega arith in
+        (record { front = rw (f, g, e) at (R .front); rest = rw (f, g, e) at (R .rest) }, rw (f, g, e) at (R .buffer))

@@ -7,7 +7,7 @@ use mathlib.Core.List.{List, [], _∷_, _++_, append-assoc}
 use native.Mathlib.Nat.{add-zero, zero-add, one-mul, mul-one, mul-suc}
 use native.Mathlib.Omega.{arith}
 use lib.ListN.{length, set, take, drop, take-append-drop}
-use lib.Seq.{sets, sets-eq, length-sets, length-take-le, take-at, drop-at, drop-length, drop-drop, drop-set-add, drop-set-lt, take-set-le}
+use lib.Seq.{sets, sets-eq, length-sets, length-take-le, take-at, drop-at, drop-length, drop-drop, drop-set-add, take-set-le}
 use Rattle.lists.specs.Lists.{table}
 use Rattle.lists.proofs.Counting.{below-or}
 use Rattle.block.specs.Reading.{taken, inputsA, inputsB}
@@ -15,18 +15,14 @@ use Rattle.block.specs.declared.Level.{Level}
 use Rattle.multilevel.specs.Contracts.{levelAt, bitsIn, bitsBefore, inputIn, inputOver, readOver}
 use Rattle.multilevel.proofs.Partition.{before-mono}
 use Rattle.multilevel.proofs.Turns.{twice}
-use Rattle.multilevel.proofs.LevelsRead.{length-inputIn}
+use Rattle.multilevel.proofs.LevelsRead.{drop-before, length-inputIn}
 
--- what is stored from i on leaves what stands before it, and what stands behind it
+-- what is stored from i on leaves what stands before it
 kept-before : (x v : List ℕ) (i d n : ℕ) → d + n ≤ i → take n (drop d (sets v i x)) ≡ take n (drop d v)
 kept-before [] v i d n h = refl
 kept-before (a ∷ x) v i d n h =
     let e : d + (i - d) ≡ i = omega arith in
     kept-before x (set v i a) (suc i) d n (omega arith) ∙ rw e at (ap (take n) (drop-set-add d v (i - d) a) ∙ take-set-le n (drop d v) (i - d) a (omega arith))
-
-kept-behind : (x v : List ℕ) (i d : ℕ) → i + length x ≤ d → drop d (sets v i x) ≡ drop d v
-kept-behind [] v i d h = refl
-kept-behind (a ∷ x) v i d h = kept-behind x (set v i a) (suc i) d (omega arith) ∙ drop-set-lt d v i a (omega arith)
 
 module _ (ls : List Level) (b : Bool) where
   -- level l's bits
@@ -45,7 +41,7 @@ module _ (ls : List Level) (b : Bool) where
   own-kept : (x v : List ℕ) (i l : ℕ) → length x ≡ bitsIn b (levelAt ls i) → (l < i) ⊎ (i < l) → own (sets v (bitsBefore ls b i) x) l ≡ own v l
   unfolding bitsBefore
   own-kept x v i l e (inl h) = kept-before x v (bitsBefore ls b i) (bitsBefore ls b l) (bitsIn b (levelAt ls l)) (before-mono ls b (suc l) i h)
-  own-kept x v i l e (inr h) = ap (take (bitsIn b (levelAt ls l))) (kept-behind x v (bitsBefore ls b i) (bitsBefore ls b l) (rw e (before-mono ls b (suc i) l h)))
+  own-kept x v i l e (inr h) = ap (take (bitsIn b (levelAt ls l))) (drop-before x v (bitsBefore ls b i) (bitsBefore ls b l) (rw e (before-mono ls b (suc i) l h)))
 
   module _ (labels : List ℕ) (s : ℕ) where
     -- a level that is not among those read

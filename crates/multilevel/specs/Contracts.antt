@@ -16,7 +16,7 @@ use Rattle.component.specs.Decoding.{codedLength, segment, decode}
 use Rattle.patterns.specs.Contracts.{patternOf, Held}
 use Rattle.interleaver.specs.Tables.{places}
 use lib.Seq.{sets}
-use Rattle.block.specs.Block.{oneAxis}
+use Rattle.block.specs.Block.{oneAxis, bitCount}
 use Rattle.block.specs.Mapping.{labelAt}
 use Rattle.lists.specs.Lists.{table}
 use Rattle.block.specs.Reading.{taken, unmixed, sizeA, sizeB, inputA, inputB}
@@ -216,24 +216,36 @@ pub record PartRead (p : Pattern) (register t weight : ℕ) (labels : List ℕ) 
   pub state : register' ≡ after register out'
   pub written : out' ≡ decode (patternOf p) register 0 n (unmixed t (taken weight labels))
 
--- What reading a level requires: it fits, and there is room for its bits and its coded bits. The labels may be any.
-pub record ReadsLevel (l : Level) (weight : ℕ) (order labels coded a b : List ℕ) : Type 0 where
+-- What reading a level requires: it fits, and there is room for its coded bits and for its bits at their places. The labels may be any.
+pub record ReadsLevel (l : Level) (weight : ℕ) (order labels coded bits : List ℕ) (at from : ℕ) : Type 0 where
   pub ordered : LevelOrder l order
   pub fits : LevelFits (length labels) l
-  pub longA : length a ≡ l .bitsa
-  pub longB : length b ≡ l .bitsb
+  pub endA : at + l .bitsa ≤ length bits
+  pub endB : from + l .bitsb ≤ length bits
   pub high : length labels ≤ 12236
   pub buffer : length labels ≤ length coded
+  pub short : length bits ≤ 65536
   pub weighs : Weight weight
 
--- What it promises: the level's input bits of both parts from its stream y.
-pub record LevelRead (l : Level) (y a b : List ℕ) : Type 0 where
-  pub partA : a ≡ inputA l y
-  pub partB : b ≡ inputB l y
+-- What it leaves in the bits: from its stream y the level's input bits of part A at their place, and those of part B at theirs.
+abbrev pub levelBitsOver : Level → List ℕ → ℕ → ℕ → List ℕ → List ℕ
+levelBitsOver l y at from bits = sets (sets bits at (inputA l y)) from (inputB l y)
 
--- What reading level l requires: its bits have places in those of parts A and B.
-pub record ReadsAt (one : Bool) (ls : List Level) (l weight : ℕ) (order labels coded a b : List ℕ) : Type 0 where
-  pub level : LevelThere one ls (length labels) order a b l
+-- The bits of a block: those of part A stand first, and then those of part B.
+abbrev pub frontBits : Block → ℕ
+frontBits k = bitsBefore (k .levels) false (k .count)
+
+unfoldable pub partA : Block → List ℕ → List ℕ
+partA k bits = take (frontBits k) bits
+
+unfoldable pub partB : Block → List ℕ → List ℕ
+partB k bits = drop (frontBits k) bits
+
+-- What reading level l requires: its bits have places in the block's.
+pub record ReadsAt (k : Block) (l weight : ℕ) (order labels coded bits : List ℕ) : Type 0 where
+  pub fits : BlockFits k
+  pub long : length bits ≡ bitCount k
+  pub level : LevelThere (oneAxis k) (k .levels) (length labels) order (partA k bits) (partB k bits) l
   pub buffer : length labels ≤ length coded
   pub weighs : Weight weight
 
@@ -254,6 +266,23 @@ pub record ReadAt (ls : List Level) (l : ℕ) (y a b a' b' : List ℕ) : Type 0 
 unfoldable pub readOver : List Level → Bool → List ℕ → ℕ → ℕ → ℕ → ℕ → List ℕ → List ℕ
 readOver ls b labels l s w zero v = v
 readOver ls b labels l s w (suc m) v = readOver ls b labels (l + s) s (2 * w) m (inputOver ls b l (taken w labels) v)
+
+-- The same in the working buffer: each level's coded bits over those of the levels before.
+unfoldable pub takenOvers : List Level → List ℕ → ℕ → ℕ → ℕ → ℕ → List ℕ → List ℕ
+takenOvers ls labels l s w zero coded = coded
+takenOvers ls labels l s w (suc m) coded = takenOvers ls labels (l + s) s (2 * w) m (takenOver (levelAt ls l) (taken w labels) coded)
+
+-- What reading the levels of a block from level first on, or every second one, requires: room for each level's coded bits and for the bits of all.
+pub record ReadsLevels (k : Block) (first : ℕ) (order labels coded bits : List ℕ) : Type 0 where
+  pub fits : BlockFits k
+  pub long : length bits ≡ bitCount k
+  pub few : FewLevels (oneAxis k) (k .levels) first (shared k) (digits k) order (partA k bits) (partB k bits) labels
+  pub buffer : length labels ≤ length coded
+
+-- What it promises: their bits at their places in parts A and B.
+pub record LevelsRead (k : Block) (first : ℕ) (labels bits bits' : List ℕ) : Type 0 where
+  pub front : partA k bits' ≡ readOver (k .levels) false labels first (shared k) 1 (digits k) (partA k bits)
+  pub rest : partB k bits' ≡ readOver (k .levels) true labels first (shared k) 1 (digits k) (partB k bits)
 
 -- What making a part's table of places requires: room for them and one number more.
 pub record PartPlaces (t n : ℕ) (out : List ℕ) : Type 0 where

@@ -1,19 +1,17 @@
 // The levels of a block read from labels: their bits taken out, put back to their places and decoded. 01 "Operations".
 use crate::places::bits_before;
 use crate::places::digit;
+use crate::tables::sharing;
 use block::Block;
 use block::Level;
-use block::buffers::cell_buffer;
 use component::code::coded_length;
 use decoder::segment::decode;
 use labels::bits::take_part;
 use patterns::Pattern;
 ghost use mathlib.Core.Path.{_≡_};
-ghost use mathlib.Core.Bool.{true, false};
 ghost use lib.ListN.{length};
 ghost use Rattle.block.specs.Reading.{taken, unmixed};
-ghost use Rattle.block.specs.Block.{oneAxis};
-ghost use Rattle.multilevel.specs.Contracts.{levelAt, takenOver, ReadsPart, PartRead, ReadsLevel, LevelRead, ReadsAt, ReadAt, FewLevels, readOver};
+ghost use Rattle.multilevel.specs.Contracts.{levelAt, levelBitsOver, takenOver, takenOvers, shared, digits, partA, partB, ReadsPart, PartRead, ReadsLevel, ReadsAt, ReadAt, ReadsLevels, LevelsRead};
 
 // The input bits of a part, as many as out is long, from the labels; the register behind them.
 fn read_part(
@@ -35,18 +33,20 @@ fn read_part(
     coder.register
 }
 
-// A level's input bits from the labels: those of part A from register 0, those of part B from the register behind.
+// A level's input bits from the labels, those of part A from place `at` on and those of part B from place `from` on: part A's from register 0, part B's
+// from the register behind.
 fn read_level(
     l: Level,
     weight: u8,
     places: &[u16],
     labels: &[u8],
     coded: &mut [u8],
-    a: &mut [u8],
-    b: &mut [u8],
+    bits: &mut [u8],
+    at: usize,
+    from: usize,
 )
-    requires { ⌜ ReadsLevel l weight (now places) (now labels) (now coded) (now a) (now b) ⌝ }
-    ensures { λ r. ⌜ LevelRead l (taken weight (now (labels .entry))) (now (a .exit)) (now (b .exit)) ⌝ }
+    requires { ⌜ ReadsLevel l weight (now places) (now labels) (now coded) (now bits) at from ⌝ }
+    ensures { λ r. ⌜ now (bits .exit) ≡ levelBitsOver l (taken weight (now (labels .entry))) at from (now (bits .entry)) ⌝ }
     ensures { λ r. ⌜ now (coded .exit) ≡ takenOver l (taken weight (now (labels .entry))) (now (coded .entry)) ⌝ }
 {
     let patterna = l.patterna;
@@ -60,7 +60,7 @@ fn read_level(
         &places[0..front],
         &labels[0..front],
         &mut coded[0..front],
-        a,
+        &mut bits[at..at + l.bitsa],
     );
     let n = labels.len() - front;
     read_part(
@@ -71,11 +71,11 @@ fn read_level(
         &places[front..],
         &labels[front..],
         &mut coded[0..n],
-        b,
+        &mut bits[from..from + l.bitsb],
     );
 }
 
-// Level l's bits, those with that weight in the labels, read into their places in parts A and B.
+// Level l's bits, those with that weight in the labels, read into their places in the block's: part A's bits stand first.
 fn read_at(
     k: Block,
     l: usize,
@@ -83,19 +83,17 @@ fn read_at(
     places: &[u16],
     labels: &[u8],
     coded: &mut [u8],
-    a: &mut [u8],
-    b: &mut [u8],
+    bits: &mut [u8],
 )
-    requires { ⌜ ReadsAt (oneAxis k) (k .levels) l weight (now places) (now labels) (now coded) (now a) (now b) ⌝ }
-    ensures { λ r. ⌜ ReadAt (k .levels) l (taken weight (now (labels .entry))) (now (a .entry)) (now (b .entry)) (now (a .exit)) (now (b .exit)) ⌝ }
+    requires { ⌜ ReadsAt k l weight (now places) (now labels) (now coded) (now bits) ⌝ }
+    ensures { λ r. ⌜ ReadAt (k .levels) l (taken weight (now (labels .entry))) (partA k (now (bits .entry))) (partB k (now (bits .entry)))
+        (partA k (now (bits .exit))) (partB k (now (bits .exit))) ⌝ }
     ensures { λ r. ⌜ now (coded .exit) ≡ takenOver (levelAt (k .levels) l) (taken weight (now (labels .entry))) (now (coded .entry)) ⌝ }
 {
     let levels = k.levels;
     let level = levels[l];
     let at = bits_before(k, false, l);
-    let end = at + level.bitsa;
-    let from = bits_before(k, true, l);
-    let to = from + level.bitsb;
+    let from = bits_before(k, false, k.count) + bits_before(k, true, l);
     let n = labels.len();
     let d = digit(k, l);
     read_level(
@@ -104,32 +102,31 @@ fn read_at(
         &places[d * n..d * n + n],
         labels,
         coded,
-        &mut a[at..end],
-        &mut b[from..to],
+        bits,
+        at,
+        from,
     );
 }
 
-// The bits of `many` levels, from level `first` on, every step-th, read from the labels i0 + 2 × i1 + 4 × i2 of their streams.
+// The bits of the levels that share an axis, or of all, from level `first` on, read from the labels i0 + 2 × i1 + 4 × i2 of their streams.
 pub fn read_levels(
     k: Block,
     first: usize,
-    step: usize,
-    many: usize,
     places: &[u16],
     labels: &[u8],
-    a: &mut [u8],
-    b: &mut [u8],
+    coded: &mut [u8],
+    bits: &mut [u8],
 )
-    requires { ⌜ FewLevels (oneAxis k) (k .levels) first step many (now places) (now a) (now b) (now labels) ⌝ }
-    ensures { λ r. ⌜ now (a .exit) ≡ readOver (k .levels) false (now (labels .entry)) first step 1 many (now (a .entry)) ⌝ }
-    ensures { λ r. ⌜ now (b .exit) ≡ readOver (k .levels) true (now (labels .entry)) first step 1 many (now (b .entry)) ⌝ }
+    requires { ⌜ ReadsLevels k first (now places) (now labels) (now coded) (now bits) ⌝ }
+    ensures { λ r. ⌜ LevelsRead k first (now (labels .entry)) (now (bits .entry)) (now (bits .exit)) ⌝ }
+    ensures { λ r. ⌜ now (coded .exit) ≡ takenOvers (k .levels) (now (labels .entry)) first (shared k) 1 (digits k) (now (coded .entry)) ⌝ }
 {
-    let mut coded = cell_buffer();
+    let step = sharing(k);
     let mut l = first;
     let mut weight: u8 = 1;
-    let mut left = many;
+    let mut left = k.count / step;
     while 0 < left {
-        read_at(k, l, weight, places, labels, &mut coded, a, b);
+        read_at(k, l, weight, places, labels, coded, bits);
         l += step;
         weight = 2 * weight;
         left -= 1;

@@ -4,23 +4,26 @@ use borrow.Author.Needs.{needs}
 use Rattle.blockcoder.proofs.read.read_block.Statement.{statement}
 use Rattle.blockcoder.proofs.read.read_block.Tie as tie
 
-read-small-requires : tie.Need-read-small-requires
-read-small-requires c κs = (c .before .before .before .before .pre, c .before .if1 .taken)
+block-places-requires : tie.Need-block-places-requires
+block-places-requires c κs = let p = c .before .before .before .before .before .before .before .pre .fits in record { fits = p; room = omega (arith, c .before .before .before .before .before .place-buffer .ensures .long, p .most) }
+
+read-lent-requires : tie.Need-read-lent-requires
+read-lent-requires c κs =
+    let p = c .before .before .before .before .before .before .before .before .before .before .before .before .before .before .before .pre in (
+      (
+        p,
+        record {
+          input = omega (arith, c .before .before .before .before .before .before .before .before .before .before .before .before .bit-buffer .ensures .long, p .fits .short);
+          room = record { labelled = omega (arith, c .before .before .before .before .before .before .before .before .before .before .before .cell-buffer .ensures .long, p .fits .most); level = omega (arith, c .before .before .before .before .before .before .before .before .before .before .cell-buffer2 .ensures .long, p .fits .most) };
+        },
+        omega (arith, c .before .before .before .before .before .before .before .before .before .coordinate-buffer .ensures .long, p .fits .most),
+      ),
+      c .before .before .before .before .before .before .before .block-places .ensures .0,
+    )
 
 returns : tie.Need-returns
-returns c = c .before .before .read-small .ensures
-
-block-places-requires : tie.Need-block-places-requires
-block-places-requires c κs =
-    let F = c .before .before .before .before .before .pre .fits in
-    record { fits = F; room = omega (arith, c .before .place-buffer .ensures .long, F .most) }
-
-read-ordered-requires : tie.Need-read-ordered-requires
-read-ordered-requires c κs = (c .before .before .before .before .before .before .before .before .before .pre, c .before .before .before .block-places .ensures .0)
-
-returns-2 : tie.Need-returns-2
-returns-2 c = c .before .before .read-ordered .ensures
+returns c = c .before .before .before .before .before .before .read-lent .ensures
 
 pub read-block-spec : {M : Type 1} → statement M
 read-block-spec =
-    tie.close (tie.spec read-small-requires (λ c. search needs) returns (λ c κs. search needs) (λ c. search needs) block-places-requires (λ c. search needs) read-ordered-requires (λ c. search needs) returns-2)
+    tie.close (tie.spec (λ c κs. search needs) (λ c κs. search needs) (λ c κs. search needs) (λ c κs. search needs) (λ c κs. search needs) (λ c. search needs) block-places-requires (λ c. search needs) (λ c. search needs) (λ c. search needs) (λ c. search needs) (λ c. search needs) read-lent-requires (λ c. search needs) returns)

@@ -1,56 +1,79 @@
--- `read::read_rows` meets its contract. The loop's invariant: state, memory, marks and bytes are those after the first i rows. Assumes nothing.
-use Prim.Native.Nat.{_+_, _-_, _*_, _≤_}
-use mathlib.Core.Path.{refl}
+-- `read::read_rows` meets its contract. The loop's invariant: state and memory are those after the first i rows, and the frames that they finish are laid. Assumes nothing.
+use Prim.Native.Nat.{_-_}
 use native.Mathlib.Omega.{arith}
 use borrow.Author.Needs.{needs}
-use lib.ListN.{length}
-use Rattle.channels.proofs.Msc.{msc-fits}
-use Rattle.frames.proofs.FrameTurns.{RowsReading, reading-start, row-within, row-lent, row-block, row-rows, row-finish, row-turn, rows-end}
+use Rattle.frames.proofs.FrameTurns.{RowsTaken, rows-start, row-within, row-lent, row-rows, row-finish, row-turn, low, frames-lent, rows-end}
 use Rattle.frames.proofs.read.read_rows.Statement.{statement}
 use Rattle.frames.proofs.read.read_rows.Tie as tie
 
 abbrev Inv-loop : tie.InvT-loop
-Inv-loop msc memory₀ out₀ n k places rowplaces frames₀ i₀ memory out frames i =
-    RowsReading (frames₀ .after) msc memory₀ out₀ n memory out (frames .given) (frames .finished) (frames .after) i
+Inv-loop state msc memory₀ out n places cells₀ finished₀ after₀ i₀ memory cells finished after i = RowsTaken state msc memory₀ n memory cells finished after i
 
 abbrev μ-loop : tie.MeasureT-loop
-μ-loop msc memory₀ out₀ n k places rowplaces frames₀ i₀ memory out frames i = 3 - i
+μ-loop state msc memory₀ out n places cells₀ finished₀ after₀ i₀ memory cells finished after i = 3 - i
 
--- Row i lies within the cells.
-within : (c : tie.In-loop Inv-loop μ-loop)
-    → c .before .before .before .before .before .before .before .before .before .before .before .slot-size .result * c .before .loop .i + c .before .before .before .before .before .before .before .before .before .before .before .slot-size .result ≤ length (c .before .before .before .before .before .before .before .before .before .before .before .before .before .before .args .msc .now)
-within c = row-within _ _ _ _ _ _ _ _ _ _ _ (c .before .loop .inv) (c .loop-test .taken)
-
-block-places-requires : tie.Need-block-places-requires Inv-loop μ-loop
-block-places-requires c κs =
-    let F = msc-fits (c .before .before .before .before .before .before .pre .fits .allowed) in
-    rw (c .before .before .msc-block .ensures) (record { fits = F; room = omega (arith, c .before .place-buffer .ensures .long, F .most) })
+slot-size-requires : tie.Need-slot-size-requires Inv-loop μ-loop
+slot-size-requires c κs = c .before .before .pre .fits .allowed .settings
 
 row-places-requires : tie.Need-row-places-requires Inv-loop μ-loop
 row-places-requires c κs =
-    let s = c .before .before .before .before .before .before .before .before .before .before .pre .fits .allowed .settings in
+    let s = c .before .before .before .before .before .pre .fits .allowed .settings in
     record { settings = s; room = omega (arith, c .before .row-buffer .ensures .long, s .ranges .muxMost) }
+
+loop-holds : tie.Need-loop-holds Inv-loop μ-loop
+loop-holds c = rows-start _ _ _ _ (c .before .before .before .before .before .before .before .before .pre) _ _ (c .frames-buffer .ensures .long) (c .before .before .before .before .before .slot-size .ensures)
+
+mul-take-row : tie.Need-mul-take-row Inv-loop μ-loop
+mul-take-row c = let h = row-within _ _ _ _ (c .before .before .before .before .before .before .before .before .before .before .before .pre) _ _ _ _ _ _ (c .before .before .loop .inv) (c .before .loop-test .taken) in search needs
+
+mul-take-row-2 : tie.Need-mul-take-row-2 Inv-loop μ-loop
+mul-take-row-2 c = let h = row-within _ _ _ _ (c .before .before .before .before .before .before .before .before .before .before .before .pre) _ _ _ _ _ _ (c .before .before .loop .inv) (c .before .loop-test .taken) in search needs
+
+add-take-row : tie.Need-add-take-row Inv-loop μ-loop
+add-take-row c = let h = row-within _ _ _ _ (c .before .before .before .before .before .before .before .before .before .before .before .pre) _ _ _ _ _ _ (c .before .before .loop .inv) (c .before .loop-test .taken) in search needs
+
+mul-take-row-3 : tie.Need-mul-take-row-3 Inv-loop μ-loop
+mul-take-row-3 c = let h = row-within _ _ _ _ (c .before .before .before .before .before .before .before .before .before .before .before .pre) _ _ _ _ _ _ (c .before .before .loop .inv) (c .before .loop-test .taken) in search needs
+
+part-take-row-end : tie.Need-part-take-row-end Inv-loop μ-loop
+part-take-row-end c = row-within _ _ _ _ (c .before .before .before .before .before .before .before .before .before .before .before .pre) _ _ _ _ _ _ (c .before .before .loop .inv) (c .before .loop-test .taken)
 
 take-row-requires : tie.Need-take-row-requires Inv-loop μ-loop
 take-row-requires c κs =
     let w = c .before .before .before .before .loop .inv in
-    (row-lent _ _ _ _ _ _ _ _ _ _ _ w (c .before .before .before .loop-test .taken), row-rows _ _ _ _ _ _ _ _ _ _ _ w (c .before .before .before .before .before .before .row-places .ensures .0))
+    (row-lent _ _ _ _ (c .before .before .before .before .before .before .before .before .before .before .before .before .before .pre) _ _ _ _ _ _ w (c .before .before .before .loop-test .taken), row-rows _ _ _ _ (c .before .before .before .before .before .before .before .before .before .before .before .before .before .pre) _ _ _ _ _ _ w (c .before .before .before .before .before .before .before .row-places .ensures .0))
 
-read-finished-requires : tie.Need-read-finished-requires Inv-loop μ-loop
-read-finished-requires c κs =
-    let w = c .before .before .before .before .before .before .before .before .before .before .loop .inv in
-    let r = c .before .before .before .before .before in (
-      row-finish _ _ _ _ _ _ _ _ _ _ _ w (c .before .before .before .before .before .before .before .before .before .loop-test .taken) _ (r .take-row .ensures) (r .take-row .kept .1 .1 .1 .0),
-      (row-block _ _ _ _ _ _ _ _ _ _ _ w (c .before .before .before .before .before .before .before .before .before .before .before .before .before .before .before .before .before .before .before .msc-block .ensures), c .before .before .before .before .before .before .before .before .before .before .before .before .before .before .before .before .block-places .ensures .0),
-    )
+lay-finished-requires : tie.Need-lay-finished-requires Inv-loop μ-loop
+lay-finished-requires c κs =
+    let r = c .before .before .before .before .take-row in
+    row-finish _ _ _ _ (c .before .before .before .before .before .before .before .before .before .before .before .before .before .before .before .before .before .before .pre) _ _ _ _ _ _ (c .before .before .before .before .before .before .before .before .before .loop .inv) (c .before .before .before .before .before .before .before .before .loop-test .taken) _ (r .ensures) (r .kept .1 .1 .1 .0)
+
+next-state-requires : tie.Need-next-state-requires Inv-loop μ-loop
+next-state-requires c κs = let p = c .before .before .before .before .before .before .before .before .before .before .before .loop .inv .fits in (p .position, p .count)
 
 loop-again : tie.Need-loop-again Inv-loop μ-loop
 loop-again c =
-    let w = c .before .before .before .before .before .before .before .before .before .before .before .before .before .loop .inv in
-    let r = c .before .before .before .before .before .before .before .before in
-    row-turn _ _ _ _ _ _ _ _ _ _ _ w (c .before .before .before .before .before .before .before .before .before .before .before .before .loop-test .taken) _ (r .take-row .ensures) (r .take-row .kept .1 .1 .1 .0) _ _
-    (c .before .before .read-finished .ensures) (c .before .before .read-finished .kept .1 .1 .1 .1 .0)
+    let r = c .before .before .before .before .before .before .before .take-row in
+    row-turn _ _ _ _ (c .before .before .before .before .before .before .before .before .before .before .before .before .before .before .before .before .before .before .before .before .before .pre) _ _ _ _ _ _ (c .before .before .before .before .before .before .before .before .before .before .before .before .loop .inv) (c .before .before .before .before .before .before .before .before .before .before .before .loop-test .taken) _ (r .ensures) (r .kept .1 .1 .1 .0) _ _ _ (c .before .before .lay-finished .ensures) (c .before .before .lay-finished .kept .1 .1 .1 .0) (c .next-state .ensures)
+
+msc-block-requires : tie.Need-msc-block-requires Inv-loop μ-loop
+msc-block-requires c κs = c .before .before .before .before .before .before .before .before .before .before .pre .fits .allowed
+
+mul-read-several : tie.Need-mul-read-several Inv-loop μ-loop
+mul-read-several c = let w = c .before .before .loop .inv in omega (arith, low _ _ _ _ (c .before .before .before .before .before .before .before .before .before .before .before .pre) _ _ _ _ _ _ w (c .before .loop-test .left), w .room)
+
+part-read-several-end : tie.Need-part-read-several-end Inv-loop μ-loop
+part-read-several-end c = low _ _ _ _ (c .before .before .before .before .before .before .before .before .before .before .before .before .pre) _ _ _ _ _ _ (c .before .before .before .loop .inv) (c .before .before .loop-test .left)
+
+read-several-requires : tie.Need-read-several-requires Inv-loop μ-loop
+read-several-requires c κs = frames-lent _ _ _ _ (c .before .before .before .before .before .before .before .before .before .before .before .before .before .before .pre) _ _ _ _ _ _ (c .before .before .before .before .before .loop .inv) (c .before .before .before .before .loop-test .left) (c .before .before .before .msc-block .ensures)
+
+same-length : tie.Need-same-length Inv-loop μ-loop
+same-length c = c .before .before .before .before .before .before .before .before .loop .inv .same
+
+returns : tie.Need-returns Inv-loop μ-loop
+returns c = rows-end _ _ _ _ (c .before .before .before .before .before .before .before .before .before .before .before .before .before .before .before .before .before .pre) _ _ _ _ _ _ (c .before .before .before .before .before .before .before .before .loop .inv) (c .before .before .before .before .before .before .before .loop-test .left) (c .before .before .before .before .before .before .msc-block .ensures) (c .before .before .read-several .ensures)
 
 pub read-rows-spec : {M : Type 1} → statement M
 read-rows-spec =
-    tie.close (tie.spec Inv-loop μ-loop (λ c κs. c .before .before .pre .fits .allowed .settings) (λ c κs. c .before .before .before .pre .fits .allowed) (λ c κs. search needs) (λ c. search needs) block-places-requires (λ c κs. search needs) (λ c. search needs) row-places-requires (λ c. reading-start _ _ _ _ _ _ (c .before .before .before .before .before .before .before .before .before .before .before .before .pre) (c .before .before .before .before .before .before .before .before .before .slot-size .ensures) refl) (λ c. search needs) (λ c. let h = within (c .before) in search needs) (λ c. let h = within (c .before) in search needs) (λ c. let h = within (c .before) in search needs) (λ c. let h = within (c .before) in search needs) (λ c. let h = within (c .before) in search needs) (λ c. let h = within (c .before) in search needs) (λ c. let h = within (c .before) in search needs) take-row-requires (λ c. search needs) read-finished-requires (λ c. search needs) (λ c. search needs) loop-again (λ c. search needs) (λ c. search needs) (λ c. rows-end _ _ _ _ _ _ _ _ _ _ _ (c .before .loop .inv) (c .loop-test .left)))
+    tie.close (tie.spec Inv-loop μ-loop slot-size-requires (λ c κs. search needs) (λ c. search needs) row-places-requires (λ c κs. search needs) loop-holds (λ c. search needs) mul-take-row mul-take-row-2 add-take-row mul-take-row-3 (λ c. search needs) (λ c. search needs) part-take-row-end take-row-requires (λ c. search needs) lay-finished-requires next-state-requires (λ c. search needs) (λ c. search needs) loop-again msc-block-requires (λ c. search needs) mul-read-several (λ c. search needs) (λ c. search needs) part-read-several-end read-several-requires same-length (λ c. search needs) returns)
