@@ -8,7 +8,7 @@ use native.Mathlib.Nat.{mul-left-comm, mul-comm, mul-le-mul-left, mul-div-cancel
 use native.Mathlib.Omega.{arith}
 use borrow.Author.Tests.{eq-eqb, ne-eqb}
 use borrow.Rule.Slice.PartMut.{putMid}
-use lib.ListN.{length, length-append, length-drop, length-replicate, take, drop, take-append-drop, replicate}
+use lib.ListN.{length, length-append, length-drop, length-replicate, take, drop, take-append-drop}
 use lib.Seq.{take-at, drop-at, length-take-le, take-append-le, drop-append-le}
 use lib.IntN.{ℤ}
 use lib.Dec.{eqb}

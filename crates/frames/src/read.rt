@@ -11,7 +11,6 @@ use cellmemory::rows::take_row;
 use channels::blocks::msc_block;
 use settings::answers;
 use superframe::State;
-ghost use mathlib.Core.Path.{_≡_};
 ghost use Rattle.lists.specs.Buffers.{Long};
 ghost use Rattle.frames.specs.Contracts.{FinishLent, FrameLaid, RowsLent, RowsRead};
 

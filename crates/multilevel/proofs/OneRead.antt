@@ -9,7 +9,7 @@ use native.Mathlib.Nat.{zero-add}
 use lib.Seq.{sets, sets-eq, length-sets, length-take-le, take-all, drop-drop}
 use Rattle.lists.proofs.Parts.{from-start, to-end, length-start}
 use Rattle.patterns.specs.declared.Pattern.{Pattern}
-use Rattle.component.specs.Decoding.{codedLength, decode}
+use Rattle.component.specs.Decoding.{codedLength}
 use Rattle.patterns.specs.Contracts.{patternOf, Held}
 use Rattle.component.specs.Coding.{Decodes, Decoded}
 use Rattle.multilevel.specs.Contracts.{takenOver, levelBitsOver, ReadsPart, PartRead, ReadsLevel}

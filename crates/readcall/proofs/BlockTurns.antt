@@ -5,7 +5,7 @@ use mathlib.Core.List.{List, [], _∷_, _++_, append-nil}
 use Prim.Native.Nat.{ℕ, _*_, _/_, _≤_, _<_}
 use native.Mathlib.Nat.{div-self, mul-zero, mul-one}
 use native.Mathlib.Omega.{arith}
-use lib.ListN.{length, getD, length-append, length-map, length-replicate, drop, replicate}
+use lib.ListN.{length, getD, length-append, length-map, length-replicate, drop}
 use lib.Seq.{take-all, drop-length}
 use lib.IntN.{ℤ}
 use Rattle.lists.specs.Lists.{table}
