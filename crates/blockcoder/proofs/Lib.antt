@@ -2,7 +2,5 @@ pub mod Axes
 pub mod Woven
 pub mod Coding
 pub mod Each
-pub mod CellsRead
-pub mod Reading
 pub mod Lists
 pub mod Halves

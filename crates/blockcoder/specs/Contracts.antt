@@ -1,4 +1,4 @@
--- What the functions that code and read a block require and promise: nothing of 01 is stated here.
+-- What the functions that code a block require and promise: nothing of 01 is stated here.
 use Prim.Native.Nat.{ℕ, zero, suc, _*_, _≤_, _<_}
 use mathlib.Core.Path.{_≡_}
 use mathlib.Core.List.{List, [], _++_}
@@ -13,12 +13,9 @@ use Rattle.block.specs.Packing.{unpacked}
 use Rattle.block.specs.Dispersal.{dispersedParts}
 use Rattle.block.specs.Levels.{totalA}
 use Rattle.multilevel.specs.Contracts.{PartsOf, levelsOver, labelsFrom, shared, digits}
-use mathlib.Core.Bool.{cond, Bool}
-use Rattle.block.specs.Mapping.{constellation, mapped, woven}
-use Rattle.blockcoder.specs.declared.Found.{Found}
-use Rattle.block.specs.Reading.{labelsOf, unmapped, inputsA, inputsB, given, bytesRead}
+use mathlib.Core.Bool.{cond}
+use Rattle.block.specs.Mapping.{mapped, woven}
 use Rattle.mapping.specs.Contracts.{ThreeBits}
-use Rattle.blockcoder.specs.declared.Found.the-variants.{Given, NoBits}
 
 -- Working buffers of a block: for its labels, and for a level's coded bits.
 pub record HasRoom (k : Block) (labels coded : List ℕ) : Type 0 where
@@ -90,32 +87,6 @@ unfoldable pub cellsOfEach : Block → ℕ → List ℕ → List ℤ
 cellsOfEach k zero bytes = []
 cellsOfEach k (suc m) bytes = cellsOfEach k m bytes ++ cellsFrom k (take (bytesFor (bitCount k)) (drop (bytesFor (bitCount k) * m) bytes))
 
--- What reading the levels from cells requires: a block that fits, its cells, room for its bits, and its working buffers.
-pub record ReadsCandidate (k : Block) (cells : List ℤ) (labels coded bits : List ℕ) : Type 0 where
-  pub fits : BlockFits k
-  pub whole : length cells ≡ 2 * k .cells
-  pub long : length bits ≡ bitCount k
-  pub room : HasRoom k labels coded
-
--- The labels of a block's cells.
-abbrev pub labelsIn : Block → List ℤ → List ℕ
-labelsIn k cells = labelsOf (constellation (k .constellation)) cells
-
--- The bits of all levels from cells: those of part A, and then those of part B.
-unfoldable pub levelBits : Block → List ℤ → List ℕ
-levelBits k cells =
-    let ys = unmapped (pointsOf k) (oneAxis k) (length (levelsOf k)) cells in
-    inputsA (levelsOf k) ys ++ inputsB (levelsOf k) ys
-
--- What reading a block finds: bits that give the cells, or that no bits do.
-unfoldable pub foundOf : Bool → Found
-foundOf b = cond b Given NoBits
-
--- A block is read: where some bits give the cells the bytes are those bits packed, else they are as they were.
-pub record BlockRead (k : Block) (cells : List ℤ) (bytes : List ℕ) (answer : Found) (bytes' : List ℕ) : Type 0 where
-  pub answered : answer ≡ foundOf (given k cells)
-  pub written : bytes' ≡ cond (given k cells) (bytesRead k cells) bytes
-
 -- Labels of a constellation whose axes have one labelling, those of the first n1 cells being part A's.
 pub record MapsParts (c n1 : ℕ) (labels : List ℕ) (out : List ℤ) : Type 0 where
   pub known : c < 4
@@ -133,8 +104,3 @@ pub record MapsAxesParts (c n1 : ℕ) (re im : List ℕ) (out : List ℤ) : Type
   pub high : length re ≤ 16384
   pub lowReal : ThreeBits re
   pub lowImaginary : ThreeBits im
-
--- What handing the candidate's bytes out requires: as many bytes, and as many coordinates of the candidate as of the cells.
-pub record HandsOut (candidate : List ℕ) (given cells : List ℤ) (bytes : List ℕ) : Type 0 where
-  pub bytes-long : length bytes ≡ length candidate
-  pub cells-long : length given ≡ length cells

@@ -127,18 +127,6 @@ pub fn code_lent(
     code_streams(k, places, &bits[0..total], labels, coded, out);
 }
 
-// The same, with working buffers of its own.
-pub fn code_ordered(k: Block, places: &[u16], bytes: &[u8], out: &mut [i16])
-    requires { ⌜ BlockLent k (now bytes) (now out) ⌝ }
-    requires { ⌜ BlockOrder k (now places) ⌝ }
-    ensures { λ r. ⌜ now (out .exit) ≡ cellsFrom k (now (bytes .entry)) ⌝ }
-{
-    let mut bits = bit_buffer();
-    let mut labels = cell_buffer();
-    let mut coded = cell_buffer();
-    code_lent(k, places, bytes, &mut bits, &mut labels, &mut coded, out);
-}
-
 // So many equal blocks, one after the other.
 fn code_each(
     k: Block,

@@ -1,6 +1,5 @@
 pub mod Ring
 pub mod Turns
 pub mod Points
-pub mod Laid
 pub mod Progress
 pub mod FillerTurns

@@ -21,9 +21,9 @@ use Rattle.block.specs.Block.{bitCount, cellsFrom}
 use Rattle.block.specs.Reading.{given, bytesRead}
 use Rattle.block.specs.Fits.{BlockFits, BlockBytes}
 use Rattle.block.proofs.Reader.{reads-bytes}
-use Rattle.blockcoder.specs.declared.Found.{Found}
-use Rattle.blockcoder.specs.declared.Found.the-variants.{Given}
-use Rattle.blockcoder.specs.Contracts.{BlockRead, foundOf}
+use Rattle.blockreader.specs.declared.Found.{Found}
+use Rattle.blockreader.specs.declared.Found.the-variants.{Given}
+use Rattle.blockreader.specs.Contracts.{BlockRead, foundOf}
 use Rattle.vectors.specs.Digest.{cellsTaken}
 use Rattle.vectors.specs.Draws.{byteOf, state, bytesFrom, spareBits, cleared, drawnBlock}
 use Rattle.check_blocks.specs.Kinds.{bytesDrawn, drawnFrom}

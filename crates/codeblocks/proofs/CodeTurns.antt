@@ -38,7 +38,7 @@ use Rattle.superframe.specs.Call.{part, parts, joined}
 use Rattle.superframe.specs.Code.{frameCells, progressOf, stateOf}
 use Rattle.superframe.proofs.Memory.{slot-before, length-stored}
 use Rattle.cellmemory.specs.Contracts.{StateFits, RowLent, RowOrder, nextState, fillerNumbers}
-use Rattle.cellmemory.proofs.Laid.{put-sets, take-sets, drop-sets, part-within, part-below, length-mid}
+use Rattle.superframe.proofs.Laid.{put-sets, take-sets, drop-sets, part-within, part-below, length-mid}
 use Rattle.cellmemory.proofs.Progress.{next-fits}
 use Rattle.codeblocks.specs.Contracts.{FrameSent, MscFits, MscCoded, framesAfter, framesSent}
 

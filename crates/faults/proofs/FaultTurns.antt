@@ -32,7 +32,7 @@ use Rattle.faults.specs.declared.Fault.{Fault}
 use Rattle.faults.specs.declared.Fault.the-variants.{Nowhere, At}
 use Rattle.cellmemory.specs.Contracts.{fillerNumbers}
 use Rattle.cellmemory.proofs.Points.{rowTest, row-points, sdc-points, fac-points}
-use Rattle.cellmemory.proofs.Laid.{part-is, length-mid}
+use Rattle.superframe.proofs.Laid.{part-is, length-mid}
 use Rattle.cellmemory.proofs.FillerTurns.{filler-fits}
 use lib.Seq.{drop-cons, getD-take, length-take-le, take-all}
 use lib.Signed.{mag}

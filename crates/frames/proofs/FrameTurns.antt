@@ -23,7 +23,8 @@ use Rattle.settings.specs.Lengths.{nMux}
 use Rattle.settings.specs.Sizes.{depth, frameBytes}
 use Rattle.block.specs.declared.Block.{Block}
 use Rattle.block.specs.Block.{bitCount}
-use Rattle.frames.specs.Contracts.{blocksIn, SeveralLent, SeveralRead, FinishLent, FrameLaid, RowsLent, RowsRead}
+use Rattle.frames.specs.Contracts.{FinishLent, FrameLaid, RowsLent, RowsRead}
+use Rattle.blockreader.specs.Contracts.{blocksIn, SeveralLent, SeveralRead}
 use Rattle.channels.specs.Msc.{mscBlock}
 use Rattle.channels.specs.declared.Scheme.{Scheme}
 use Rattle.channels.specs.Scheme.{SchemeAccepted}
@@ -40,9 +41,9 @@ use Rattle.settings.specs.Accepted.{Accepted}
 use Rattle.superframe.proofs.Memory.{slot-before}
 use Rattle.cellmemory.specs.Contracts.{StateFits, RowLent, RowOrder, nextState}
 use Rattle.cellmemory.proofs.Ring.{slot-near, slot-far}
-use Rattle.cellmemory.proofs.Laid.{part-is, part-below, length-mid}
+use Rattle.superframe.proofs.Laid.{part-is, part-below, length-mid}
 use Rattle.cellmemory.proofs.Progress.{next-fits, memory-most}
-use Rattle.frames.proofs.BlockTurns.{in-places}
+use Rattle.blockreader.proofs.BlockTurns.{in-places}
 
 -- The slot D - 1 before a position is the one after it.
 slot-next : (D p : ℕ) → p < D → slotBefore D p (D - 1) ≡ (p + 1) % D

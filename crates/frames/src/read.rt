@@ -1,7 +1,7 @@
 // The frames that a call's rows finish, each read into its own place. 01 "Buffers and state" and "Operations".
 use crate::Frames;
-use crate::blocks::read_several;
 use block::buffers::MOST_NUMBERS;
+use blockreader::several::read_several;
 use cellbytes::cells::to_numbers;
 use cellmemory::buffers::row_buffer;
 use cellmemory::rows::next_state;

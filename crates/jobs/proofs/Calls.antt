@@ -27,7 +27,7 @@ use Rattle.settings.proofs.Buffers.{sizes-accepts}
 use Rattle.superframe.proofs.Calls.{first-zero, first-own}
 use Rattle.callrefusals.specs.Contracts.{lengthRefusal}
 use Rattle.callrefusals.proofs.Chains.{scheme-settings}
-use Rattle.cellmemory.proofs.Laid.{take-sets}
+use Rattle.superframe.proofs.Laid.{take-sets}
 use Rattle.console.specs.declared.Job.{Job}
 use Rattle.console.specs.declared.Job.the-variants.{Code, Read, ReadOn, Grid, Ungrid}
 use Rattle.deskcells.specs.Cells.{bytesCells}

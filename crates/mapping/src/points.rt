@@ -1,9 +1,6 @@
 // Level bits to coordinates and back. 01 "Mapping"; 001 clause 7.4.
 ghost use mathlib.Core.Path.{_≡_};
 ghost use Prim.Native.Nat.{_<_};
-ghost use lib.Bits.{bitAnd};
-ghost use mir.Syntax.{w16};
-ghost use mir.Val.{ofZ};
 ghost use Rattle.block.specs.Mapping.{constellation, axis, weave};
 ghost use Rattle.block.specs.Reading.{placeOf, labelsOf};
 ghost use Rattle.mapping.specs.Labels.{coordinates, axisLabels};
@@ -100,13 +97,6 @@ pub fn map_axes(c: u8, re: &[u8], im: &[u8], out: &mut [i16])
     }
 }
 
-// The four lowest binary digits of a number.
-fn low_digits(v: i16) -> usize
-    ensures { λ r. ⌜ (r ≡ bitAnd (ofZ w16 v) 15) × (r < 16) ⌝ }
-{
-    (v & 15) as usize
-}
-
 // The labels of an axis by a coordinate's four lowest binary digits; the first one stands for what is no coordinate.
 const LABELS4: [u8; 16] = [2, 0, 2, 2, 2, 2, 2, 2, 2, 2, 2, 2, 2, 2, 2, 1];
 
@@ -140,7 +130,7 @@ fn label_of(labels: &[u8; 16], v: i16) -> u8
     ensures { λ r. ⌜ r ≡ labelBy (now (labels .entry)) v ⌝ }
 {
     if (-9 < v) & (v < 8) {
-        return labels[low_digits(v)];
+        return labels[(v & 15) as usize];
     }
     labels[0]
 }

@@ -15,7 +15,8 @@ use Rattle.settings.specs.Sizes.{sdcBytes}
 use Rattle.block.specs.declared.Block.{Block}
 use Rattle.block.specs.Block.{bitCount}
 use Rattle.block.specs.Reading.{given}
-use Rattle.frames.specs.Contracts.{blocksIn, SeveralLent, SeveralRead, PlacesRead, RowsLent, RowsRead}
+use Rattle.frames.specs.Contracts.{RowsLent, RowsRead}
+use Rattle.blockreader.specs.Contracts.{blocksIn, SeveralLent, SeveralRead, PlacesRead}
 use Rattle.channels.specs.Sdc.{sdcBlock}
 use Rattle.settings.specs.Cells.{facCells}
 use Rattle.superframe.specs.declared.State.{State}
@@ -31,7 +32,7 @@ use Rattle.settings.specs.Formulas.{facBits}
 use Rattle.frames.specs.declared.Frames.{Frames}
 use Rattle.readcall.specs.Contracts.{BlocksLent, BlocksRead, blocksOf}
 use Rattle.readcall.specs.declared.Blocks.{Blocks}
-use Rattle.frames.proofs.BlockTurns.{in-places}
+use Rattle.blockreader.proofs.BlockTurns.{in-places}
 
 -- The cells of one block.
 one-part : (n : ℕ) (cells : List ℤ) → 0 < n → length cells ≡ n → table (part n cells) 0 (length cells / n) ≡ cells ∷ []

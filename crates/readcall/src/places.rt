@@ -1,8 +1,8 @@
 // The first phase of a Read call: every block is read, whatever the others are, and its bytes stand in its own place. 01 "Buffers and state" and "Operations".
 use crate::Blocks;
+use blockreader::several::read_several;
 use channels::blocks::fac_block;
 use channels::blocks::sdc_block;
-use frames::blocks::read_several;
 use frames::read::read_rows;
 use superframe::State;
 ghost use Rattle.readcall.specs.Contracts.{readCall, BlocksLent, BlocksRead};

@@ -1,6 +1,7 @@
 pub mod Lists
 pub mod Memory
 pub mod Slots
+pub mod Laid
 pub mod Places
 pub mod Coding
 pub mod History

@@ -11,7 +11,7 @@ use Rattle.lists.specs.Bools.{every}
 use Rattle.superframe.specs.Call.{part, parts}
 use Rattle.lists.proofs.Tables.{map-table}
 use Rattle.lists.proofs.Tests.{Passed, passed-start, passed-turn, passed-end}
-use Rattle.cellmemory.proofs.Laid.{part-within, part-is}
+use Rattle.superframe.proofs.Laid.{part-within, part-is}
 use Rattle.callrefusals.proofs.refusal.frames_spare.Statement.{statement}
 use Rattle.callrefusals.proofs.refusal.frames_spare.Tie as tie
 

@@ -2,7 +2,7 @@
 use Prim.Native.Nat.{ℕ}
 use mathlib.Core.Path.{_≡_}
 use native.Mathlib.Omega.{arith}
-use Rattle.blockcoder.specs.declared.Found.the-variants.{NoBits}
+use Rattle.blockreader.specs.declared.Found.the-variants.{NoBits}
 use borrow.Author.Needs.{needs}
 use Rattle.check_blocks.proofs.Back.{apart}
 use Rattle.check_blocks.proofs.blocks.digest_of.Statement.{statement}

@@ -3,7 +3,7 @@ use Prim.Native.Nat.{_+_, _*_, _≤_}
 use native.Mathlib.Omega.{arith}
 use borrow.Author.Needs.{needs}
 use lib.ListN.{length}
-use Rattle.cellmemory.proofs.Laid.{part-below}
+use Rattle.superframe.proofs.Laid.{part-below}
 use Rattle.superframe.proofs.Coding.{depth-high}
 use Rattle.faults.proofs.FaultTurns.{row-test-is}
 use Rattle.faults.proofs.lowest.row_test.Statement.{statement}

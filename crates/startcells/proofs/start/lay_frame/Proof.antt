@@ -11,7 +11,7 @@ use Rattle.lists.proofs.Parts.{from-start}
 use Rattle.cellbytes.specs.CellBytes.{bytes}
 use Rattle.cellbytes.proofs.CellBytes.{length-bytes}
 use Rattle.superframe.specs.Call.{joined}
-use Rattle.cellmemory.proofs.Laid.{Laid, laid-start, laid-part, laid-parts, part-within, length-mid}
+use Rattle.superframe.proofs.Laid.{Laid, laid-start, laid-part, laid-parts, part-within, length-mid}
 use Rattle.startcells.proofs.ZeroFrames.{table-same}
 use Rattle.startcells.proofs.start.lay_frame.Statement.{statement}
 use Rattle.startcells.proofs.start.lay_frame.Tie as tie

@@ -1,0 +1,3 @@
+mod CellsRead
+mod Reading
+pub mod BlockTurns

@@ -1,0 +1,125 @@
+// Blocks of a kind, up to three, each read into its own place. 01 "Buffers and state" and "Operations".
+use crate::Found;
+use crate::lent::read_lent;
+use block::Block;
+use block::buffers::bit_buffer;
+use block::buffers::cell_buffer;
+use block::buffers::coordinate_buffer;
+use multilevel::places::bit_count;
+use multilevel::tables::SMALL_CELLS;
+use multilevel::tables::SMALL_NUMBERS;
+use multilevel::tables::block_places;
+use multilevel::tables::place_buffer;
+use multilevel::tables::small_bit_buffer;
+use multilevel::tables::small_cell_buffer;
+use multilevel::tables::small_place_buffer;
+ghost use Prim.Native.Nat.{_*_, _≤_};
+ghost use mathlib.Core.Path.{_≡_};
+ghost use lib.ListN.{length};
+ghost use Rattle.lists.specs.Buffers.{Long};
+ghost use Rattle.multilevel.specs.Contracts.{BlockOrder};
+ghost use Rattle.blockcoder.specs.Contracts.{WorkLent};
+ghost use Rattle.blockreader.specs.Contracts.{isGiven, SeveralLent, SeveralRead};
+
+// Whether bits were found.
+fn is_given(found: Found) -> bool
+    ensures { λ r. ⌜ r ≡ isGiven found ⌝ }
+{
+    if let Found::Given = found {
+        return true;
+    }
+    false
+}
+
+// The coordinates of a small block, from a function of its own: proofs then take its length and do not write it out.
+fn small_coordinate_buffer() -> [i16; SMALL_NUMBERS]
+    ensures { λ r. ⌜ Long 1692 r ⌝ }
+{
+    [0i16; SMALL_NUMBERS]
+}
+
+// The blocks whose cells stand there, one after the other: whether bits give each, true in a place without a block; the bytes of those are written.
+fn read_each(
+    k: Block,
+    places: &[u16],
+    cells: &[i16],
+    bits: &mut [u8],
+    labels: &mut [u8],
+    coded: &mut [u8],
+    again: &mut [i16],
+    bytes: &mut [u8],
+) -> [bool; 3]
+    requires { ⌜ SeveralLent k (now cells) (now bytes) × WorkLent k (now bits) (now labels) (now coded) × (2 * k .cells ≤ length (now again)) ⌝ }
+    requires { ⌜ BlockOrder k (now places) ⌝ }
+    ensures { λ r. ⌜ SeveralRead k (now (cells .entry)) (now (bytes .entry)) r (now (bytes .exit)) ⌝ }
+{
+    let n = 2 * k.cells;
+    let m = (bit_count(k) + 7) / 8;
+    let many = cells.len() / n;
+    let mut given = [true; 3];
+    let mut i = 0;
+    while i < many {
+        let found = read_lent(
+            k,
+            places,
+            &cells[n * i..n * i + n],
+            bits,
+            labels,
+            coded,
+            again,
+            &mut bytes[m * i..m * i + m],
+        );
+        given[i] = is_given(found);
+        i += 1;
+    }
+    given
+}
+
+// The same, with places and buffers for small blocks: to clear those of the largest takes longer than to read an FAC block.
+fn read_small(k: Block, cells: &[i16], bytes: &mut [u8]) -> [bool; 3]
+    requires { ⌜ SeveralLent k (now cells) (now bytes) × (k .cells ≤ 846) ⌝ }
+    ensures { λ r. ⌜ SeveralRead k (now (cells .entry)) (now (bytes .entry)) r (now (bytes .exit)) ⌝ }
+{
+    let mut places = small_place_buffer();
+    let mut bits = small_bit_buffer();
+    let mut labels = small_cell_buffer();
+    let mut coded = small_cell_buffer();
+    let mut again = small_coordinate_buffer();
+    block_places(k, &mut places);
+    read_each(
+        k,
+        &places,
+        cells,
+        &mut bits,
+        &mut labels,
+        &mut coded,
+        &mut again,
+        bytes,
+    )
+}
+
+// The same of any blocks, with one table of places for all.
+pub fn read_several(k: Block, cells: &[i16], bytes: &mut [u8]) -> [bool; 3]
+    requires { ⌜ SeveralLent k (now cells) (now bytes) ⌝ }
+    ensures { λ r. ⌜ SeveralRead k (now (cells .entry)) (now (bytes .entry)) r (now (bytes .exit)) ⌝ }
+{
+    if k.cells <= SMALL_CELLS {
+        return read_small(k, cells, bytes);
+    }
+    let mut places = place_buffer();
+    let mut bits = bit_buffer();
+    let mut labels = cell_buffer();
+    let mut coded = cell_buffer();
+    let mut again = coordinate_buffer();
+    block_places(k, &mut places);
+    read_each(
+        k,
+        &places,
+        cells,
+        &mut bits,
+        &mut labels,
+        &mut coded,
+        &mut again,
+        bytes,
+    )
+}
