@@ -27,13 +27,6 @@ pub fn cell_buffer() -> [u8; MOST_NUMBERS]
     [0u8; MOST_NUMBERS]
 }
 
-// A number for each cell.
-pub fn axis_buffer() -> [u8; MOST_CELLS]
-    ensures { λ r. ⌜ Long 6118 r ⌝ }
-{
-    [0u8; MOST_CELLS]
-}
-
 // The bits of a block.
 pub fn bit_buffer() -> [u8; MOST_BITS]
     ensures { λ r. ⌜ Long 36708 r ⌝ }
