@@ -1,18 +1,16 @@
 // The desk's program: it reads, calls the jobs and writes. What is decided and what is said stands in `turns`, `console`, `words` and the crates of the jobs.
-mod fitting;
-mod hold_files;
-mod lines;
-mod multiplex_frames;
-mod output;
-mod plans;
-mod previews;
-mod reading;
 mod super_frames;
 
 use console::Start;
 use console::arguments;
-use output::say_settings;
-use output::say_usage;
+use holdpipes::files;
+use holdpipes::previews;
+use linepipes::fitting;
+use linepipes::lines;
+use linepipes::multiplex_frames;
+use linepipes::plans;
+use pipes::output::say_settings;
+use pipes::output::say_usage;
 
 fn main() {
     let mut word = [0u8; 32];
@@ -26,7 +24,7 @@ fn main() {
         Start::Begin(job, s) => super_frames::begin(job, s),
         Start::Lines(job) => lines::run_lines(job),
         Start::Multiplex(job, s) => multiplex_frames::begin(job, s),
-        Start::Turn(job, s) => hold_files::turn_input(job, s),
+        Start::Turn(job, s) => files::turn_input(job, s),
         Start::Preview(s) => previews::preview(s),
         Start::Fit(s) => fitting::begin(s),
         Start::Plan => plans::begin(),

@@ -1,16 +1,16 @@
 // Jobs on super frames.
-use crate::hold_files::begin_from;
-use crate::hold_files::store_at;
-use crate::output::say_file;
-use crate::output::say_lost;
-use crate::output::say_run;
-use crate::reading::fill;
 use console::Job;
+use holdpipes::files::begin_from;
+use holdpipes::files::store_at;
 use jobs::buffers;
 use jobs::readon::reads_on;
 use jobs::sizes;
 use jobs::superframes;
 use libc::STDOUT_FILENO;
+use pipes::input::fill;
+use pipes::output::say_file;
+use pipes::output::say_lost;
+use pipes::output::say_run;
 use settings::Settings;
 use superframe::State;
 use turns::End;

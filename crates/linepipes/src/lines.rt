@@ -1,11 +1,11 @@
 // Jobs on lines.
-use crate::output::say_line;
-use crate::output::write_front;
-use crate::reading::read_line;
 use console::LineJob;
 use libc::STDIN_FILENO;
 use libc::STDOUT_FILENO;
 use linejobs::steps;
+use pipes::input::read_line;
+use pipes::output::say_line;
+use pipes::output::write_front;
 use turns::Next;
 use turns::input;
 use turns::turn;

@@ -1,7 +1,7 @@
 use borrow.Author.Needs.{needs}
 use Prim.Native.Nat.{_-_}
-use Rattle.desk.proofs.plans.print_week.Statement.{statement}
-use Rattle.desk.proofs.plans.print_week.Tie as tie
+use Rattle.linepipes.proofs.plans.print_week.Statement.{statement}
+use Rattle.linepipes.proofs.plans.print_week.Tie as tie
 
 abbrev Inv-loop : tie.InvT-loop
 Inv-loop rules minute₀ index₀ minute index = Unit {0}

@@ -1,7 +1,7 @@
 use borrow.Author.Needs.{needs}
 use Prim.Native.Nat.{_-_, _≤_}
-use Rattle.desk.proofs.reading.read_line.Statement.{statement}
-use Rattle.desk.proofs.reading.read_line.Tie as tie
+use Rattle.pipes.proofs.input.read_line.Statement.{statement}
+use Rattle.pipes.proofs.input.read_line.Tie as tie
 
 abbrev Inv-loop : tie.InvT-loop
 Inv-loop from line₀ count₀ turns₀ line count turns = count ≤ 256

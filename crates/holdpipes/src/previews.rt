@@ -1,14 +1,14 @@
 // The job `preview`. 02, S-3.
-use crate::hold_files::restore_from;
-use crate::output::say_file;
-use crate::output::say_run;
-use crate::reading::take_all;
+use crate::files::restore_from;
 use console::Job;
 use holdjobs::shown;
 use jobs::buffers;
 use jobs::sizes;
 use libc::STDIN_FILENO;
 use libc::STDOUT_FILENO;
+use pipes::input::take_all;
+use pipes::output::say_file;
+use pipes::output::say_run;
 use settings::Settings;
 use superframe::State;
 use turns::End;

@@ -2,8 +2,8 @@ use borrow.Author.Needs.{needs}
 use Prim.Native.Nat.{_-_, _≤_}
 use mathlib.Core.Path.{_≡_}
 use lib.ListN.{length}
-use Rattle.desk.proofs.plans.read_rules.Statement.{statement}
-use Rattle.desk.proofs.plans.read_rules.Tie as tie
+use Rattle.linepipes.proofs.plans.read_rules.Statement.{statement}
+use Rattle.linepipes.proofs.plans.read_rules.Tie as tie
 
 abbrev Inv-loop : tie.InvT-loop
 Inv-loop from rules₀ count₀ rules count = (count ≤ 65) × (length rules ≡ length rules₀)

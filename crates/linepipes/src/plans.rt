@@ -1,10 +1,10 @@
 // The job on a week plan.
-use crate::output::say_line;
-use crate::output::say_usage;
-use crate::output::write_front;
-use crate::reading::read_line;
 use libc::STDERR_FILENO;
 use libc::STDOUT_FILENO;
+use pipes::input::read_line;
+use pipes::output::say_line;
+use pipes::output::say_usage;
+use pipes::output::write_front;
 use plan::rules::WEEK_MINUTES;
 use planjobs::Asked;
 use planjobs::arguments::asked;

@@ -1,10 +1,10 @@
 // The job that says how long a number of bytes takes.
-use crate::output::say_line;
-use crate::output::say_settings;
-use crate::output::say_usage;
-use crate::output::write_front;
 use fitjobs::text;
 use libc::STDOUT_FILENO;
+use pipes::output::say_line;
+use pipes::output::say_settings;
+use pipes::output::say_usage;
+use pipes::output::write_front;
 use settings::Settings;
 use turns::End;
 use turns::Outcome;

@@ -1,7 +1,7 @@
 use borrow.Author.Needs.{needs}
 use Prim.Native.Nat.{_-_}
-use Rattle.desk.proofs.lines.run_lines.Statement.{statement}
-use Rattle.desk.proofs.lines.run_lines.Tie as tie
+use Rattle.linepipes.proofs.lines.run_lines.Statement.{statement}
+use Rattle.linepipes.proofs.lines.run_lines.Tie as tie
 
 abbrev Inv-loop : tie.InvT-loop
 Inv-loop job index₀ index = Unit {0}

@@ -3,8 +3,8 @@ use Prim.Native.Nat.{_-_}
 use mathlib.Core.Path.{_≡_, refl}
 use native.Mathlib.Omega.{arith}
 use lib.ListN.{length}
-use Rattle.desk.proofs.multiplex_frames.run_frames.Statement.{statement}
-use Rattle.desk.proofs.multiplex_frames.run_frames.Tie as tie
+use Rattle.linepipes.proofs.multiplex_frames.run_frames.Statement.{statement}
+use Rattle.linepipes.proofs.multiplex_frames.run_frames.Tie as tie
 
 abbrev Inv-loop : tie.InvT-loop
 Inv-loop job s description bytes₀ out₀ count₀ bytes out count = (length bytes ≡ length bytes₀) × (length out ≡ length out₀)

@@ -1,14 +1,14 @@
 // Jobs on multiplex frames.
-use crate::output::say_run;
-use crate::output::say_settings;
-use crate::output::say_usage;
-use crate::reading::fill;
 use console::MuxJob;
 use libc::STDOUT_FILENO;
 use muxjobs::Begun;
 use muxjobs::MOST_BYTES;
 use muxjobs::argument;
 use muxjobs::steps;
+use pipes::input::fill;
+use pipes::output::say_run;
+use pipes::output::say_settings;
+use pipes::output::say_usage;
 use settings::Settings;
 use turns::Next;
 use turns::turn;

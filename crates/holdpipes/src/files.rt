@@ -1,6 +1,4 @@
 // Hold files: turned into the other form, begun from, and stored. 02, S-7.
-use crate::output::say_file;
-use crate::reading::take_all;
 use channels::tables::standard_scheme;
 use console::TurnJob;
 use holdcalls::restore::restore;
@@ -9,6 +7,8 @@ use holdjobs::files;
 use holdlines::Form;
 use libc::STDIN_FILENO;
 use libc::STDOUT_FILENO;
+use pipes::input::take_all;
+use pipes::output::say_file;
 use resetcall::reset::reset;
 use settings::Settings;
 use superframe::State;
