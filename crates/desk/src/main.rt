@@ -4,13 +4,13 @@ mod super_frames;
 use console::Start;
 use console::arguments;
 use holdpipes::files;
-use holdpipes::previews;
 use linepipes::fitting;
 use linepipes::lines;
 use linepipes::multiplex_frames;
 use linepipes::plans;
 use pipes::output::say_settings;
 use pipes::output::say_usage;
+use previewjobs::previews;
 
 fn main() {
     let mut word = [0u8; 32];

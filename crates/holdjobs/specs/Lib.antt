@@ -1,3 +1,2 @@
 pub mod Files
 pub mod Asked
-pub mod Shown

@@ -1,4 +1,3 @@
-// What the desk's program makes of hold files. 02, S-7 and S-3.
+// What the desk's program makes of hold files. 02, S-7.
 pub mod asked;
 pub mod files;
-pub mod shown;

@@ -1,3 +1,2 @@
-// Jobs over hold files: turned, begun from, stored (02, S-7), and a preview from one (02, S-3).
+// Hold files over pipes: turned, begun from and stored. 02, S-7.
 pub mod files;
-pub mod previews;

@@ -7,7 +7,7 @@ ghost use mathlib.Core.Path.{_≡_};
 ghost use Prim.Native.Nat.{_≤_};
 ghost use lib.ListN.{length};
 ghost use Rattle.turns.specs.Yield.{madeYield};
-ghost use Rattle.holdjobs.specs.Shown.{shownOf, copyAfter};
+ghost use Rattle.previewjobs.specs.Shown.{shownOf, copyAfter};
 
 // The cells of one super frame; memory is a working copy, restored from a file that is not written, and is left as Code leaves it.
 pub fn show(state: State, bytes: &[u8], memory: &mut [u8], out: &mut [u8]) -> Made

@@ -1,7 +1,7 @@
 // The job `preview`. 02, S-3.
-use crate::files::restore_from;
+use crate::shown;
 use console::Job;
-use holdjobs::shown;
+use holdpipes::files::restore_from;
 use jobs::buffers;
 use jobs::sizes;
 use libc::STDIN_FILENO;

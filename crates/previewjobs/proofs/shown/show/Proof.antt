@@ -1,7 +1,7 @@
 use borrow.Author.Needs.{needs}
-use Rattle.holdjobs.proofs.Previews.{shown, copied}
-use Rattle.holdjobs.proofs.shown.show.Statement.{statement}
-use Rattle.holdjobs.proofs.shown.show.Tie as tie
+use Rattle.previewjobs.proofs.Showing.{shown, copied}
+use Rattle.previewjobs.proofs.shown.show.Statement.{statement}
+use Rattle.previewjobs.proofs.shown.show.Tie as tie
 
 returns : tie.Need-returns
 returns c =

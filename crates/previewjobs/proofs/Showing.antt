@@ -12,7 +12,7 @@ use Rattle.console.specs.declared.Job.the-variants.{Code}
 use Rattle.turns.specs.Yield.{MadeYield, madeYield, through, refused, answered}
 use Rattle.jobs.specs.Output.{cellOutput}
 use Rattle.jobs.specs.SuperFrame.{JobYield, through as Job·through, refused as Job·refused, answered as Job·answered, codeLent, codeWritten, jobCall, jobRefusal, jobOf}
-use Rattle.holdjobs.specs.Shown.{previewWritten, shownOf, copyAfter}
+use Rattle.previewjobs.specs.Shown.{previewWritten, shownOf, copyAfter}
 
 -- A job's yield without state and memory.
 abbrev made : JobYield → MadeYield
