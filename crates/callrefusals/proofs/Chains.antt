@@ -10,7 +10,7 @@ use lib.IntN.{ℤ}
 use lib.Dec.{eqb, ltb}
 use Rattle.settings.specs.Lengths.{nMux}
 use Rattle.cellbytes.specs.CellBytes.{numbers}
-use Rattle.mapping.specs.PointTests.{pointsPass, allCells}
+use Rattle.pointtests.specs.PointTests.{pointsPass, allCells}
 use Rattle.channels.specs.Msc.{mscConstellation}
 use Rattle.cellmemory.proofs.Points.{memory-points}
 use mathlib.Core.Logic.{_⊎_, inl, inr}

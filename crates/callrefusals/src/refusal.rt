@@ -1,8 +1,8 @@
 // Refusals, and the tests that they rest on. 01 "Operations".
 use channels::blocks::msc_constellation;
 use channels::tables::refusal_with;
-use mapping::tests::bytes_pass;
 use packing::bits::spare_zero;
+use pointtests::tests::bytes_pass;
 use settings::Settings;
 use settings::Sizes;
 use settings::answers;

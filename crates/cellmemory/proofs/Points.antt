@@ -19,11 +19,11 @@ use Rattle.settings.specs.Lengths.{nMux}
 use Rattle.settings.specs.Sizes.{depth}
 use Rattle.block.specs.Points.{isEmpty, arePoints}
 use Rattle.block.specs.Block.{pointsOf}
-use Rattle.mapping.specs.declared.PointTest.{PointTest}
+use Rattle.pointtests.specs.declared.PointTest.{PointTest}
 use Rattle.cellbytes.specs.CellBytes.{numbers}
 use Rattle.cellbytes.proofs.CellBytes.{length-numbers, real-at, imaginary-at}
-use Rattle.mapping.specs.PointTests.{cellPasses, pointsPass, allCells, pointsOnly}
-use Rattle.mapping.proofs.PointTests.{points-only}
+use Rattle.pointtests.specs.PointTests.{cellPasses, pointsPass, allCells, pointsOnly}
+use Rattle.pointtests.proofs.PointTests.{points-only}
 use Rattle.channels.specs.Fac.{facBlock}
 use Rattle.channels.specs.Sdc.{sdcConstellation, sdcBlock}
 use Rattle.channels.specs.Msc.{mscConstellation, mscBlock}

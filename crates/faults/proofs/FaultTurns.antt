@@ -25,7 +25,7 @@ use Rattle.superframe.specs.Memory.{slotSize}
 use Rattle.superframe.specs.Interleaving.{fillers}
 use Rattle.superframe.specs.Call.{part, parts}
 use Rattle.superframe.specs.Read.{ReadCall, rowPoints, countAt, fillersOf, pointTests}
-use Rattle.mapping.specs.PointTests.{pointsPass, pointsOnly}
+use Rattle.pointtests.specs.PointTests.{pointsPass, pointsOnly}
 use Rattle.channels.specs.Msc.{mscConstellation}
 use Rattle.faults.specs.Contracts.{faultOf, pointTest, CellsLent}
 use Rattle.faults.specs.declared.Fault.{Fault}

@@ -14,7 +14,7 @@ use Rattle.block.specs.Mapping.{constellation}
 use Rattle.block.specs.Points.{arePoints}
 use Rattle.cellbytes.specs.CellBytes.{numbers, bytes}
 use Rattle.cellbytes.proofs.CellBytes.{length-bytes, numbers-bytes}
-use Rattle.mapping.proofs.PointTests.{points-only}
+use Rattle.pointtests.proofs.PointTests.{points-only}
 use Rattle.channels.specs.declared.Scheme.{Scheme}
 use Rattle.channels.specs.Scheme.{schemeRefusal}
 use Rattle.channels.specs.Msc.{mscConstellation}

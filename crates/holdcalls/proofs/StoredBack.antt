@@ -17,7 +17,7 @@ use Rattle.block.specs.Points.{arePoints}
 use Rattle.cellbytes.specs.CellBytes.{numbers, bytes}
 use Rattle.cellbytes.specs.Contracts.{AllBytes}
 use Rattle.cellbytes.proofs.CellBytes.{length-numbers, bytes-numbers}
-use Rattle.mapping.proofs.PointTests.{points-only}
+use Rattle.pointtests.proofs.PointTests.{points-only}
 use Rattle.channels.specs.Msc.{mscConstellation}
 use Rattle.superframe.specs.declared.State.{State}
 use Rattle.superframe.specs.Call.{memoryLength}

@@ -20,8 +20,8 @@ use Rattle.cellbytes.specs.TwosComplement.{modulo, twosComplement}
 use Rattle.cellbytes.specs.CellBytes.{signed, fourBits, numbers, bytes}
 use Rattle.cellbytes.specs.Contracts.{Small, AllSmall}
 use Rattle.cellbytes.proofs.CellBytes.{small-pos, numbers-bytes}
-use Rattle.mapping.specs.PointTests.{pointsPass, pointsOnly}
-use Rattle.mapping.proofs.PointTests.{points-only}
+use Rattle.pointtests.specs.PointTests.{pointsPass, pointsOnly}
+use Rattle.pointtests.proofs.PointTests.{points-only}
 use Rattle.holdreading.specs.Contracts.{isSmall}
 use Rattle.holdreading.proofs.Found.{is-small, small-is}
 

@@ -18,7 +18,7 @@ use Rattle.settings.specs.Sizes.{depth}
 use Rattle.block.specs.Mapping.{constellation}
 use Rattle.block.specs.Points.{arePoints}
 use Rattle.cellbytes.specs.CellBytes.{numbers, bytes}
-use Rattle.mapping.specs.PointTests.{pointsPass, pointsOnly}
+use Rattle.pointtests.specs.PointTests.{pointsPass, pointsOnly}
 use Rattle.channels.specs.Msc.{mscConstellation}
 use Rattle.holdlines.specs.declared.Form.{Form}
 use Rattle.holdlines.specs.Hexadecimal.{isDigit, digitValue}

@@ -6,7 +6,7 @@ use holdlines::digits::digit_or;
 use holdlines::lengths::LINE_FEED;
 use holdlines::lengths::file_bytes;
 use holdlines::lengths::line_bytes;
-use mapping::tests::bytes_pass;
+use pointtests::tests::bytes_pass;
 use settings::Settings;
 use settings::answers;
 use settings::tables;

@@ -19,7 +19,7 @@ use Rattle.lists.proofs.Tables.{Filled, filled-turn, filled-end, map-table, tak
 use Rattle.block.specs.Mapping.{constellation}
 use Rattle.block.specs.Block.{pointsOf}
 use Rattle.block.specs.Points.{isPoint}
-use Rattle.mapping.specs.PointTests.{cellPasses, pointsPass, pointsOnly}
+use Rattle.pointtests.specs.PointTests.{cellPasses, pointsPass, pointsOnly}
 use Rattle.channels.specs.declared.Scheme.{Scheme}
 use Rattle.channels.specs.Msc.{mscBlock, mscConstellation}
 use Rattle.superframe.specs.ReadOn.{keptNumber, keptCells, lostMark}

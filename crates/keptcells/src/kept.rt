@@ -1,14 +1,14 @@
 // What is kept of received cells, and what is told of blocks. 02, S-13.
 use channels::Scheme;
 use channels::blocks::msc_constellation;
-use mapping::PointTest;
-use mapping::tests::points_pass;
+use pointtests::PointTest;
+use pointtests::tests::points_pass;
 ghost use mathlib.Core.Path.{_≡_};
 ghost use mathlib.Core.Bool.{cond};
 ghost use mathlib.Core.List.{map};
 ghost use lib.IntN.{pos};
 ghost use lib.ListN.{length};
-ghost use Rattle.mapping.specs.PointTests.{pointsPass, pointsOnly};
+ghost use Rattle.pointtests.specs.PointTests.{pointsPass, pointsOnly};
 ghost use Rattle.superframe.specs.ReadOn.{keptCells, lostMark};
 ghost use Rattle.keptcells.specs.Contracts.{CellsKept};
 

@@ -1,6 +1,6 @@
 -- Coordinates back to the labels of their level bits, by their four lowest binary digits. Assumes nothing.
 use Prim.Native.Nat.{ℕ, zero, suc, _+_, _*_, _/_, _≤_, _<_}
-use mathlib.Core.Bool.{Bool, true, false}
+use mathlib.Core.Bool.{false}
 use mathlib.Core.Path.{_≡_, refl, sym, _∙_}
 use mathlib.Core.Logic.{_⊎_, inl, inr}
 use mathlib.Core.List.{List}
@@ -17,7 +17,6 @@ use Rattle.lists.specs.Lists.{table}
 use Rattle.lists.specs.Same.{sameNumber}
 use Rattle.lists.proofs.Counting.{below-or}
 use Rattle.lists.proofs.Tables.{Filled, filled-start, filled-turn, filled-end, getD-table}
-use Rattle.lists.proofs.Same.{sameNumber-true}
 use Rattle.cellbytes.specs.CellBytes.{signed}
 use Rattle.cellbytes.specs.TwosComplement.{twosComplement}
 use Rattle.cellbytes.proofs.Bits.{same-below}
@@ -39,21 +38,6 @@ pub record None (v : ℤ) : Type 0 where
   pub n3 : sameNumber (negsuc 2) v ≡ false
   pub n5 : sameNumber (negsuc 4) v ≡ false
   pub n7 : sameNumber (negsuc 6) v ≡ false
-
--- a rule of labels, at the eight coordinates and at what is none of them
-pub coordinates-all : (P : ℤ → Type 0) → P (pos 7) → P (pos 5) → P (pos 3) → P (pos 1) → P (negsuc 0) → P (negsuc 2) → P (negsuc 4) → P (negsuc 6)
-    → ((v : ℤ) → None v → P v) → (v : ℤ) → P v
-coordinates-all P a b c d e f g h n v =
-    or (pos 7) a (λ i7. or (pos 5) b (λ i5. or (pos 3) c (λ i3. or (pos 1) d (λ i1.
-    or (negsuc 0) e (λ j1. or (negsuc 2) f (λ j3. or (negsuc 4) g (λ j5. or (negsuc 6) h (λ j7.
-    n v (record { p7 = i7; p5 = i5; p3 = i3; p1 = i1; n1 = j1; n3 = j3; n5 = j5; n7 = j7 })))))))))
-  where
-    go : (w : ℤ) → P w → (b : Bool) → sameNumber w v ≡ b → (sameNumber w v ≡ false → P v) → P v
-    go w p true e k = rw (sym (sameNumber-true w v e)) p
-    go w p false e k = k e
-
-    or : (w : ℤ) → P w → (sameNumber w v ≡ false → P v) → P v
-    or w p k = go w p (sameNumber w v) refl k
 
 none-qam4 : (v : ℤ) → None v → placeOf qam4 v ≡ 2
 unfolding placeOf table qam4 coordinate

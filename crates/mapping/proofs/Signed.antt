@@ -1,19 +1,14 @@
 -- Signed 16-bit numbers by their bits. Assumes nothing.
 use Prim.Native.Nat.{ℕ, _%_, _<_}
-use mathlib.Core.Path.{_≡_, sym, ap, _∙_}
+use mathlib.Core.Path.{_≡_, sym}
 use native.Mathlib.Omega.{arith}
 use lib.Dec.{T}
 use lib.Bits.{bitAnd, and-le-r, and-mask}
-use lib.IntN.{ℤ, natAbs}
+use lib.IntN.{natAbs}
 use lib.Signed.{nonNeg}
 use mir.Syntax.{w16}
-use mir.Val.{SFits, toZ, ofZ}
-use mir.Facts.{toZ-ofZ}
+use mir.Val.{toZ}
 use Rattle.lists.proofs.Same.{low-digits}
-
--- bits that are known give the number
-pub number-is : (v : ℤ) (n : ℕ) → SFits w16 v → ofZ w16 v ≡ n → v ≡ toZ w16 n
-number-is v n f e = sym (toZ-ofZ {w = w16} f) ∙ ap (toZ w16) e
 
 -- the four lowest binary digits of a number
 pub digits-low : (n : ℕ) → bitAnd n 15 < 16

@@ -1,4 +1,3 @@
 pub mod Contracts
 pub mod Labels
-pub mod PointTests
 pub mod Labellings

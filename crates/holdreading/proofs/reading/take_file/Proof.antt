@@ -4,7 +4,7 @@ use mathlib.Core.Path.{_∙_, sym, ap}
 use borrow.Author.Needs.{needs}
 use borrow.Author.Tests.{not-true, not-false}
 use Rattle.cellbytes.specs.CellBytes.{numbers}
-use Rattle.mapping.specs.PointTests.{pointsPass, pointsOnly}
+use Rattle.pointtests.specs.PointTests.{pointsPass, pointsOnly}
 use Rattle.settings.specs.Lengths.{nMux}
 use Rattle.holdreading.proofs.Valid.{three-bytes, taken-short, taken-heading, lines-lent, taken-lines, taken-all}
 use Rattle.holdreading.proofs.reading.take_file.Statement.{statement}

@@ -1,9 +1,9 @@
 -- `points_pass` meets its contract. Assumes nothing.
 use mathlib.Core.Path.{_∙_}
 use borrow.Author.Needs.{needs}
-use Rattle.mapping.proofs.PointTests.{all-reached}
-use Rattle.mapping.proofs.tests.points_pass.Statement.{statement}
-use Rattle.mapping.proofs.tests.points_pass.Tie as tie
+use Rattle.pointtests.proofs.PointTests.{all-reached}
+use Rattle.pointtests.proofs.tests.points_pass.Statement.{statement}
+use Rattle.pointtests.proofs.tests.points_pass.Tie as tie
 
 returns : tie.Need-returns
 returns c =

@@ -2,8 +2,8 @@
 use mathlib.Core.Path.{sym}
 use native.Mathlib.Nat.{mod-self, mod-eq-of-lt}
 use borrow.Author.Needs.{needs}
-use Rattle.mapping.proofs.tests.next_delay.Statement.{statement}
-use Rattle.mapping.proofs.tests.next_delay.Tie as tie
+use Rattle.pointtests.proofs.tests.next_delay.Statement.{statement}
+use Rattle.pointtests.proofs.tests.next_delay.Tie as tie
 
 pub next-delay-spec : {M : Type 1} → statement M
 next-delay-spec =

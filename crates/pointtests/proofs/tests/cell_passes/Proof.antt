@@ -6,9 +6,9 @@ use lib.IntN.{pos}
 use mir.Syntax.{w16}
 use mir.Facts.{toZ-ofZ}
 use Rattle.block.specs.Points.{isEmpty, isPoint}
-use Rattle.mapping.proofs.PointTests.{zero-bits}
-use Rattle.mapping.proofs.tests.cell_passes.Statement.{statement}
-use Rattle.mapping.proofs.tests.cell_passes.Tie as tie
+use Rattle.pointtests.proofs.PointTests.{zero-bits}
+use Rattle.pointtests.proofs.tests.cell_passes.Statement.{statement}
+use Rattle.pointtests.proofs.tests.cell_passes.Tie as tie
 
 returns : tie.Need-returns
 unfolding isEmpty isPoint

@@ -4,10 +4,10 @@ use mathlib.Core.Path.{sym}
 use native.Mathlib.Nat.{mod-one}
 use borrow.Author.Needs.{needs}
 use Rattle.lists.proofs.Tests.{Passed, passed-start, passed-turn, passed-end}
-use Rattle.mapping.specs.PointTests.{cellPasses, pointsPass, allCells}
-use Rattle.mapping.proofs.PointTests.{cell-read}
-use Rattle.mapping.proofs.tests.all_pass.Statement.{statement}
-use Rattle.mapping.proofs.tests.all_pass.Tie as tie
+use Rattle.pointtests.specs.PointTests.{cellPasses, pointsPass, allCells}
+use Rattle.pointtests.proofs.PointTests.{cell-read}
+use Rattle.pointtests.proofs.tests.all_pass.Statement.{statement}
+use Rattle.pointtests.proofs.tests.all_pass.Tie as tie
 
 abbrev Inv-loop : tie.InvT-loop
 Inv-loop c blank cells mask n passed₀ i₀ passed i = Passed (cellPasses (allCells c blank) cells) n i passed

@@ -1,7 +1,7 @@
 -- `byte_passes` meets its contract. Assumes nothing.
 use borrow.Author.Needs.{needs}
-use Rattle.mapping.proofs.tests.byte_passes.Statement.{statement}
-use Rattle.mapping.proofs.tests.byte_passes.Tie as tie
+use Rattle.pointtests.proofs.tests.byte_passes.Statement.{statement}
+use Rattle.pointtests.proofs.tests.byte_passes.Tie as tie
 
 pub byte-passes-spec : {M : Type 1} → statement M
 byte-passes-spec =

@@ -4,8 +4,8 @@ ghost use mathlib.Core.Path.{_≡_};
 ghost use Prim.Native.Nat.{_+_, _*_, _%_, _<_};
 ghost use lib.ListN.{length};
 ghost use Rattle.cellbytes.specs.CellBytes.{numbers};
-ghost use Rattle.mapping.specs.PointTests.{pointsPass, allCells};
-ghost use Rattle.mapping.specs.Contracts.{byMask, Masks, Finds, halfPasses, bytePasses, Reaches};
+ghost use Rattle.pointtests.specs.PointTests.{pointsPass, allCells};
+ghost use Rattle.pointtests.specs.Contracts.{byMask, Masks, Finds, halfPasses, bytePasses, Reaches};
 
 // The mask by which the coordinates of a constellation are told: in its places they have 1, or all that is there.
 fn mask_of(c: u8) -> i16

@@ -4,10 +4,10 @@ use mathlib.Core.Path.{_≡_, sym}
 use native.Mathlib.Nat.{mod-lt, mod-eq-of-lt}
 use borrow.Author.Needs.{needs}
 use Rattle.lists.proofs.Tests.{Passed, passed-start, passed-turn, passed-end}
-use Rattle.mapping.specs.PointTests.{cellPasses, pointsPass}
-use Rattle.mapping.proofs.PointTests.{cell-read, delay-next}
-use Rattle.mapping.proofs.tests.some_pass.Statement.{statement}
-use Rattle.mapping.proofs.tests.some_pass.Tie as tie
+use Rattle.pointtests.specs.PointTests.{cellPasses, pointsPass}
+use Rattle.pointtests.proofs.PointTests.{cell-read, delay-next}
+use Rattle.pointtests.proofs.tests.some_pass.Statement.{statement}
+use Rattle.pointtests.proofs.tests.some_pass.Tie as tie
 
 abbrev Inv-loop : tie.InvT-loop
 Inv-loop test cells mask n passed₀ delay₀ i₀ passed delay i = Passed (cellPasses test cells) n i passed × (delay ≡ i % test .depth)

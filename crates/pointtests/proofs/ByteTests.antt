@@ -1,34 +1,24 @@
 -- The test of cells that are bytes, by arithmetic on four bits. Assumes nothing.
-use Prim.Native.Nat.{ℕ, zero, suc, _/_, _%_, _≤_, _<_}
-use mathlib.Core.Bool.{Bool, true, false, cond, not, _&&_, _||_}
+use Prim.Native.Nat.{ℕ, _/_, _%_, _≤_, _<_}
+use mathlib.Core.Bool.{Bool, true, false, _&&_, _||_}
 use mathlib.Core.Path.{_≡_, refl, _∙_}
 use mathlib.Core.List.{List}
 use native.Mathlib.Nat.{mod-one}
 use native.Mathlib.Omega.{arith}
 use borrow.Author.Tests.{eq-eqb, ne-eqb, eqb-true, eqb-false}
-use lib.Dec.{T, eqb}
+use lib.Dec.{eqb}
 use lib.ListN.{getD}
 use lib.IntN.{pos}
 use Rattle.lists.specs.Lists.{table}
 use Rattle.lists.specs.Same.{sameNumber}
-use Rattle.lists.proofs.Rules.{each, at}
 use Rattle.block.specs.Mapping.{coordinate, qam4, qam16, standard64, symmetric64, constellation}
 use Rattle.block.specs.Points.{isEmpty, onAxis, isPoint}
 use Rattle.cellbytes.specs.CellBytes.{signed, realOf, imaginaryOf, numbers}
 use Rattle.cellbytes.specs.TwosComplement.{twosComplement}
 use Rattle.cellbytes.proofs.CellBytes.{real-at, imaginary-at}
-use Rattle.mapping.specs.PointTests.{cellPasses, allCells}
-use Rattle.mapping.specs.Contracts.{halfPasses, bytePasses, Reaches}
-
--- two tests that agree below n, by one test that is computed
-same : (a b : Bool) → T (cond a b (not b)) → a ≡ b
-same true true t = refl
-same true false t = absurd t
-same false true t = absurd t
-same false false t = refl
-
-agree : (f g : ℕ → Bool) (n : ℕ) → T (each (λ k. cond (f k) (g k) (not (g k))) n) → (k : ℕ) → k < n → f k ≡ g k
-agree f g n t k h = same (f k) (g k) (at (λ k. cond (f k) (g k) (not (g k))) n t k h)
+use Rattle.pointtests.specs.PointTests.{cellPasses, allCells}
+use Rattle.pointtests.specs.Contracts.{halfPasses, bytePasses, Reaches}
+use Rattle.pointtests.proofs.PointTests.{agree, else-qam4}
 
 -- the sixteen halves of each axis
 half-4 : (n : ℕ) → n < 16 → halfPasses 1 n ≡ onAxis qam4 (signed n)
@@ -51,23 +41,24 @@ pub reaches-16 : Reaches 1 3
 unfolding constellation
 reaches-16 = record { low = omega arith; real = half-16; imaginary = half-16 }
 
-pub reaches-64 : (c : ℕ) → 2 ≤ c → c < 5 → Reaches c 7
+pub reaches-standard : Reaches 2 7
 unfolding constellation
-reaches-64 zero h k = absurd (omega arith)
-reaches-64 (suc zero) h k = absurd (omega arith)
-reaches-64 (suc (suc zero)) h k = record { low = omega arith; real = half-standard; imaginary = half-standard }
-reaches-64 (suc (suc (suc zero))) h k = record { low = omega arith; real = half-symmetric; imaginary = half-symmetric }
-reaches-64 (suc (suc (suc (suc zero)))) h k = record { low = omega arith; real = half-symmetric; imaginary = half-standard }
-reaches-64 (suc (suc (suc (suc (suc c))))) h k = absurd (omega arith)
+reaches-standard = record { low = omega arith; real = half-standard; imaginary = half-standard }
+
+pub reaches-symmetric : Reaches 3 7
+unfolding constellation
+reaches-symmetric = record { low = omega arith; real = half-symmetric; imaginary = half-symmetric }
+
+pub reaches-mixed : Reaches 4 7
+unfolding constellation
+reaches-mixed = record { low = omega arith; real = half-symmetric; imaginary = half-standard }
 
 pub reaches-else : (c : ℕ) → (0 < c → 5 ≤ c) → Reaches c 1
 unfolding constellation
-reaches-else zero h = record { low = omega arith; real = half-4; imaginary = half-4 }
-reaches-else (suc zero) h = absurd (omega (arith, h (omega arith)))
-reaches-else (suc (suc zero)) h = absurd (omega (arith, h (omega arith)))
-reaches-else (suc (suc (suc zero))) h = absurd (omega (arith, h (omega arith)))
-reaches-else (suc (suc (suc (suc zero)))) h = absurd (omega (arith, h (omega arith)))
-reaches-else (suc (suc (suc (suc (suc c))))) h = record { low = omega arith; real = half-4; imaginary = half-4 }
+reaches-else =
+    else-qam4 (λ c. Reaches c 1)
+    (record { low = omega arith; real = half-4; imaginary = half-4 })
+    (λ c. record { low = omega arith; real = half-4; imaginary = half-4 })
 
 -- the byte of (0, 0) is 0
 half-zero : (n : ℕ) → n < 16 → sameNumber (pos 0) (signed n) ≡ eqb n 0

@@ -7,10 +7,10 @@ use lib.ListN.{length}
 use Rattle.lists.proofs.Tests.{Passed, passed-start, passed-turn, passed-end}
 use Rattle.cellbytes.specs.CellBytes.{numbers}
 use Rattle.cellbytes.proofs.CellBytes.{length-numbers}
-use Rattle.mapping.specs.PointTests.{cellPasses, pointsPass, allCells}
-use Rattle.mapping.proofs.ByteTests.{byte-read}
-use Rattle.mapping.proofs.tests.bytes_pass.Statement.{statement}
-use Rattle.mapping.proofs.tests.bytes_pass.Tie as tie
+use Rattle.pointtests.specs.PointTests.{cellPasses, pointsPass, allCells}
+use Rattle.pointtests.proofs.ByteTests.{byte-read}
+use Rattle.pointtests.proofs.tests.bytes_pass.Statement.{statement}
+use Rattle.pointtests.proofs.tests.bytes_pass.Tie as tie
 
 abbrev Inv-loop : tie.InvT-loop
 Inv-loop c blank cells top passed₀ i₀ passed i = Passed (cellPasses (allCells c blank) (numbers cells)) (length cells) i passed

@@ -9,7 +9,7 @@ use Rattle.lists.specs.Lists.{table}
 use Rattle.lists.specs.Bools.{every}
 use Rattle.block.specs.Mapping.{constellation}
 use Rattle.block.specs.Points.{isEmpty, isPoint}
-use Rattle.mapping.specs.declared.PointTest.{PointTest}
+use Rattle.pointtests.specs.declared.PointTest.{PointTest}
 
 -- Cell i passes: it is ignored, its delay being above the count; or it is (0, 0) where such cells pass; or it is a point.
 unfoldable pub cellPasses : PointTest → List ℤ → ℕ → Bool
