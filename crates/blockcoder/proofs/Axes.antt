@@ -11,8 +11,10 @@ use Rattle.lists.proofs.Counting.{below-or}
 use Rattle.block.specs.declared.Block.{Block}
 use Rattle.block.specs.Block.{oneAxis}
 use Rattle.block.specs.Fits.{BlockFits}
-use Rattle.multilevel.specs.Contracts.{PartsOf, BlockOrder, FewLevels}
-use Rattle.multilevel.proofs.Totals.{count-is, three, few-levels}
+use Rattle.blockplaces.specs.Contracts.{BlockOrder}
+use Rattle.multilevel.specs.Contracts.{PartsOf, FewLevels}
+use Rattle.blockplaces.proofs.Levels.{count-is, three}
+use Rattle.multilevel.proofs.Totals.{few-levels}
 
 module _ {k : Block} (F : BlockFits k) (one : oneAxis k ≡ false) where
   pub few : k .count ≤ 3

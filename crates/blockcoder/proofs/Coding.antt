@@ -25,7 +25,8 @@ use Rattle.block.specs.Mapping.{constellation, labelAt, mapped, weave, woven}
 use Rattle.mapping.specs.Labels.{coordinates}
 use Rattle.mapping.specs.Contracts.{ThreeBits}
 use Rattle.block.specs.Block.{levelsOf, pointsOf, oneAxis, bitCount, streamsOf, cellsOf, cellsFrom}
-use Rattle.multilevel.specs.Contracts.{bitsBefore, streamAt, stepped, BlockOrder, CodesLevels, labelsFrom, shared}
+use Rattle.blockplaces.specs.Contracts.{BlockOrder, shared}
+use Rattle.multilevel.specs.Contracts.{bitsBefore, streamAt, stepped, CodesLevels, labelsFrom}
 use Rattle.multilevel.proofs.Totals.{total-A, all-bits, streams-are, length-streamAt, number-low}
 use Rattle.block.proofs.Lists.{bits-take}
 use Rattle.block.proofs.Packing.{length-unpacked}

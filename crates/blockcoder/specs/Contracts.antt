@@ -12,7 +12,8 @@ use Rattle.block.specs.Fits.{BlockFits}
 use Rattle.block.specs.Packing.{unpacked}
 use Rattle.block.specs.Dispersal.{dispersedParts}
 use Rattle.block.specs.Levels.{totalA}
-use Rattle.multilevel.specs.Contracts.{PartsOf, levelsOver, labelsFrom, shared, digits}
+use Rattle.blockplaces.specs.Contracts.{shared, digits}
+use Rattle.multilevel.specs.Contracts.{PartsOf, levelsOver, labelsFrom}
 use mathlib.Core.Bool.{cond}
 use Rattle.block.specs.Mapping.{mapped, woven}
 use Rattle.mapping.specs.Contracts.{ThreeBits}

@@ -3,18 +3,18 @@ use crate::parts::map_axes_parts;
 use crate::parts::map_parts;
 use block::Block;
 use block::HMMIX;
+use block::buffers::SMALL_CELLS;
 use block::buffers::bit_buffer;
 use block::buffers::cell_buffer;
+use block::buffers::place_buffer;
+use block::buffers::small_bit_buffer;
+use block::buffers::small_cell_buffer;
+use block::buffers::small_place_buffer;
+use blockplaces::tables::block_places;
 use dispersal::parts::unpack_parts;
 use multilevel::code::code_levels;
 use multilevel::places::bit_count;
 use multilevel::places::bits_before;
-use multilevel::tables::SMALL_CELLS;
-use multilevel::tables::block_places;
-use multilevel::tables::place_buffer;
-use multilevel::tables::small_bit_buffer;
-use multilevel::tables::small_cell_buffer;
-use multilevel::tables::small_place_buffer;
 ghost use mathlib.Core.Path.{_≡_};
 ghost use mathlib.Core.Bool.{true, false};
 ghost use Prim.Native.Nat.{_*_, _≤_};
@@ -23,7 +23,7 @@ ghost use Rattle.block.specs.Mapping.{mapped, woven};
 ghost use Rattle.block.specs.Block.{levelsOf, pointsOf, oneAxis, cellsFrom};
 ghost use Rattle.blockcoder.specs.Contracts.{cellsBy, cellsOfEach, CodesParts, CodesBits, HasRoom, WorkLent, BlocksLent, PartsLeft, BitsLeft, WorkLeft};
 ghost use Rattle.block.specs.Fits.{BlockLent};
-ghost use Rattle.multilevel.specs.Contracts.{BlockOrder};
+ghost use Rattle.blockplaces.specs.Contracts.{BlockOrder};
 
 // Levels whose bits go alternately to the real and the imaginary axis.
 fn code_both(

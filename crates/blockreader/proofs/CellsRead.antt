@@ -15,8 +15,10 @@ use Rattle.block.specs.Dispersal.{dispersed, dispersedParts}
 use Rattle.block.specs.Block.{levelsOf, pointsOf, oneAxis}
 use Rattle.mapping.specs.Labels.{axisLabels}
 use Rattle.mapping.specs.Contracts.{Unmaps, UnmapsAxis}
-use Rattle.multilevel.specs.Contracts.{levelAt, bitsBefore, frontBits, partA, partB, shared, digits, readOver, PartsOf, BlockOrder, ReadsLevels, LevelsRead}
-use Rattle.multilevel.proofs.Totals.{all-bits, count-is, levels-table}
+use Rattle.blockplaces.specs.Contracts.{levelAt, shared, digits, BlockOrder}
+use Rattle.multilevel.specs.Contracts.{bitsBefore, frontBits, partA, partB, readOver, PartsOf, ReadsLevels, LevelsRead}
+use Rattle.blockplaces.proofs.Levels.{count-is}
+use Rattle.multilevel.proofs.Totals.{all-bits, levels-table}
 use Rattle.multilevel.proofs.PartsRead.{inputsIn, read-all, read-pairs}
 use Rattle.blockreader.specs.Contracts.{ReadsCandidate, labelsIn, levelBits}
 use Rattle.block.proofs.Dispersal.{length-dispersed}

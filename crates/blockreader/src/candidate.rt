@@ -13,7 +13,8 @@ ghost use Rattle.block.specs.Block.{oneAxis};
 ghost use Rattle.block.specs.Dispersal.{dispersedParts};
 ghost use Rattle.block.specs.Reading.{candidate};
 ghost use Rattle.mapping.specs.Labels.{axisLabels};
-ghost use Rattle.multilevel.specs.Contracts.{BlockOrder, LevelsRead};
+ghost use Rattle.blockplaces.specs.Contracts.{BlockOrder};
+ghost use Rattle.multilevel.specs.Contracts.{LevelsRead};
 ghost use Rattle.blockreader.specs.Contracts.{ReadsCandidate, labelsIn, levelBits};
 
 // Levels whose bits come alternately from the real and the imaginary axis.

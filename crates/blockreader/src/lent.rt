@@ -9,7 +9,7 @@ use multilevel::places::bit_count;
 use packing::bits::pack;
 ghost use Prim.Native.Nat.{_*_, _≤_};
 ghost use lib.ListN.{length};
-ghost use Rattle.multilevel.specs.Contracts.{BlockOrder};
+ghost use Rattle.blockplaces.specs.Contracts.{BlockOrder};
 ghost use Rattle.blockcoder.specs.Contracts.{WorkLent};
 ghost use Rattle.blockreader.specs.Contracts.{BlockRead};
 ghost use Rattle.block.specs.Fits.{BlockLent};

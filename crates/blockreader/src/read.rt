@@ -5,8 +5,8 @@ use block::Block;
 use block::buffers::bit_buffer;
 use block::buffers::cell_buffer;
 use block::buffers::coordinate_buffer;
-use multilevel::tables::block_places;
-use multilevel::tables::place_buffer;
+use block::buffers::place_buffer;
+use blockplaces::tables::block_places;
 ghost use Rattle.blockreader.specs.Contracts.{BlockRead};
 ghost use Rattle.block.specs.Fits.{BlockLent};
 

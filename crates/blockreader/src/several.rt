@@ -2,22 +2,21 @@
 use crate::Found;
 use crate::lent::read_lent;
 use block::Block;
+use block::buffers::SMALL_CELLS;
 use block::buffers::bit_buffer;
 use block::buffers::cell_buffer;
 use block::buffers::coordinate_buffer;
+use block::buffers::place_buffer;
+use block::buffers::small_bit_buffer;
+use block::buffers::small_cell_buffer;
+use block::buffers::small_coordinate_buffer;
+use block::buffers::small_place_buffer;
+use blockplaces::tables::block_places;
 use multilevel::places::bit_count;
-use multilevel::tables::SMALL_CELLS;
-use multilevel::tables::SMALL_NUMBERS;
-use multilevel::tables::block_places;
-use multilevel::tables::place_buffer;
-use multilevel::tables::small_bit_buffer;
-use multilevel::tables::small_cell_buffer;
-use multilevel::tables::small_place_buffer;
 ghost use Prim.Native.Nat.{_*_, _≤_};
 ghost use mathlib.Core.Path.{_≡_};
 ghost use lib.ListN.{length};
-ghost use Rattle.lists.specs.Buffers.{Long};
-ghost use Rattle.multilevel.specs.Contracts.{BlockOrder};
+ghost use Rattle.blockplaces.specs.Contracts.{BlockOrder};
 ghost use Rattle.blockcoder.specs.Contracts.{WorkLent};
 ghost use Rattle.blockreader.specs.Contracts.{isGiven, SeveralLent, SeveralRead};
 
@@ -29,13 +28,6 @@ fn is_given(found: Found) -> bool
         return true;
     }
     false
-}
-
-// The coordinates of a small block, from a function of its own: proofs then take its length and do not write it out.
-fn small_coordinate_buffer() -> [i16; SMALL_NUMBERS]
-    ensures { λ r. ⌜ Long 1692 r ⌝ }
-{
-    [0i16; SMALL_NUMBERS]
 }
 
 // The blocks whose cells stand there, one after the other: whether bits give each, true in a place without a block; the bytes of those are written.
@@ -75,7 +67,7 @@ fn read_each(
     given
 }
 
-// The same, with places and buffers for small blocks: to clear those of the largest takes longer than to read an FAC block.
+// The same of small blocks, with places and buffers for them.
 fn read_small(k: Block, cells: &[i16], bytes: &mut [u8]) -> [bool; 3]
     requires { ⌜ SeveralLent k (now cells) (now bytes) × (k .cells ≤ 846) ⌝ }
     ensures { λ r. ⌜ SeveralRead k (now (cells .entry)) (now (bytes .entry)) r (now (bytes .exit)) ⌝ }

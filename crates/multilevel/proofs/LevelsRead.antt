@@ -10,7 +10,8 @@ use Rattle.block.specs.Block.{oneAxis}
 use Rattle.block.specs.Reading.{taken, inputA, inputB}
 use Rattle.block.specs.declared.Block.{Block}
 use Rattle.block.specs.declared.Level.{Level}
-use Rattle.multilevel.specs.Contracts.{levelAt, levelBitsOver, bitsIn, bitsBefore, frontBits, partA, partB, shared, digits, LevelThere, FewLevels, ReadsLevel, ReadsAt, ReadAt, ReadsLevels, LevelsRead, digitAt, inputIn, readOver, takenOver, takenOvers}
+use Rattle.blockplaces.specs.Contracts.{levelAt, shared, digits, digitAt}
+use Rattle.multilevel.specs.Contracts.{levelBitsOver, bitsIn, bitsBefore, frontBits, partA, partB, LevelThere, FewLevels, ReadsLevel, ReadsAt, ReadAt, ReadsLevels, LevelsRead, inputIn, readOver, takenOver, takenOvers}
 use Rattle.multilevel.proofs.Partition.{part-is, ends-a, ends-b}
 use Rattle.multilevel.proofs.Totals.{all-bits}
 use Rattle.multilevel.proofs.Turns.{Turn, first-turn, level-there, next-turn}

@@ -7,4 +7,3 @@ pub mod Summing
 pub mod OneRead
 pub mod LevelsRead
 pub mod PartsRead
-pub mod Orders

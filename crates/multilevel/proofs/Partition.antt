@@ -10,7 +10,8 @@ use native.Mathlib.Omega.{arith}
 use lib.ListN.{length, take, drop, length-take, length-drop}
 use Rattle.component.specs.Bits.{Bits}
 use Rattle.component.proofs.Bits.{bits-drop}
-use Rattle.multilevel.specs.Contracts.{codedOver, codedOverAt, CodesLevel, levelAt, bitsIn, bitsBefore, streamAt, Sums, digitAt, LevelThere, CodesAt}
+use Rattle.blockplaces.specs.Contracts.{levelAt, digitAt}
+use Rattle.multilevel.specs.Contracts.{codedOver, codedOverAt, CodesLevel, bitsIn, bitsBefore, streamAt, Sums, LevelThere, CodesAt}
 use Rattle.labels.specs.Contracts.{added}
 use Rattle.block.specs.declared.Level.{Level}
 use Rattle.block.specs.Levels.{stream}

@@ -12,7 +12,8 @@ use Rattle.lists.specs.Lists.{table}
 use Rattle.lists.proofs.Counting.{below-or}
 use Rattle.block.specs.Reading.{taken, inputsA, inputsB}
 use Rattle.block.specs.declared.Level.{Level}
-use Rattle.multilevel.specs.Contracts.{levelAt, bitsIn, bitsBefore, inputIn, inputOver, readOver}
+use Rattle.blockplaces.specs.Contracts.{levelAt}
+use Rattle.multilevel.specs.Contracts.{bitsIn, bitsBefore, inputIn, inputOver, readOver}
 use Rattle.multilevel.proofs.Partition.{before-mono}
 use Rattle.multilevel.proofs.Turns.{twice}
 use Rattle.multilevel.proofs.LevelsRead.{drop-before, length-inputIn}

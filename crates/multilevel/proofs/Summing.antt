@@ -8,7 +8,8 @@ use native.Mathlib.Omega.{arith}
 use lib.ListN.{length, getD, List·getD-eq-default}
 use Rattle.component.specs.Bits.{Bits}
 use Rattle.lists.specs.Lists.{table}
-use Rattle.multilevel.specs.Contracts.{levelAt, streamAt, stepped, codedOverAt, levelsOver, shared, digits, labelsFrom, CodesAt, CodesLevels, FewLevels}
+use Rattle.blockplaces.specs.Contracts.{levelAt, shared, digits}
+use Rattle.multilevel.specs.Contracts.{streamAt, stepped, codedOverAt, levelsOver, labelsFrom, CodesAt, CodesLevels, FewLevels}
 use Rattle.labels.specs.Contracts.{added}
 use Rattle.lists.proofs.Counting.{below-or}
 use Rattle.lists.proofs.Tables.{length-table, getD-table, table-is}

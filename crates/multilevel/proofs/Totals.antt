@@ -2,17 +2,14 @@
 use Prim.Native.Nat.{ℕ, zero, suc, _+_, _*_, _^_, _≤_, _<_}
 use mathlib.Core.Path.{_≡_, refl, sym, ap, ap₂, _∙_}
 use mathlib.Core.Bool.{Bool, true, false, cond}
-use mathlib.Core.Logic.{_⊎_, inl, inr}
 use mathlib.Core.List.{List, _∷_}
 use native.Mathlib.Nat.{add-zero, zero-add, pow-suc, mul-suc, suc-mul, mul-le-mul-right}
 use native.Mathlib.Numerals.{add-one}
 use native.Mathlib.Omega.{arith}
 use lib.ListN.{length, getD, drop, length-drop}
-use lib.Seq.{drop-drop, length-take-le, getD-take}
-use lib.Pow.{pow-mono}
+use lib.Seq.{drop-drop, length-take-le}
 use lib.Count.{ones-step}
 use Rattle.lists.specs.Lists.{table}
-use Rattle.lists.proofs.Counting.{below-or}
 use Rattle.lists.proofs.Tables.{take-table}
 use Rattle.patterns.specs.Patterns.{Sound}
 use Rattle.component.specs.Bits.{Bits}
@@ -23,14 +20,15 @@ use Rattle.component.proofs.Bits.{bits-drop}
 use Rattle.block.specs.declared.Level.{Level}
 use Rattle.block.specs.declared.Block.{Block}
 use Rattle.block.specs.Levels.{totalA, totalB, streams}
-use Rattle.block.specs.Mapping.{constellation, labelAt}
+use Rattle.block.specs.Mapping.{labelAt}
 use Rattle.block.specs.Reading.{sizeA, sizeB}
-use Rattle.block.specs.Block.{levelsOf, pointsOf, oneAxis, bitCount}
-use Rattle.block.specs.Fits.{Labels, LevelFits, LevelsFit, none, more, Alike, BlockFits}
+use Rattle.block.specs.Block.{levelsOf, oneAxis, bitCount}
+use Rattle.block.specs.Fits.{LevelFits, LevelsFit, none, more, BlockFits}
 use Rattle.block.proofs.Lists.{bits-take}
 use Rattle.block.proofs.Levels.{bits-stream, length-stream}
-use Rattle.block.proofs.Mapping.{levelCount, constellation-labels}
-use Rattle.multilevel.specs.Contracts.{BlockOrder, pastLevels, levelAt, bitsIn, bitsBefore, streamAt, stepped, Sums, LevelThere, LevelsThere, none, more, FewLevels, PartsOf}
+use Rattle.blockplaces.specs.Contracts.{BlockOrder, pastLevels, levelAt}
+use Rattle.multilevel.specs.Contracts.{bitsIn, bitsBefore, streamAt, stepped, Sums, LevelThere, LevelsThere, none, more, FewLevels, PartsOf}
+use Rattle.blockplaces.proofs.Levels.{three, fits-level}
 use Rattle.multilevel.proofs.Partition.{before-mono}
 
 -- the bits of part A of levels from k on, and of part B
@@ -68,12 +66,6 @@ module _ (ls : List Level) where
   number-low a b l s zero j = omega arith
   number-low a b l s (suc m) j = rw pow-suc (omega (arith, number-low a b (l + s) s m j, stream-bits a b l .bit j))
 
--- a level of levels that fit
-fits-at : {n : ℕ} {ls : List Level} → LevelsFit n ls → (z : Level) (l : ℕ) → l < length ls → LevelFits n (getD ls l z)
-fits-at none z l h = absurd (omega arith)
-fits-at (more F R) z zero h = F
-fits-at (more F R) z (suc l) h = fits-at R z l (omega arith)
-
 -- every input bit has a coded one at least
 coded-least : {p : List ℕ} → Sound p → (i n : ℕ) → i < length p → n ≤ codedLength p i n
 unfolding codedLength
@@ -100,24 +92,6 @@ pub levels-table : (k : Block) → k .count ≤ length (k .levels) → levelsOf 
 unfolding levelsOf levelAt
 levels-table k h = sym (take-table pastLevels (k .levels) (k .count) h)
 
--- a constellation has at most three level bits
-levels-low : (c : ℕ) → levelCount c ≤ 3
-unfolding levelCount
-levels-low zero = omega arith
-levels-low (suc zero) = omega arith
-levels-low (suc (suc zero)) = omega arith
-levels-low (suc (suc (suc zero))) = omega arith
-levels-low (suc (suc (suc (suc zero)))) = omega arith
-levels-low (suc (suc (suc (suc (suc c))))) = omega arith
-
-labels-low : (c m : ℕ) → Labels m (constellation c) → m ≤ 3
-labels-low c m L = go (below-or m 4)
-  where
-    go : (m < 4) ⊎ (4 ≤ m) → m ≤ 3
-    go (inl h) = omega arith
-    go (inr h) =
-        absurd (omega (arith, L .real .size, constellation-labels c .real .size, pow-mono {i = 4} {j = m} h, pow-mono {i = levelCount c} {j = 3} (levels-low c)))
-
 module _ {k : Block} (F : BlockFits k) where
   pub total-A : totalA (levelsOf k) ≡ bitsBefore (k .levels) false (k .count)
   unfolding bitsBefore
@@ -141,30 +115,10 @@ module _ {k : Block} (F : BlockFits k) where
   unfolding bitsBefore
   streams-are a b = rw (levels-table k (F .room)) (streams-table (k .levels) a b 0 (k .count))
 
-  pub count-is : length (levelsOf k) ≡ k .count
-  unfolding levelsOf
-  count-is = length-take-le (k .count) (k .levels) (F .room)
-
-  pub three : F .streams ≤ 3
-  unfolding pointsOf
-  three = labels-low (k .constellation) (F .streams) (F .labels)
-
   -- a block has at most six bits a cell
   pub bits-low : bitCount k ≤ 6 * k .cells
   unfolding bitCount
-  bits-low = omega (arith, rw (F .levels) at (levels-least (F .fit)), six (oneAxis k) (F .streams) (k .cells) three)
-
-  -- level l fits
-  pub fits-level : (l : ℕ) → l < k .count → LevelFits (cond (oneAxis k) (k .cells) (2 * k .cells)) (levelAt (k .levels) l)
-  unfolding levelsOf levelAt
-  fits-level l h = rw (getD-take (k .count) (k .levels) l pastLevels h) at (fits-at (F .fit) pastLevels l (rw count-is h))
-
-  -- those of a pair are interleaved alike
-  pub pair-at : oneAxis k ≡ true → (i : ℕ) → 2 * i + 1 < k .count → Alike (levelAt (k .levels) (2 * i)) (levelAt (k .levels) (2 * i + 1))
-  unfolding levelsOf levelAt
-  pair-at o i h =
-      rw (getD-take (k .count) (k .levels) (2 * i) pastLevels (omega arith), getD-take (k .count) (k .levels) (2 * i + 1) pastLevels h) at
-      (F .pairs o .alike pastLevels i (rw count-is h))
+  bits-low = omega (arith, rw (F .levels) at (levels-least (F .fit)), six (oneAxis k) (F .streams) (k .cells) (three F))
 
   module _ {a b : List ℕ} (P : PartsOf k a b) {n : ℕ} (e : n ≡ cond (oneAxis k) (k .cells) (2 * k .cells)) (high : n ≤ 12236) where
     -- its bits stand in those of parts A and B
@@ -181,7 +135,7 @@ module _ {k : Block} (F : BlockFits k) where
             room = O .each l h n e .0;
             ordered = O .each l h n e .1;
             there = omega (arith, F .few);
-            fits = rw e (fits-level l h);
+            fits = rw e (fits-level F l h);
             withinA = within-A l h;
             withinB = within-B l h;
             short = (omega (arith, P .longA, all-bits, F .short), omega (arith, P .longB, all-bits, F .short));
@@ -206,7 +160,7 @@ module _ {k : Block} (F : BlockFits k) where
       unfolding streamAt bitsBefore bitsIn
       length-streamAt l h =
           let ls = k .levels in
-          let T : LevelFits n (levelAt ls l) = rw e (fits-level l h) in
+          let T : LevelFits n (levelAt ls l) = rw e (fits-level F l h) in
           length-stream T (bits-take (levelAt ls l .bitsa) (bits-drop (bitsBefore ls false l) A)) (bits-take (levelAt ls l .bitsb) (bits-drop (bitsBefore ls true l) B))
           (length-take-le (levelAt ls l .bitsa) (drop (bitsBefore ls false l) a) (rw length-drop (omega (arith, within-A l h))))
           (length-take-le (levelAt ls l .bitsb) (drop (bitsBefore ls true l) b) (rw length-drop (omega (arith, within-B l h))))

@@ -1,9 +1,9 @@
 // The levels of a block coded, interleaved and added up as labels. 01 "Partition" to "Bit interleaving".
 use crate::places::bits_before;
-use crate::places::digit;
-use crate::tables::sharing;
 use block::Block;
 use block::Level;
+use blockplaces::tables::digit;
+use blockplaces::tables::sharing;
 use component::code::Coder;
 use encoder::segment::encode;
 use labels::bits::add_part;
@@ -13,7 +13,8 @@ ghost use lib.ListN.{length};
 ghost use lib.Seq.{sets};
 ghost use Rattle.component.specs.Codeword.{encode};
 ghost use Rattle.patterns.specs.Contracts.{patternOf};
-ghost use Rattle.multilevel.specs.Contracts.{streamAt, codedOver, codedOverAt, labelsFrom, levelsOver, shared, digits, CodesAt, CodesLevels, codedWithTail, CodesA, CodedA, EncodesB, CodesB, CodesLevel};
+ghost use Rattle.blockplaces.specs.Contracts.{shared, digits};
+ghost use Rattle.multilevel.specs.Contracts.{streamAt, codedOver, codedOverAt, labelsFrom, levelsOver, CodesAt, CodesLevels, codedWithTail, CodesA, CodedA, EncodesB, CodesB, CodesLevel};
 ghost use Rattle.labels.specs.Contracts.{added};
 ghost use Rattle.block.specs.Levels.{mixed, stream};
 ghost use Rattle.block.specs.Block.{oneAxis};

@@ -2,4 +2,3 @@
 pub mod code;
 pub mod places;
 pub mod read;
-pub mod tables;

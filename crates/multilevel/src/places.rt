@@ -1,11 +1,10 @@
 // Where the bits of a level stand among those of parts A and B. 01 "Partition".
 use block::Block;
-use block::HMMIX;
 use block::Level;
 ghost use mathlib.Core.Path.{_≡_};
-ghost use Rattle.block.specs.Block.{bitCount, oneAxis};
+ghost use Rattle.block.specs.Block.{bitCount};
 ghost use Rattle.block.specs.Fits.{BlockFits};
-ghost use Rattle.multilevel.specs.Contracts.{bitsIn, bitsBefore, Sums, digitAt};
+ghost use Rattle.multilevel.specs.Contracts.{bitsIn, bitsBefore, Sums};
 
 // A level's input bits in part A, or in part B.
 fn bits_in(l: Level, b: bool) -> usize
@@ -30,16 +29,6 @@ pub fn bits_before(k: Block, b: bool, l: usize) -> usize
         i += 1;
     }
     sum
-}
-
-// The digit of level l in the labels.
-pub fn digit(k: Block, l: usize) -> usize
-    ensures { λ r. ⌜ r ≡ digitAt (oneAxis k) l ⌝ }
-{
-    if k.constellation == HMMIX {
-        return l / 2;
-    }
-    l
 }
 
 // The bits of a block.

@@ -1,9 +1,9 @@
 // The levels of a block read from labels: their bits taken out, put back to their places and decoded. 01 "Operations".
 use crate::places::bits_before;
-use crate::places::digit;
-use crate::tables::sharing;
 use block::Block;
 use block::Level;
+use blockplaces::tables::digit;
+use blockplaces::tables::sharing;
 use component::code::coded_length;
 use decoder::segment::decode;
 use labels::bits::take_part;
@@ -11,7 +11,8 @@ use patterns::Pattern;
 ghost use mathlib.Core.Path.{_≡_};
 ghost use lib.ListN.{length};
 ghost use Rattle.block.specs.Reading.{taken, unmixed};
-ghost use Rattle.multilevel.specs.Contracts.{levelAt, levelBitsOver, takenOver, takenOvers, shared, digits, partA, partB, ReadsPart, PartRead, ReadsLevel, ReadsAt, ReadAt, ReadsLevels, LevelsRead};
+ghost use Rattle.blockplaces.specs.Contracts.{levelAt, shared, digits};
+ghost use Rattle.multilevel.specs.Contracts.{levelBitsOver, takenOver, takenOvers, partA, partB, ReadsPart, PartRead, ReadsLevel, ReadsAt, ReadAt, ReadsLevels, LevelsRead};
 
 // The input bits of a part, as many as out is long, from the labels; the register behind them.
 fn read_part(

@@ -1,7 +1,7 @@
 -- `code::code_at` meets its contract. Assumes nothing.
 use native.Mathlib.Omega.{arith}
 use borrow.Author.Needs.{needs}
-use Rattle.multilevel.specs.Contracts.{levelAt}
+use Rattle.blockplaces.specs.Contracts.{levelAt}
 use Rattle.multilevel.proofs.Partition.{place-fits, place-room, sums-a, sums-b, ends-a, ends-b, codes-level, coded-is, over-at}
 use Rattle.multilevel.proofs.code.code_at.Statement.{statement}
 use Rattle.multilevel.proofs.code.code_at.Tie as tie

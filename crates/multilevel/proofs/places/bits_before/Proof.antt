@@ -3,7 +3,8 @@ use Prim.Native.Nat.{_-_, _≤_}
 use mathlib.Core.Path.{_≡_, refl, _∙_}
 use native.Mathlib.Omega.{arith}
 use borrow.Author.Needs.{needs}
-use Rattle.multilevel.specs.Contracts.{levelAt, bitsBefore}
+use Rattle.blockplaces.specs.Contracts.{levelAt}
+use Rattle.multilevel.specs.Contracts.{bitsBefore}
 use Rattle.multilevel.proofs.Partition.{before-next, before-fits}
 use Rattle.multilevel.proofs.places.bits_before.Statement.{statement}
 use Rattle.multilevel.proofs.places.bits_before.Tie as tie

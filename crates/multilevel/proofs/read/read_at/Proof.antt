@@ -1,7 +1,7 @@
 -- `read::read_at` meets its contract. Assumes nothing.
 use native.Mathlib.Omega.{arith}
 use borrow.Author.Needs.{needs}
-use Rattle.multilevel.specs.Contracts.{levelAt}
+use Rattle.blockplaces.specs.Contracts.{levelAt}
 use Rattle.multilevel.proofs.Partition.{place-fits, place-room, sums-a, sums-b}
 use Rattle.multilevel.proofs.Totals.{sums-front}
 use Rattle.multilevel.proofs.LevelsRead.{whole, ends, reads-level, read-at}

@@ -1,8 +1,8 @@
 -- `tables::sharing` meets its contract. Assumes nothing.
 use borrow.Author.Tests.{eq-eqb, ne-eqb}
 use Rattle.block.specs.Block.{oneAxis}
-use Rattle.multilevel.proofs.tables.sharing.Statement.{statement}
-use Rattle.multilevel.proofs.tables.sharing.Tie as tie
+use Rattle.blockplaces.proofs.tables.sharing.Statement.{statement}
+use Rattle.blockplaces.proofs.tables.sharing.Tie as tie
 
 returns : tie.Need-returns
 unfolding oneAxis

@@ -2,10 +2,10 @@
 use Prim.Native.Nat.{_-_, _≤_}
 use native.Mathlib.Omega.{arith}
 use borrow.Author.Needs.{needs}
-use Rattle.multilevel.specs.Contracts.{levelAt}
-use Rattle.multilevel.proofs.Orders.{firstLevel, some-share, turns-low, level-low, places-low, Tabled, tabled-start, tabled-turn, next-room, level-places, block-ordered, block-over}
-use Rattle.multilevel.proofs.tables.block_places.Statement.{statement}
-use Rattle.multilevel.proofs.tables.block_places.Tie as tie
+use Rattle.blockplaces.specs.Contracts.{levelAt}
+use Rattle.blockplaces.proofs.Orders.{firstLevel, some-share, turns-low, level-low, places-low, Tabled, tabled-start, tabled-turn, next-room, level-places, block-ordered, block-over}
+use Rattle.blockplaces.proofs.tables.block_places.Statement.{statement}
+use Rattle.blockplaces.proofs.tables.block_places.Tie as tie
 
 abbrev Inv-loop : tie.InvT-loop
 Inv-loop out₀ levels n step count i₀ out i = (i ≤ count) × Tabled (firstLevel levels step) n out₀ out i

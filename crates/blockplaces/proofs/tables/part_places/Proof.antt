@@ -1,8 +1,8 @@
 -- `tables::part_places` meets its contract. Assumes nothing.
 use borrow.Author.Needs.{needs}
-use Rattle.multilevel.proofs.Orders.{plain-ordered, empty-ordered, part-tabulates, made-ordered, plain-over, empty-over, made-over}
-use Rattle.multilevel.proofs.tables.part_places.Statement.{statement}
-use Rattle.multilevel.proofs.tables.part_places.Tie as tie
+use Rattle.blockplaces.proofs.Orders.{plain-ordered, empty-ordered, part-tabulates, made-ordered, plain-over, empty-over, made-over}
+use Rattle.blockplaces.proofs.tables.part_places.Statement.{statement}
+use Rattle.blockplaces.proofs.tables.part_places.Tie as tie
 
 returns : tie.Need-returns
 returns c = (plain-ordered (c .before .before .pre) (c .if1 .taken), plain-over _ _ _ (c .if1 .taken))

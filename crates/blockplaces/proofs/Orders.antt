@@ -23,8 +23,8 @@ use Rattle.block.specs.Fits.{LevelFits, Alike}
 use Rattle.labels.specs.Contracts.{Ordered}
 use Rattle.labels.proofs.Mixing.{cycles}
 use Rattle.labels.proofs.Ordering.{places-length}
-use Rattle.multilevel.specs.Contracts.{digitAt, levelAt, LevelOrder, BlockOrder, PartPlaces, LevelPlaces, BlockPlaces, partOver, levelOver, nextOver, tablesOver, blockOver}
-use Rattle.multilevel.proofs.Totals.{count-is, three, fits-level, pair-at}
+use Rattle.blockplaces.specs.Contracts.{digitAt, levelAt, LevelOrder, BlockOrder, PartPlaces, LevelPlaces, BlockPlaces, partOver, levelOver, nextOver, tablesOver, blockOver}
+use Rattle.blockplaces.proofs.Levels.{count-is, three, fits-level, pair-at}
 
 module _ {t n : ℕ} {out : List ℕ} (R : PartPlaces t n out) where
   part-long : length (take n out) ≡ n

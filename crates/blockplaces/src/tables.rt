@@ -3,62 +3,17 @@
 use block::Block;
 use block::HMMIX;
 use block::Level;
-use block::buffers::MOST_BITS;
 use component::code::coded_length;
 use interleaver::table::make_places;
 ghost use mathlib.Core.Path.{_≡_};
 ghost use mathlib.Core.Bool.{cond};
 ghost use Prim.Native.Nat.{_*_};
 ghost use lib.ListN.{take};
-ghost use Rattle.lists.specs.Buffers.{Long};
 ghost use Rattle.block.specs.Block.{oneAxis};
 ghost use Rattle.block.specs.Fits.{BlockFits};
 ghost use Rattle.block.specs.Reading.{sizeA};
 ghost use Rattle.labels.specs.Contracts.{Ordered};
-ghost use Rattle.multilevel.specs.Contracts.{LevelOrder, BlockOrder, PartPlaces, LevelPlaces, BlockPlaces, partOver, levelOver, blockOver, shared};
-
-// A place for each coded bit of the largest block, and one number more.
-pub const MOST_PLACES: usize = MOST_BITS + 1;
-
-// Room for them, from a function of its own: proofs then take its length and do not write it out.
-pub fn place_buffer() -> [u16; MOST_PLACES]
-    ensures { λ r. ⌜ Long 36709 r ⌝ }
-{
-    [0u16; MOST_PLACES]
-}
-
-// The most cells of an SDC block, of mode A with occupancy 5; an FAC block has fewer.
-pub const SMALL_CELLS: usize = 846;
-
-// Their coordinates.
-pub const SMALL_NUMBERS: usize = 2 * SMALL_CELLS;
-
-// The most bits of so many cells.
-pub const SMALL_BITS: usize = 6 * SMALL_CELLS;
-
-// A place for each coded bit of so many cells, and one number more.
-pub const SMALL_PLACES: usize = SMALL_BITS + 1;
-
-// Room for the places of a small block: to clear that of the largest takes longer than to code an FAC block.
-pub fn small_place_buffer() -> [u16; SMALL_PLACES]
-    ensures { λ r. ⌜ Long 5077 r ⌝ }
-{
-    [0u16; SMALL_PLACES]
-}
-
-// Room for its bits.
-pub fn small_bit_buffer() -> [u8; SMALL_BITS]
-    ensures { λ r. ⌜ Long 5076 r ⌝ }
-{
-    [0u8; SMALL_BITS]
-}
-
-// A number, or a coded bit of a level, for each of its coordinates.
-pub fn small_cell_buffer() -> [u8; SMALL_NUMBERS]
-    ensures { λ r. ⌜ Long 1692 r ⌝ }
-{
-    [0u8; SMALL_NUMBERS]
-}
+ghost use Rattle.blockplaces.specs.Contracts.{digitAt, LevelOrder, BlockOrder, PartPlaces, LevelPlaces, BlockPlaces, partOver, levelOver, blockOver, shared};
 
 // A part's places and a 0 after them, if it is interleaved.
 fn part_places(t: usize, n: usize, out: &mut [u16])
@@ -106,6 +61,16 @@ pub fn sharing(k: Block) -> usize
         return 2;
     }
     1
+}
+
+// The digit of level l in the labels.
+pub fn digit(k: Block, l: usize) -> usize
+    ensures { λ r. ⌜ r ≡ digitAt (oneAxis k) l ⌝ }
+{
+    if k.constellation == HMMIX {
+        return l / 2;
+    }
+    l
 }
 
 // The places of all levels, a table for each digit of the labels.

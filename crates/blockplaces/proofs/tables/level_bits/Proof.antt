@@ -2,8 +2,8 @@
 use native.Mathlib.Omega.{arith}
 use borrow.Author.Tests.{eq-eqb, ne-eqb}
 use Rattle.block.specs.Block.{oneAxis}
-use Rattle.multilevel.proofs.tables.level_bits.Statement.{statement}
-use Rattle.multilevel.proofs.tables.level_bits.Tie as tie
+use Rattle.blockplaces.proofs.tables.level_bits.Statement.{statement}
+use Rattle.blockplaces.proofs.tables.level_bits.Tie as tie
 
 returns : tie.Need-returns
 unfolding oneAxis

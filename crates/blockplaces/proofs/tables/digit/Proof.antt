@@ -1,9 +1,9 @@
--- `places::digit` meets its contract. Assumes nothing.
+-- `tables::digit` meets its contract. Assumes nothing.
 use borrow.Author.Tests.{eq-eqb, ne-eqb}
 use Rattle.block.specs.Block.{oneAxis}
-use Rattle.multilevel.specs.Contracts.{digitAt}
-use Rattle.multilevel.proofs.places.digit.Statement.{statement}
-use Rattle.multilevel.proofs.places.digit.Tie as tie
+use Rattle.blockplaces.specs.Contracts.{digitAt}
+use Rattle.blockplaces.proofs.tables.digit.Statement.{statement}
+use Rattle.blockplaces.proofs.tables.digit.Tie as tie
 
 returns : tie.Need-returns
 unfolding digitAt oneAxis

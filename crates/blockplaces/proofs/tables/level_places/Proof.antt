@@ -1,9 +1,9 @@
 -- `tables::level_places` meets its contract. Assumes nothing.
 use native.Mathlib.Omega.{arith}
 use borrow.Author.Needs.{needs}
-use Rattle.multilevel.proofs.Orders.{counts-front, front-low, places-a, behind-written, places-b, level-ordered, level-over}
-use Rattle.multilevel.proofs.tables.level_places.Statement.{statement}
-use Rattle.multilevel.proofs.tables.level_places.Tie as tie
+use Rattle.blockplaces.proofs.Orders.{counts-front, front-low, places-a, behind-written, places-b, level-ordered, level-over}
+use Rattle.blockplaces.proofs.tables.level_places.Statement.{statement}
+use Rattle.blockplaces.proofs.tables.level_places.Tie as tie
 
 coded-length-requires : tie.Need-coded-length-requires
 coded-length-requires c κs = counts-front (c .before .before .pre)
