@@ -2,5 +2,3 @@ pub mod Axes
 pub mod Woven
 pub mod Coding
 pub mod Each
-pub mod Lists
-pub mod Halves

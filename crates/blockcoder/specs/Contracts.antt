@@ -1,5 +1,5 @@
 -- What the functions that code a block require and promise: nothing of 01 is stated here.
-use Prim.Native.Nat.{ℕ, zero, suc, _*_, _≤_, _<_}
+use Prim.Native.Nat.{ℕ, zero, suc, _*_, _≤_}
 use mathlib.Core.Path.{_≡_}
 use mathlib.Core.List.{List, [], _++_}
 use lib.ListN.{length, take, drop}
@@ -16,7 +16,6 @@ use Rattle.blockplaces.specs.Contracts.{shared, digits}
 use Rattle.multilevel.specs.Contracts.{PartsOf, levelsOver, labelsFrom}
 use mathlib.Core.Bool.{cond}
 use Rattle.block.specs.Mapping.{mapped, woven}
-use Rattle.mapping.specs.Contracts.{ThreeBits}
 
 -- Working buffers of a block: for its labels, and for a level's coded bits.
 pub record HasRoom (k : Block) (labels coded : List ℕ) : Type 0 where
@@ -87,21 +86,3 @@ pub record BlocksLent (k : Block) (many : ℕ) (bytes : List ℕ) (out : List �
 unfoldable pub cellsOfEach : Block → ℕ → List ℕ → List ℤ
 cellsOfEach k zero bytes = []
 cellsOfEach k (suc m) bytes = cellsOfEach k m bytes ++ cellsFrom k (take (bytesFor (bitCount k)) (drop (bytesFor (bitCount k) * m) bytes))
-
--- Labels of a constellation whose axes have one labelling, those of the first n1 cells being part A's.
-pub record MapsParts (c n1 : ℕ) (labels : List ℕ) (out : List ℤ) : Type 0 where
-  pub known : c < 4
-  pub same : length out ≡ length labels
-  pub part : 2 * n1 ≤ length labels
-  pub high : length labels ≤ 16384
-  pub low : ThreeBits labels
-
--- Labels of both axes, a number a cell, the first n1 of which are part A's.
-pub record MapsAxesParts (c n1 : ℕ) (re im : List ℕ) (out : List ℤ) : Type 0 where
-  pub known : c < 5
-  pub same : length out ≡ 2 * length re
-  pub both : length im ≡ length re
-  pub part : n1 ≤ length re
-  pub high : length re ≤ 16384
-  pub lowReal : ThreeBits re
-  pub lowImaginary : ThreeBits im

@@ -1,6 +1,4 @@
 // A block: packed bytes to cells. 01 "From bits to cells".
-use crate::parts::map_axes_parts;
-use crate::parts::map_parts;
 use block::Block;
 use block::HMMIX;
 use block::buffers::SMALL_CELLS;
@@ -12,6 +10,8 @@ use block::buffers::small_cell_buffer;
 use block::buffers::small_place_buffer;
 use blockplaces::tables::block_places;
 use dispersal::parts::unpack_parts;
+use mapping::parts::map_axes_parts;
+use mapping::parts::map_parts;
 use multilevel::code::code_levels;
 use multilevel::places::bit_count;
 use multilevel::places::bits_before;

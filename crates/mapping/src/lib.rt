@@ -1,2 +1,3 @@
 // Code of the mapping of level bits to coordinates and back.
+pub mod parts;
 pub mod points;
