@@ -2,14 +2,15 @@
 use mathlib.Core.Path.{_≡_, refl, sym, ap, ap₂, _∙_}
 use mathlib.Core.Bool.{Bool, true, false, cond}
 use mathlib.Core.List.{List, [], _∷_, _++_, map, append-nil, append-assoc}
-use Prim.Native.Nat.{ℕ, zero, suc, _+_, _-_, _*_, _/_, _≤_, _<_}
-use native.Mathlib.Nat.{mul-suc, mul-add, mul-one, mul-comm, mul-sub, mul-zero, zero-add, div-mul-le-self}
+use Prim.Native.Nat.{ℕ, zero, suc, _+_, _-_, _*_, _≤_, _<_}
+use native.Mathlib.Nat.{mul-suc, mul-add, mul-one, mul-comm, mul-sub, mul-zero, zero-add}
 use native.Mathlib.Omega.{arith}
 use borrow.Rule.Slice.PartMut.{putMid}
-use lib.ListN.{length, length-append, length-map, length-replicate, take, drop, replicate, set}
-use lib.Seq.{take-at, drop-at, drop-drop}
+use lib.ListN.{length, getD, length-append, length-map, length-replicate, take, drop, replicate, set}
+use lib.Seq.{take-at, take-all, drop-at, drop-drop, drop-length}
 use lib.IntN.{ℤ}
 use Rattle.lists.specs.Lists.{table}
+use Rattle.lists.specs.Buffers.{Long}
 use Rattle.lists.specs.Bytes.{bytesFor}
 use Rattle.lists.proofs.Parts.{length-inside}
 use Rattle.lists.proofs.Tables.{length-table, table-add}
@@ -17,30 +18,13 @@ use Rattle.block.specs.declared.Block.{Block}
 use Rattle.block.specs.Block.{bitCount}
 use Rattle.block.specs.Reading.{given, bytesRead}
 use Rattle.block.specs.Fits.{BlockLent}
-use Rattle.blockreader.specs.declared.Found.{Found}
 use Rattle.blockreader.specs.declared.Found.the-variants.{Given, NoBits}
-use Rattle.blockreader.specs.Contracts.{BlockRead, foundOf}
 use Rattle.superframe.specs.Call.{part, joined}
 use Rattle.superframe.specs.Blocks.{keptBytes, placedBytes, placedTests}
 use Rattle.superframe.proofs.Coding.{Recovers}
 use Rattle.superframe.proofs.Accepted.{recovers}
 use Rattle.superframe.proofs.Laid.{part-is, part-below, length-mid}
-use Rattle.blockreader.specs.Contracts.{isGiven, blocksIn, SeveralLent, SeveralRead, PlacesRead}
-
--- Bits give a block's cells exactly if that is what was found.
-is-given-of : (b : Bool) → isGiven (foundOf b) ≡ b
-unfolding isGiven foundOf
-is-given-of true = refl
-is-given-of false = refl
-
--- What is found, as a bool.
-pub told-yes : (f : Found) → f ≡ Given → true ≡ isGiven f
-unfolding isGiven
-told-yes f e = rw e
-
-pub told-no : (f : Found) → f ≡ NoBits → false ≡ isGiven f
-unfolding isGiven
-told-no f e = rw e
+use Rattle.blockreader.specs.Contracts.{LentRead, BlockRead, foundOf, blocksIn, SeveralLent, SeveralRead, PlacesRead}
 
 -- Lists put together.
 joined-map : {A : Type 0} (g : List ℤ → List A) (fs gs : List (List ℤ)) → joined (map g (fs ++ gs)) ≡ joined (map g fs) ++ joined (map g gs)
@@ -57,14 +41,6 @@ drop-zeros : (a b : ℕ) → drop a (replicate {A = ℕ} b 0) ≡ replicate (b -
 drop-zeros zero b = let e : b - 0 ≡ b = omega arith in rw e
 drop-zeros (suc a) zero = let e : 0 - suc a ≡ 0 = omega arith in rw e
 drop-zeros (suc a) (suc b) = let e : suc b - suc a ≡ b - a = omega arith in rw e (drop-zeros a b)
-
-take-zeros : (a b : ℕ) → a ≤ b → take a (replicate {A = ℕ} b 0) ≡ replicate a 0
-take-zeros zero b h = refl
-take-zeros (suc a) zero h = absurd (omega arith)
-take-zeros (suc a) (suc b) h = ap (λ (l : List ℕ). 0 ∷ l) (take-zeros a b (omega arith))
-
-part-zeros : (v : List ℕ) (a n : ℕ) → v ≡ replicate (length v) 0 → a + n ≤ length v → take n (drop a v) ≡ replicate n 0
-part-zeros v a n e h = ap (λ (l : List ℕ). take n (drop a l)) e ∙ rw (drop-zeros a (length v)) (take-zeros n (length v - a) (omega arith))
 
 set-after : {A : Type 0} (l r : List A) (i : ℕ) (x y : A) → i ≡ length l → set (l ++ (x ∷ r)) i y ≡ l ++ (y ∷ r)
 set-after [] r i x y e = rw e
@@ -85,100 +61,120 @@ module _ (k : Block) (n : ℕ) (R : Recovers k n) where
   all-long [] = sym (mul-zero n)
   all-long (f ∷ fs) = length-append (keptBytes k n f) _ ∙ rw (kept-long f, all-long fs) (sym (mul-suc n (length fs) ∙ omega arith))
 
-  module _ (fs : List (List ℤ)) (few : length fs < 3) (tests : List Bool) (zeros out : List ℕ) (z : zeros ≡ replicate (length zeros) 0)
-      (g : tests ≡ placedTests k fs) (w : out ≡ joined (map (keptBytes k n) fs) ++ drop (n * length fs) zeros)
-      (i : ℕ) (here : i ≡ length fs) (room : n * i + n ≤ length zeros) (cells : List ℤ) (f : Found) (b : Bool) (last : List ℕ) (told : b ≡ isGiven f)
-      (read : BlockRead k cells (take (n * i + n - n * i) (drop (n * i) out)) f last) where
+  module _ (fs : List (List ℤ)) (few : length fs < 3) (tests : List Bool) (bytes out : List ℕ) (g : tests ≡ placedTests k fs)
+      (w : out ≡ joined (map (keptBytes k n) fs) ++ drop (n * length fs) bytes) (i : ℕ) (here : i ≡ length fs) (room : n * i + n ≤ length out) (cells : List ℤ) (b : Bool) (last : List ℕ)
+      (read : LentRead k cells (take (n * i + n - n * i) (drop (n * i) out)) b last) where
     abbrev front : List ℕ
     front = joined (map (keptBytes k n) fs)
 
     long : length front ≡ n * i
     long = rw here (all-long fs)
 
-    rest-of : drop (n * i) out ≡ drop (n * i) zeros
-    rest-of = rw w (drop-at front (drop (n * length fs) zeros) (n * i) long ∙ rw here)
-
-    same-part : n * i + n - n * i ≡ n
-    same-part = omega arith
-
     last-is : last ≡ keptBytes k n cells
-    unfolding keptBytes
-    last-is = read .written ∙ rw (same-part, rest-of, part-zeros zeros (n * i) n z room)
+    last-is = read .written ∙ rw (length-mid (n * i) n out room)
 
-    answered : b ≡ given k cells
-    answered = told ∙ ap isGiven (read .answered) ∙ is-given-of (given k cells)
-
-    rest-is : drop (n * i + n - n * i) (drop (n * i) out) ≡ drop (n * i + n) zeros
-    rest-is = rw (same-part, rest-of, drop-drop n (n * i) zeros)
+    rest-is : drop (n * i + n - n * i) (drop (n * i) out) ≡ drop (n * i + n) bytes
+    rest-is =
+        let same : n * i + n - n * i ≡ n = omega arith in
+        rw (same, w, drop-at front (drop (n * length fs) bytes) (n * i) long, ← here, drop-drop n (n * i) bytes)
 
     one-less : 3 - length fs ≡ suc (3 - (length fs + 1))
     one-less = omega arith
 
     pub place-more : (set tests i b ≡ placedTests k (fs ++ (cells ∷ [])))
-        × (putMid (n * i) (n * i + n - n * i) out last ≡ joined (map (keptBytes k n) (fs ++ (cells ∷ []))) ++ drop (n * (i + 1)) zeros)
+        × (putMid (n * i) (n * i + n - n * i) out last ≡ joined (map (keptBytes k n) (fs ++ (cells ∷ []))) ++ drop (n * (i + 1)) bytes)
     unfolding placedTests joined
     place-more =
         let e : n * (i + 1) ≡ n * i + n = rw (mul-add n i 1, mul-one n) in (
-          rw (g, one-less, set-after (map (given k) fs) (replicate (3 - (length fs + 1)) true) i true b (rw length-map here), answered, map-more (given k) fs cells, length-append fs (cells ∷ []), append-assoc),
+          rw (g, one-less, set-after (map (given k) fs) (replicate (3 - (length fs + 1)) true) i true b (rw length-map here), read .answered, map-more (given k) fs cells, length-append fs (cells ∷ []), append-assoc),
           ap₂ (λ (x y : List ℕ). x ++ (last ++ y)) (ap (take (n * i)) w ∙ take-at front _ (n * i) long) rest-is
               ∙ rw (e, last-is, joined-map (keptBytes k n) fs (cells ∷ []), append-nil (keptBytes k n cells), append-assoc),
         )
 
 -- What reading block after block holds before block i.
-pub record Blocks (k : Block) (cells : List ℤ) (zeros : List ℕ) (tests : List Bool) (out : List ℕ) (i : ℕ) : Type 0 where
-  pub upto : i ≤ length cells / (2 * k .cells)
-  pub long : length out ≡ length zeros
-  pub given-are : tests ≡ placedTests k (table (part (2 * k .cells) cells) 0 i)
-  pub bytes-are : out ≡ joined (map (keptBytes k (bytesFor (bitCount k))) (table (part (2 * k .cells) cells) 0 i)) ++ drop (bytesFor (bitCount k) * i) zeros
+pub record Blocks (k : Block) (many : ℕ) (cells : List ℤ) (bytes : List ℕ) (tests : List Bool) (out : List ℕ) (i : ℕ) : Type 0 where
+  pub upto : i ≤ many
+  pub long : length out ≡ length bytes
+  pub read : SeveralRead k i cells bytes tests out
 
-module _ {k : Block} {cells : List ℤ} {zeros : List ℕ} (L : SeveralLent k cells zeros) where
-  pub blocks-start : {tests : List Bool} → tests ≡ replicate 3 true → Blocks k cells zeros tests zeros 0
-  unfolding table placedTests joined
-  blocks-start e = record { upto = omega arith; long = refl; given-are = e; bytes-are = rw (mul-zero (bytesFor (bitCount k))) }
+module _ {k : Block} {many : ℕ} {cells : List ℤ} {bytes : List ℕ} (L : SeveralLent k many cells bytes) where
+  pub blocks-start : {tests : List Bool} → tests ≡ replicate 3 true → Blocks k many cells bytes tests bytes 0
+  unfolding blocksIn table placedTests joined
+  blocks-start e = record { upto = omega arith; long = refl; read = record { given-are = e; bytes-are = rw (mul-zero (bytesFor (bitCount k))) } }
 
   -- The cells of block i lie within those of all, and its bytes within theirs.
-  pub cells-within : {n many i : ℕ} → n ≡ 2 * k .cells → many ≡ length cells / n → i < many → n * i + n ≤ length cells
-  cells-within {n} {many} {i} e f h = part-below n i many (length cells) h (rw f (div-mul-le-self (length cells) n))
+  pub cells-within : {n i : ℕ} → n ≡ 2 * k .cells → i < many → n * i + n ≤ length cells
+  cells-within {n} {i} e h = part-below n i many (length cells) h (rw e (L .there))
 
-  pub bytes-within : {m i : ℕ} → m ≡ bytesFor (bitCount k) → i < length cells / (2 * k .cells) → m * i + m ≤ length zeros
-  bytes-within {m} {i} e h =
-      part-below m i (length cells / (2 * k .cells)) (length zeros) h (rw (e, mul-comm (length cells / (2 * k .cells)) (bytesFor (bitCount k))) (L .room))
+  pub bytes-within : {m i : ℕ} → m ≡ bytesFor (bitCount k) → i < many → m * i + m ≤ length bytes
+  bytes-within {m} {i} e h = part-below m i many (length bytes) h (rw e (L .room))
 
-  module _ {tests : List Bool} {out : List ℕ} {i : ℕ} (B : Blocks k cells zeros tests out i) (h : i < length cells / (2 * k .cells)) where
-    pub block-lent : {n m : ℕ} → n ≡ 2 * k .cells → m ≡ bytesFor (bitCount k)
-        → BlockLent k (take (m * i + m - m * i) (drop (m * i) out)) (take (n * i + n - n * i) (drop (n * i) cells))
-    block-lent {n} {m} e f =
-        record {
-          fits = L .fits;
-          long = length-mid (m * i) m out (rw (B .long) (bytes-within f h)) ∙ f;
-          cells = length-mid (n * i) n cells (cells-within e refl (rw e h)) ∙ e;
-        }
+  module _ {tests : List Bool} {out : List ℕ} {i : ℕ} (B : Blocks k many cells bytes tests out i) (h : i < many) {n m : ℕ} (e : n ≡ 2 * k .cells) (f : m ≡ bytesFor (bitCount k)) where
+    pub out-within : m * i + m ≤ length out
+    out-within = rw (B .long) (bytes-within f h)
 
-    pub block-turn : {n m : ℕ} → n ≡ 2 * k .cells → m ≡ bytesFor (bitCount k) → (f : Found) (b : Bool) (last : List ℕ) → b ≡ isGiven f → length last ≡ length (take (m * i + m - m * i) (drop (m * i) out))
-        → BlockRead k (take (n * i + n - n * i) (drop (n * i) cells)) (take (m * i + m - m * i) (drop (m * i) out)) f last
-        → Blocks k cells zeros (set tests i b) (putMid (m * i) (m * i + m - m * i) out last) (i + 1)
-    unfolding table
-    block-turn {n} {m} e f found b last told same r =
+    pub block-lent : BlockLent k (take (m * i + m - m * i) (drop (m * i) out)) (take (n * i + n - n * i) (drop (n * i) cells))
+    block-lent = record { fits = L .fits; long = length-mid (m * i) m out out-within ∙ f; cells = length-mid (n * i) n cells (cells-within e h) ∙ e }
+
+    pub block-turn : (b : Bool) (last : List ℕ) → length last ≡ length (take (m * i + m - m * i) (drop (m * i) out))
+        → LentRead k (take (n * i + n - n * i) (drop (n * i) cells)) (take (m * i + m - m * i) (drop (m * i) out)) b last
+        → Blocks k many cells bytes (set tests i b) (putMid (m * i) (m * i + m - m * i) out last) (i + 1)
+    unfolding blocksIn table
+    block-turn b last same r =
         let w = 2 * k .cells in
         let fs = table (part w cells) 0 i in
         let few : length fs ≡ i = length-table (part w cells) 0 i in
         let more : table (part w cells) 0 (i + 1) ≡ fs ++ (part w cells i ∷ []) = table-add (part w cells) 0 i 1 ∙ rw (zero-add i) in
         let P =
-        place-more k (bytesFor (bitCount k)) (recovers (L .fits) (bytesFor (bitCount k)) refl) fs (omega (arith, few, L .few)) tests zeros out (L .zeros) (B .given-are) (rw few (B .bytes-are)) i
-        (sym few) (bytes-within refl h) (part w cells i) found b last told (rw (part-is n i cells, e, f) at r)
+        place-more k m (recovers (L .fits) m (sym f)) fs (omega (arith, few, L .few)) tests bytes out (B .read .given-are) (rw (f, few) (B .read .bytes-are)) i
+        (sym few) out-within (part w cells i) b last (rw (part-is n i cells, e) at r)
         in
-        record { upto = omega arith; long = length-inside out last (m * i) (m * i + m - m * i) same ∙ B .long; given-are = rw more (P .0); bytes-are = rw (f, more) (P .1) }
+        record {
+          upto = omega arith;
+          long = length-inside out last (m * i) (m * i + m - m * i) same ∙ B .long;
+          read = record { given-are = rw more (P .0); bytes-are = rw (← f, more) (P .1) };
+        }
 
-  pub blocks-end : {tests : List Bool} {out : List ℕ} {i : ℕ} → Blocks k cells zeros tests out i → length cells / (2 * k .cells) ≤ i → SeveralRead k cells zeros tests out
-  unfolding blocksIn
-  blocks-end {i = i} B h =
-      let e : i ≡ length cells / (2 * k .cells) = omega (arith, B .upto) in
-      record { given-are = rw e at (B .given-are); bytes-are = rw (length-table (part (2 * k .cells) cells) 0 (length cells / (2 * k .cells))) (rw e at (B .bytes-are)) }
+  pub blocks-end : {tests : List Bool} {out : List ℕ} {i : ℕ} → Blocks k many cells bytes tests out i → many ≤ i → SeveralRead k many cells bytes tests out
+  blocks-end {i = i} B h = let e : i ≡ many = omega (arith, B .upto) in rw e at (B .read)
 
 -- Blocks that are read into room for three.
-pub in-places : {k : Block} {n : ℕ} {cells : List ℤ} {zeros out : List ℕ} {tests : List Bool} {blocks : List (List ℤ)} → SeveralRead k cells zeros tests out
-    → n ≡ bytesFor (bitCount k) → zeros ≡ replicate (3 * n) 0 → blocksIn k cells ≡ blocks → PlacesRead k n blocks tests out
-unfolding placedBytes
-in-places {k} {n} {blocks = blocks} S e z f =
-    let g : 3 * n - n * length blocks ≡ (3 - length blocks) * n = rw (mul-comm (3 - length blocks) n, mul-sub n 3 (length blocks), mul-comm n 3) in
-    record { given-are = S .given-are ∙ ap (placedTests k) f; bytes-are = S .bytes-are ∙ rw (f, ← e, z, drop-zeros (n * length blocks) (3 * n), g) }
+pub in-places : {k : Block} {n many : ℕ} {cells : List ℤ} {zeros out : List ℕ} {tests : List Bool} → SeveralRead k many cells zeros tests out
+    → n ≡ bytesFor (bitCount k) → zeros ≡ replicate (3 * n) 0 → PlacesRead k n (blocksIn k many cells) tests out
+unfolding placedBytes blocksIn
+in-places {k} {n} {many} {cells} S e z =
+    let long : length (blocksIn k many cells) ≡ many = length-table (part (2 * k .cells) cells) 0 many in
+    let g : 3 * n - n * many ≡ (3 - many) * n = rw (mul-comm (3 - many) n, mul-sub n 3 many, mul-comm n 3) in
+    record { given-are = S .given-are; bytes-are = S .bytes-are ∙ rw (long, ← e, z, drop-zeros (n * many) (3 * n), g) }
+
+-- One block read alone.
+module _ {k : Block} {cells : List ℤ} {bytes : List ℕ} (R : BlockLent k bytes cells) where
+  pub work-room : {work : List ℕ} → Long 4589 work → length bytes ≤ length work
+  unfolding bytesFor
+  work-room l = omega (arith, l .long, R .long, R .fits .short)
+
+  pub one-lent : {work : List ℕ} → length work ≡ length bytes → SeveralLent k 1 cells work
+  one-lent e = record { fits = R .fits; few = omega arith; there = omega (arith, R .cells); room = omega (arith, e, R .long) }
+
+  module _ {work work′ : List ℕ} {tests : List Bool} (e : length work ≡ length bytes) (S : SeveralRead k 1 cells work tests work′) where
+    alone : blocksIn k 1 cells ≡ cells ∷ []
+    unfolding blocksIn table part
+    alone = rw mul-zero (ap (λ (l : List ℤ). l ∷ []) (take-all (2 * k .cells) cells (omega (arith, R .cells))))
+
+    test-is : getD tests 0 false ≡ given k cells
+    unfolding placedTests
+    test-is = rw (S .given-are, alone)
+
+    kept-is : work′ ≡ keptBytes k (bytesFor (bitCount k)) cells
+    unfolding joined
+    kept-is =
+        let none : drop (bytesFor (bitCount k) * 1) work ≡ [] = rw (mul-one, ← R .long, ← e) (drop-length work) in
+        S .bytes-are ∙ rw (alone, none, append-nil, append-nil)
+
+    pub none-given : getD tests 0 false ≡ false → BlockRead k cells bytes NoBits bytes
+    unfolding foundOf
+    none-given f = let g : given k cells ≡ false = sym test-is ∙ f in record { answered = rw g; written = rw g }
+
+    pub some-given : getD tests 0 false ≡ true → {bytes′ : List ℕ} → bytes′ ≡ work′ → BlockRead k cells bytes Given bytes′
+    unfolding foundOf keptBytes
+    some-given f h = let g : given k cells ≡ true = sym test-is ∙ f in record { answered = rw g; written = h ∙ kept-is ∙ rw g }

@@ -1,15 +1,15 @@
 -- The candidate's bits: levels read from the cells, both parts joined, and dispersal undone. Assumes nothing.
 use Prim.Native.Nat.{ℕ, _+_, _-_, _*_, _/_, _%_, _^_, _≤_, _<_}
 use mathlib.Core.Path.{_≡_, refl, sym, ap, ap₂, _∙_}
-use mathlib.Core.Bool.{Bool, true, false}
+use mathlib.Core.Bool.{Bool, true, false, cond}
 use mathlib.Core.List.{List, _++_}
 use native.Mathlib.Omega.{arith}
 use lib.IntN.{ℤ}
 use lib.ListN.{length, take, drop, length-drop, take-append-drop}
 use lib.Seq.{length-take-le, drop-at}
 use Rattle.lists.specs.Lists.{table}
-use Rattle.lists.proofs.Parts.{from-start, to-end, both-written}
-use Rattle.block.specs.Reading.{taken, streamIn, unmapped, candidate}
+use Rattle.lists.proofs.Parts.{from-start, length-start, to-end, both-written, part-again}
+use Rattle.block.specs.Reading.{taken, streamIn, unmapped}
 use Rattle.block.specs.declared.Block.{Block}
 use Rattle.block.specs.Dispersal.{dispersed, dispersedParts}
 use Rattle.block.specs.Block.{levelsOf, pointsOf, oneAxis}
@@ -17,12 +17,13 @@ use Rattle.mapping.specs.Labels.{axisLabels}
 use Rattle.mapping.specs.Contracts.{Unmaps, UnmapsAxis}
 use Rattle.blockplaces.specs.Contracts.{levelAt, shared, digits, BlockOrder}
 use Rattle.multilevel.specs.Contracts.{bitsBefore, frontBits, partA, partB, readOver, PartsOf, ReadsLevels, LevelsRead}
-use Rattle.blockplaces.proofs.Levels.{count-is}
-use Rattle.multilevel.proofs.Totals.{all-bits, levels-table}
+use Rattle.blockplaces.proofs.Levels.{count-is, three}
+use Rattle.multilevel.proofs.Totals.{all-bits, levels-table, few-levels}
 use Rattle.multilevel.proofs.PartsRead.{inputsIn, read-all, read-pairs}
-use Rattle.blockreader.specs.Contracts.{ReadsCandidate, labelsIn, levelBits}
-use Rattle.block.proofs.Dispersal.{length-dispersed}
-use Rattle.blockcoder.proofs.Axes.{alike-low, twice, both-levels, axis-levels}
+use Rattle.packing.specs.Contracts.{Packs}
+use Rattle.blockreader.specs.Contracts.{ReadsCandidate, labelsIn, labelsAt, LabelsLent, LabelsMade, levelBits, PacksParts}
+use Rattle.block.proofs.Dispersal.{length-dispersed, length-dispersedParts, bits-dispersedParts}
+use Rattle.blockcoder.proofs.Axes.{alike-low, twice}
 
 -- the streams of a pair of levels, one from each axis
 axis-streams : (labels : List ℕ) (i : ℕ)
@@ -35,20 +36,53 @@ axis-streams labels i =
     let h : (1 + 2 * i) % 2 ≡ 1 = omega arith in
     (rw (e, f), rw (g, h))
 
-module _ {k : Block} {cells : List ℤ} {labels coded bits : List ℕ} (R : ReadsCandidate k cells labels coded bits) where
-  -- the block's labels have room
+-- the labels of an axis, or of both
+module _ {k : Block} {a : ℕ} {cells : List ℤ} {labels : List ℕ} (L : LabelsLent k a cells labels) where
+  labels-made : {n : ℕ} (part : List ℕ) → n ≡ cond (oneAxis k) (k .cells) (2 * k .cells) → length part ≡ length (take (n - 0) labels) → n ≤ length labels
+      → part ≡ labelsAt k a cells → LabelsMade k a cells n (part ++ drop (n - 0) labels)
+  labels-made {n} part e f h g = record { many = e; front = part-again labels part n h f ∙ g }
+
   pub cells-low : length cells ≤ length labels
-  cells-low = omega (arith, R .whole, R .room .labelled)
+  cells-low = omega (arith, L .whole, L .room)
 
-  pub axis-low : k .cells ≤ length labels
-  axis-low = omega (arith, R .room .labelled)
+  module _ (one : oneAxis k ≡ true) where
+    pub unmaps-axis : {out : List ℕ} → length out ≡ length cells / 2 → UnmapsAxis (k .constellation) a cells out
+    unmaps-axis e = record { known = L .fits .known; axis = rw one at (L .axis); same = omega (arith, e, L .whole) }
 
-  -- coordinates of the block's cells, to labels of both axes, or of one
-  pub unmaps : {out : List ℕ} → oneAxis k ≡ false → length out ≡ length cells → Unmaps (k .constellation) cells out
-  unmaps one e = record { known = alike-low (R .fits) one; same = e }
+    pub axis-made : {part : List ℕ} → length part ≡ length (take (length cells / 2 - 0) labels) → part ≡ axisLabels a (labelsIn k cells)
+        → LabelsMade k a cells (length cells / 2) (part ++ drop (length cells / 2 - 0) labels)
+    unfolding labelsAt
+    axis-made {part} f g = labels-made part (rw one (omega (arith, L .whole))) f (omega (arith, cells-low)) (rw one g)
 
-  pub unmaps-axis : {a : ℕ} {out : List ℕ} → a < 2 → length out ≡ k .cells → UnmapsAxis (k .constellation) a cells out
-  unmaps-axis h e = record { known = R .fits .known; axis = h; same = rw e (R .whole) }
+  module _ (one : oneAxis k ≡ false) where
+    pub unmaps : {out : List ℕ} → length out ≡ length cells → Unmaps (k .constellation) cells out
+    unmaps e = record { known = alike-low (L .fits) one; same = e }
+
+    pub both-made : {part : List ℕ} → length part ≡ length (take (length cells - 0) labels) → part ≡ labelsIn k cells
+        → LabelsMade k a cells (length cells) (part ++ drop (length cells - 0) labels)
+    unfolding labelsAt
+    both-made {part} f g = labels-made part (rw one (L .whole)) f cells-low (rw one g)
+
+-- levels by ones, or in pairs: at most three of them
+few-steps : (b : Bool) (count streams a : ℕ) → count ≡ cond b (2 * streams) streams → streams ≤ 3 → a < cond b 2 1
+    → (a ≤ 1) × (0 < cond b 2 1) × (cond b 2 1 ≤ 2) × (count / cond b 2 1 ≤ 3) × (a + cond b 2 1 * (count / cond b 2 1) < count + cond b 2 1)
+few-steps true count streams a e h l = (omega arith, omega arith, omega arith, omega arith, omega arith)
+few-steps false count streams a e h l = (omega arith, omega arith, omega arith, omega arith, omega arith)
+
+pub some-axis : (k : Block) → 0 < shared k
+some-axis k = go (oneAxis k)
+  where
+    go : (b : Bool) → 0 < cond b 2 1
+    go true = omega arith
+    go false = omega arith
+
+axis-most : (b : Bool) (c : ℕ) → cond b c (2 * c) ≤ 2 * c
+axis-most true c = omega arith
+axis-most false c = omega arith
+
+module _ {k : Block} {cells : List ℤ} {labels coded bits : List ℕ} (R : ReadsCandidate k cells labels coded bits) where
+  pub labels-lent : {a : ℕ} → a < shared k → LabelsLent k a cells labels
+  labels-lent h = record { fits = R .fits; whole = R .whole; axis = h; room = R .room .labelled }
 
   -- the bits of parts A and B
   parts-of : PartsOf k (partA k bits) (partB k bits)
@@ -59,33 +93,26 @@ module _ {k : Block} {cells : List ℤ} {labels coded bits : List ℕ} (R : Read
         longB = rw (length-drop, R .long, all-bits (R .fits)) (omega arith);
       }
 
-  module _ (one : oneAxis k ≡ false) where
-    one-by-one : (1 ≡ shared k) × (k .count ≡ digits k)
-    one-by-one = (rw one, rw one (omega arith))
+  -- the labels that were made have room, and the levels can be read from them
+  module _ {a n : ℕ} {labels′ : List ℕ} (h : a < shared k) (e : length labels′ ≡ length labels) (M : LabelsMade k a cells n labels′) where
+    pub made-low : n ≤ length labels′
+    made-low = omega (arith, e, M .many, axis-most (oneAxis k) (k .cells), R .room .labelled)
 
-    -- all levels can be read from the labels of both axes
-    pub reads-both : {order part : List ℕ} → BlockOrder k order → length part ≡ length cells → ReadsLevels k 0 order part coded bits
-    reads-both O e =
+    pub reads-levels : {order : List ℕ} → BlockOrder k order → ReadsLevels k a order (take (n - 0) labels′) coded bits
+    reads-levels O =
+        let F = R .fits in
+        let low : cond (oneAxis k) (k .cells) (2 * k .cells) ≤ 2 * k .cells = axis-most (oneAxis k) (k .cells) in
+        let long : length (take (n - 0) labels′) ≡ cond (oneAxis k) (k .cells) (2 * k .cells) = length-start n labels′ made-low ∙ M .many in
+        let f = few-steps (oneAxis k) (k .count) (F .streams) a (sym (count-is F) ∙ F .levels) (three F) h in
         record {
-          fits = R .fits;
+          fits = F;
           long = R .long;
-          few = rw (← one-by-one .1, ← one-by-one .0) (both-levels (R .fits) one parts-of O (e ∙ R .whole));
-          buffer = rw (e, R .whole) (R .room .level);
+          few = few-levels F parts-of {n = cond (oneAxis k) (k .cells) (2 * k .cells)} refl (omega (arith, low, F .most)) O (shared k) a (digits k) (f .1) (f .2) (f .0) (f .3) (f .4) long;
+          buffer = omega (arith, long, low, R .room .level);
         }
 
-  module _ (one : oneAxis k ≡ true) where
-    in-pairs : (2 ≡ shared k) × (k .count / 2 ≡ digits k)
-    in-pairs = (rw one, rw one)
-
-    -- those of an axis from its labels
-    pub reads-axis : {a : ℕ} {order part : List ℕ} → a < 2 → BlockOrder k order → length part ≡ k .cells → ReadsLevels k a order part coded bits
-    reads-axis {a} h O e =
-        record {
-          fits = R .fits;
-          long = R .long;
-          few = rw (← in-pairs .1, ← in-pairs .0) (axis-levels (R .fits) one parts-of O a (omega arith) e);
-          buffer = omega (arith, e, R .room .level);
-        }
+    pub levels-read : {bits′ : List ℕ} → LevelsRead k a (take (n - 0) labels′) bits bits′ → LevelsRead k a (labelsAt k a cells) bits bits′
+    levels-read r = rw (M .front) at r
 
   -- the bits that are read are those of the block's levels
   block-inputs : (b : Bool) {n : ℕ} {v : List ℕ} → n ≡ k .count
@@ -100,33 +127,43 @@ module _ {k : Block} {cells : List ℤ} {labels coded bits : List ℕ} (R : Read
   whole-bits {v} e f = sym (take-append-drop (frontBits k) v) ∙ ap₂ _++_ e f
 
   module _ (one : oneAxis k ≡ false) where
+    one-by-one : (1 ≡ shared k) × (k .count ≡ digits k)
+    one-by-one = (rw one, rw one (omega arith))
+
     both-read : (b : Bool) (v : List ℕ) {v′ : List ℕ} → length v ≡ bitsBefore (k .levels) b (k .count)
         → v′ ≡ readOver (k .levels) b (labelsIn k cells) 0 (shared k) 1 (digits k) v
         → v′ ≡ inputsIn b (levelsOf k) (unmapped (pointsOf k) (oneAxis k) (length (levelsOf k)) cells)
     unfolding streamIn
     both-read b v h f =
-        block-inputs b refl (rw (← one-by-one one .1, ← one-by-one one .0) at f ∙ read-all (k .levels) b _ (labelsIn k cells) (k .count) v h (λ i m. rw one))
+        block-inputs b refl (rw (← one-by-one .1, ← one-by-one .0) at f ∙ read-all (k .levels) b _ (labelsIn k cells) (k .count) v h (λ i m. rw one))
 
     -- what is read from the labels of both axes
-    pub both-bits : {bits′ : List ℕ} → LevelsRead k 0 (labelsIn k cells) bits bits′ → bits′ ≡ levelBits k cells
-    both-bits L = whole-bits (both-read false (partA k bits) (parts-of .longA) (L .front)) (both-read true (partB k bits) (parts-of .longB) (L .rest))
+    pub both-bits : {bits′ : List ℕ} → LevelsRead k 0 (labelsAt k 0 cells) bits bits′ → bits′ ≡ levelBits k cells
+    unfolding labelsAt
+    both-bits r = let L = rw one at r in whole-bits (both-read false (partA k bits) (parts-of .longA) (L .front)) (both-read true (partB k bits) (parts-of .longB) (L .rest))
 
   module _ (one : oneAxis k ≡ true) where
+    in-pairs : (2 ≡ shared k) × (k .count / 2 ≡ digits k)
+    in-pairs = (rw one, rw one)
+
     axes-read : (b : Bool) (v : List ℕ) {u v′ : List ℕ} → length v ≡ bitsBefore (k .levels) b (k .count)
         → u ≡ readOver (k .levels) b (axisLabels 0 (labelsIn k cells)) 0 (shared k) 1 (digits k) v
         → v′ ≡ readOver (k .levels) b (axisLabels 1 (labelsIn k cells)) 1 (shared k) 1 (digits k) u
         → v′ ≡ inputsIn b (levelsOf k) (unmapped (pointsOf k) (oneAxis k) (length (levelsOf k)) cells)
     axes-read b v h g p =
         let t = twice (R .fits) one in
-        let g′ = rw (← in-pairs one .1, ← in-pairs one .0) at g in
-        let p′ = rw (← in-pairs one .1, ← in-pairs one .0) at p in
+        let g′ = rw (← in-pairs .1, ← in-pairs .0) at g in
+        let p′ = rw (← in-pairs .1, ← in-pairs .0) at p in
         block-inputs b t
         (p′ ∙ rw g′ (read-pairs (k .levels) b _ (axisLabels 0 (labelsIn k cells)) (axisLabels 1 (labelsIn k cells)) (k .count / 2) v (rw t h) (λ i m. rw one (axis-streams (labelsIn k cells) i))))
 
     -- what is read from the labels of the real axis and then from those of the imaginary one
-    pub axes-bits : {bits₁ bits₂ : List ℕ} → LevelsRead k 0 (axisLabels 0 (labelsIn k cells)) bits bits₁
-        → LevelsRead k 1 (axisLabels 1 (labelsIn k cells)) bits₁ bits₂ → bits₂ ≡ levelBits k cells
-    axes-bits L M = whole-bits (axes-read false (partA k bits) (parts-of .longA) (L .front) (M .front)) (axes-read true (partB k bits) (parts-of .longB) (L .rest) (M .rest))
+    pub axes-bits : {bits₁ bits₂ : List ℕ} → LevelsRead k 0 (labelsAt k 0 cells) bits bits₁ → LevelsRead k 1 (labelsAt k 1 cells) bits₁ bits₂ → bits₂ ≡ levelBits k cells
+    unfolding labelsAt
+    axes-bits r s = let L = rw one at r in let M = rw one at s in whole-bits (axes-read false (partA k bits) (parts-of .longA) (L .front) (M .front)) (axes-read true (partB k bits) (parts-of .longB) (L .rest) (M .rest))
+
+  pub second-axis : oneAxis k ≡ true → 1 < shared k
+  second-axis one = rw one (omega arith)
 
   -- as long as there is room, other buffers do
   pub same-room : {labels′ coded′ bits′ : List ℕ} → length labels′ ≡ length labels → length coded′ ≡ length coded → length bits′ ≡ length bits
@@ -138,14 +175,6 @@ module _ {k : Block} {cells : List ℤ} {labels coded bits : List ℕ} (R : Read
         long = g ∙ R .long;
         room = record { labelled = rw e (R .room .labelled); level = rw f (R .room .level) };
       }
-
-  -- dispersal undone
-  pub front-in : (v : List ℕ) → length v ≡ length bits → k .vspp ≤ length v
-  front-in v e = rw (e, R .long) (R .fits .front)
-
-  pub candidate-is : {v out : List ℕ} → v ≡ levelBits k cells → out ≡ dispersedParts (k .vspp) v → out ≡ candidate k cells
-  unfolding candidate levelBits
-  candidate-is e f = f ∙ ap (dispersedParts (k .vspp)) e
 
 -- x in place of the first n elements: what follows them
 rest-part : (x v : List ℕ) (n : ℕ) → length x ≡ n → take (length (x ++ drop (n - 0) v) - n) (drop n (x ++ drop (n - 0) v)) ≡ drop n v
@@ -161,3 +190,8 @@ dispersed-both n v {x} {y} h e f =
     let k : length x ≡ n = rw g (length-dispersed 0 (take n v) ∙ length-take-le n v h) in
     let z : y ≡ dispersed 0 (drop n v) = f ∙ ap (dispersed 0) (rest-part x v n k) in
     both-written v x n h k y ∙ ap₂ _++_ g z
+
+pub parts-packed : {k : ℕ} {v out w : List ℕ} → PacksParts k v out → w ≡ dispersedParts k v → Packs w out
+parts-packed {k} {v} {w = w} P e =
+    let long : length w ≡ length v = ap length e ∙ length-dispersedParts k v in
+    record { input = rw e (bits-dispersedParts k v); few = rw long (P .few); same = rw long (P .same) }

@@ -1,70 +1,66 @@
 -- A block read back, step by step. Assumes nothing.
 use Prim.Native.Nat.{ℕ, _-_, _*_, _≤_}
-use mathlib.Core.Path.{_≡_, ap, _∙_}
-use mathlib.Core.Bool.{cond}
+use mathlib.Core.Path.{_≡_, sym, ap, _∙_}
+use mathlib.Core.Bool.{Bool, cond}
 use mathlib.Core.List.{List, _++_}
 use native.Mathlib.Omega.{arith}
-use lib.ListN.{length, take, drop}
+use lib.ListN.{length, take, drop, replicate}
 use lib.IntN.{ℤ}
-use Rattle.lists.specs.Buffers.{Long}
 use Rattle.lists.specs.Bytes.{bytesFor}
-use Rattle.lists.proofs.Parts.{part-room}
+use Rattle.lists.proofs.Parts.{length-start, part-long, part-again}
 use Rattle.lists.specs.Same.{sameNumbers}
 use Rattle.block.specs.declared.Block.{Block}
+use Rattle.block.specs.Dispersal.{dispersedParts}
 use Rattle.block.specs.Packing.{packed}
 use Rattle.block.specs.Block.{bitCount, cellsOf, cellsFrom}
 use Rattle.block.specs.Reading.{candidate, given, bytesRead}
-use Rattle.packing.specs.Contracts.{Packs}
-use Rattle.blockreader.specs.declared.Found.{Found}
-use Rattle.blockcoder.specs.Contracts.{HasRoom, WorkLent}
-use Rattle.blockreader.specs.Contracts.{ReadsCandidate, BlockRead, foundOf}
+use Rattle.superframe.specs.Blocks.{keptBytes}
+use Rattle.blockcoder.specs.Contracts.{WorkLent}
+use Rattle.blockreader.specs.Contracts.{ReadsCandidate, levelBits, PacksParts, LentRead}
 use Rattle.block.specs.Fits.{BlockLent}
 use Rattle.block.proofs.Blocks.{candidate-block, unpacked-block}
 
 module _ {k : Block} {cells : List ℤ} {bytes : List ℕ} (R : BlockLent k bytes cells) where
-  -- its bits, bytes and coordinates have room
-  pub bits-in : {n : ℕ} (buffer : List ℕ) → n ≡ bitCount k → bitCount k ≤ length buffer → n ≤ length buffer
-  bits-in buffer e h = rw e h
+  -- its bits and coordinates have room
+  module _ {bits labels coded : List ℕ} (W : WorkLent k bits labels coded) {n : ℕ} (e : n ≡ bitCount k) where
+    pub bits-in : n ≤ length bits
+    bits-in = rw e (W .input)
 
-  pub bytes-in : {buffer : List ℕ} → Long 4589 buffer → length bytes ≤ length buffer
-  unfolding bytesFor
-  bytes-in l = omega (arith, l .long, R .long, R .fits .short)
+    -- the candidate can be worked out
+    pub reads-candidate : ReadsCandidate k cells labels coded (take (n - 0) bits)
+    reads-candidate = record { fits = R .fits; whole = R .cells; long = length-start n bits bits-in ∙ e; room = W .room }
 
-  pub cells-in : (buffer : List ℤ) → 2 * k .cells ≤ length buffer → length cells ≤ length buffer
-  cells-in buffer h = rw (R .cells) h
+    -- and packed
+    module _ {u : List ℕ} (same : length u ≡ length (take (n - 0) bits)) (is : u ≡ levelBits k cells) where
+      pub levels-again : take (n - 0) (u ++ drop (n - 0) bits) ≡ u
+      levels-again = part-again bits u n bits-in same
 
-  -- the candidate can be worked out
-  pub reads-candidate : {labels coded bits : List ℕ} → length bits ≡ bitCount k → HasRoom k labels coded → ReadsCandidate k cells labels coded bits
-  reads-candidate e h = record { fits = R .fits; whole = R .cells; long = e; room = h }
+      pub packs : PacksParts (k .vspp) (take (n - 0) (u ++ drop (n - 0) bits)) bytes
+      packs =
+          let long : length u ≡ bitCount k = part-long bits u n bits-in same ∙ e in
+          rw levels-again (record {
+            front = rw long (R .fits .front);
+            few = omega (arith, long, R .fits .short);
+            same = R .long ∙ ap bytesFor (sym long);
+          })
 
-  -- and its bytes coded again
-  pub codes-again : {p : List ℕ} {g : List ℤ} → length p ≡ length bytes → length g ≡ length cells → BlockLent k p g
-  codes-again e f = record { fits = R .fits; long = e ∙ R .long; cells = f ∙ R .cells }
+      pub packed-is : {p : List ℕ} → p ≡ packed (dispersedParts (k .vspp) (take (n - 0) (u ++ drop (n - 0) bits))) → p ≡ bytesRead k cells
+      unfolding bytesRead candidate levelBits
+      packed-is f = f ∙ rw (levels-again, is)
 
-  -- in the same working buffers
-  pub work-again : {bits labels coded labels′ coded′ : List ℕ} {n : ℕ} → WorkLent k bits labels coded → n ≡ bitCount k → (part : List ℕ)
-      → length part ≡ length (take (n - 0) bits) → length labels′ ≡ length labels → length coded′ ≡ length coded
-      → WorkLent k (part ++ drop (n - 0) bits) labels′ coded′
-  work-again {bits} {n = n} W e part h f g =
-      record {
-        input = rw (← e) (part-room bits part n (bits-in bits e (W .input)) h);
-        room = record { labelled = rw f (W .room .labelled); level = rw g (W .room .level) };
-      }
+  pub cells-in : (again : List ℤ) → 2 * k .cells ≤ length again → length cells ≤ length again
+  cells-in again h = rw (R .cells) h
 
-  module _ {u : List ℕ} (eu : u ≡ candidate k cells) where
-    -- packed
-    pub packs : {out : List ℕ} → length out ≡ length bytes → Packs u out
-    packs e =
-        let B = candidate-block {k = k} cells in
-        record { input = rw eu (B .bits); few = rw (eu, B .long) (omega (arith, R .fits .short)); same = rw (eu, B .long) (e ∙ R .long) }
+  pub codes-again : {p : List ℕ} → length p ≡ length bytes → (again : List ℤ) → 2 * k .cells ≤ length again → BlockLent k p (take (length cells - 0) again)
+  codes-again e again h = record { fits = R .fits; long = e ∙ R .long; cells = length-start (length cells) again (cells-in again h) ∙ R .cells }
 
-    module _ {p : List ℕ} {g : List ℤ} (ep : p ≡ packed u) (eg : g ≡ cellsFrom k p) where
-      -- whether it gives the cells is the test whether some bits do
-      given-is : sameNumbers g cells ≡ given k cells
-      unfolding given cellsFrom
-      given-is = rw (eg, ep, eu) (ap (λ w. sameNumbers (cellsOf k w) cells) (unpacked-block {k = k} (candidate-block {k = k} cells)))
+  module _ {p : List ℕ} {g : List ℤ} (ep : p ≡ bytesRead k cells) (eg : g ≡ cellsFrom k p) where
+    -- coded again, it gives the cells if some bits do
+    given-is : sameNumbers g cells ≡ given k cells
+    unfolding given cellsFrom bytesRead
+    given-is = rw (eg, ep) (ap (λ w. sameNumbers (cellsOf k w) cells) (unpacked-block {k = k} (candidate-block {k = k} cells)))
 
-      pub block-read : {r : Found} {bytes′ : List ℕ} → (r ≡ foundOf (sameNumbers g cells)) × (bytes′ ≡ cond (sameNumbers g cells) p bytes)
-          → BlockRead k cells bytes r bytes′
-      unfolding bytesRead
-      block-read H = record { answered = H .0 ∙ ap foundOf given-is; written = rw (given-is, ep, eu) at (H .1) }
+    pub lent-read : {r : Bool} {bytes′ : List ℕ} → length p ≡ length bytes → (r ≡ sameNumbers g cells) × (bytes′ ≡ cond (sameNumbers g cells) p (replicate (length p) 0))
+        → LentRead k cells bytes r bytes′
+    unfolding keptBytes
+    lent-read e H = record { answered = H .0 ∙ given-is; written = rw (given-is, e, ep) at (H .1) }

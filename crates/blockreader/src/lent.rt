@@ -1,20 +1,33 @@
-// A block read back in buffers that are lent: the candidate's bits, packed, coded again and compared with the cells. 01 "Operations".
-use crate::Found;
-use crate::candidate::candidate_bits;
-use crate::compare::hand_out;
+// A block read back in buffers that are lent: the candidate, packed, coded again and compared with the cells. 01 "Operations".
+use crate::candidate::read_packed;
 use block::Block;
-use block::buffers::byte_buffer;
 use blockcoder::code::code_lent;
-use multilevel::places::bit_count;
-use packing::bits::pack;
+use lists::bytes::clear;
+use lists::numbers::same;
 ghost use Prim.Native.Nat.{_*_, _≤_};
-ghost use lib.ListN.{length};
+ghost use mathlib.Core.Path.{_≡_};
+ghost use mathlib.Core.Bool.{cond};
+ghost use lib.ListN.{length, replicate};
+ghost use Rattle.lists.specs.Same.{sameNumbers};
 ghost use Rattle.blockplaces.specs.Contracts.{BlockOrder};
 ghost use Rattle.blockcoder.specs.Contracts.{WorkLent};
-ghost use Rattle.blockreader.specs.Contracts.{BlockRead};
+ghost use Rattle.blockreader.specs.Contracts.{LentRead};
 ghost use Rattle.block.specs.Fits.{BlockLent};
 
-// The packed bytes that give the cells, if there are such, by the places of its coded bits and in buffers lent; else nothing is written.
+// The candidate's bytes stay if it gives the cells, and are cleared if not.
+fn keep_same(given: &[i16], cells: &[i16], bytes: &mut [u8]) -> bool
+    requires { ⌜ length (now given) ≡ length (now cells) ⌝ }
+    ensures { λ r. ⌜ r ≡ sameNumbers (now (given .entry)) (now (cells .entry)) ⌝ }
+    ensures { λ r. ⌜ now (bytes .exit) ≡ cond (sameNumbers (now (given .entry)) (now (cells .entry))) (now (bytes .entry)) (replicate (length (now (bytes .entry))) 0) ⌝ }
+{
+    if same(given, cells) {
+        return true;
+    }
+    clear(bytes);
+    false
+}
+
+// Whether bits give the cells, by the places of the block's coded bits and in buffers lent; these packed, or zeros.
 pub fn read_lent(
     k: Block,
     places: &[u16],
@@ -24,25 +37,13 @@ pub fn read_lent(
     coded: &mut [u8],
     again: &mut [i16],
     bytes: &mut [u8],
-) -> Found
+) -> bool
     requires { ⌜ BlockLent k (now bytes) (now cells) × WorkLent k (now bits) (now labels) (now coded) × (2 * k .cells ≤ length (now again)) ⌝ }
     requires { ⌜ BlockOrder k (now places) ⌝ }
-    ensures { λ r. ⌜ BlockRead k (now (cells .entry)) (now (bytes .entry)) r (now (bytes .exit)) ⌝ }
+    ensures { λ r. ⌜ LentRead k (now (cells .entry)) (now (bytes .entry)) r (now (bytes .exit)) ⌝ }
 {
-    let mut packed = byte_buffer();
-    let total = bit_count(k);
-    let m = bytes.len();
     let n = cells.len();
-    candidate_bits(k, places, cells, labels, coded, &mut bits[0..total]);
-    pack(&bits[0..total], &mut packed[0..m]);
-    code_lent(
-        k,
-        places,
-        &packed[0..m],
-        bits,
-        labels,
-        coded,
-        &mut again[0..n],
-    );
-    hand_out(&packed[0..m], &again[0..n], cells, bytes)
+    read_packed(k, places, cells, bits, labels, coded, bytes);
+    code_lent(k, places, bytes, bits, labels, coded, &mut again[0..n]);
+    keep_same(&again[0..n], cells, bytes)
 }

@@ -1,6 +1,5 @@
 // The packed bytes that give a block's cells, and those of equal blocks one after the other. 01 "Operations".
 mod candidate;
-mod compare;
 mod lent;
 pub mod read;
 pub mod several;

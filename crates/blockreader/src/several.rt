@@ -1,5 +1,4 @@
 // Blocks of a kind, up to three, each read into its own place. 01 "Buffers and state" and "Operations".
-use crate::Found;
 use crate::lent::read_lent;
 use block::Block;
 use block::buffers::SMALL_CELLS;
@@ -14,25 +13,15 @@ use block::buffers::small_place_buffer;
 use blockplaces::tables::block_places;
 use multilevel::places::bit_count;
 ghost use Prim.Native.Nat.{_*_, _≤_};
-ghost use mathlib.Core.Path.{_≡_};
 ghost use lib.ListN.{length};
 ghost use Rattle.blockplaces.specs.Contracts.{BlockOrder};
 ghost use Rattle.blockcoder.specs.Contracts.{WorkLent};
-ghost use Rattle.blockreader.specs.Contracts.{isGiven, SeveralLent, SeveralRead};
+ghost use Rattle.blockreader.specs.Contracts.{SeveralLent, SeveralRead};
 
-// Whether bits were found.
-fn is_given(found: Found) -> bool
-    ensures { λ r. ⌜ r ≡ isGiven found ⌝ }
-{
-    if let Found::Given = found {
-        return true;
-    }
-    false
-}
-
-// The blocks whose cells stand there, one after the other: whether bits give each, true in a place without a block; the bytes of those are written.
+// So many blocks, whose cells stand one after the other: whether bits give each, true in a place without a block; their bytes are written.
 fn read_each(
     k: Block,
+    many: usize,
     places: &[u16],
     cells: &[i16],
     bits: &mut [u8],
@@ -41,36 +30,36 @@ fn read_each(
     again: &mut [i16],
     bytes: &mut [u8],
 ) -> [bool; 3]
-    requires { ⌜ SeveralLent k (now cells) (now bytes) × WorkLent k (now bits) (now labels) (now coded) × (2 * k .cells ≤ length (now again)) ⌝ }
+    requires { ⌜ SeveralLent k many (now cells) (now bytes) × WorkLent k (now bits) (now labels) (now coded) × (2 * k .cells ≤ length (now again)) ⌝ }
     requires { ⌜ BlockOrder k (now places) ⌝ }
-    ensures { λ r. ⌜ SeveralRead k (now (cells .entry)) (now (bytes .entry)) r (now (bytes .exit)) ⌝ }
+    ensures { λ r. ⌜ SeveralRead k many (now (cells .entry)) (now (bytes .entry)) r (now (bytes .exit)) ⌝ }
 {
     let n = 2 * k.cells;
     let m = (bit_count(k) + 7) / 8;
-    let many = cells.len() / n;
     let mut given = [true; 3];
     let mut i = 0;
     while i < many {
-        let found = read_lent(
+        let at = n * i;
+        let to = m * i;
+        given[i] = read_lent(
             k,
             places,
-            &cells[n * i..n * i + n],
+            &cells[at..at + n],
             bits,
             labels,
             coded,
             again,
-            &mut bytes[m * i..m * i + m],
+            &mut bytes[to..to + m],
         );
-        given[i] = is_given(found);
         i += 1;
     }
     given
 }
 
-// The same of small blocks, with places and buffers for them.
-fn read_small(k: Block, cells: &[i16], bytes: &mut [u8]) -> [bool; 3]
-    requires { ⌜ SeveralLent k (now cells) (now bytes) × (k .cells ≤ 846) ⌝ }
-    ensures { λ r. ⌜ SeveralRead k (now (cells .entry)) (now (bytes .entry)) r (now (bytes .exit)) ⌝ }
+// The same, with places and buffers for small blocks: to clear those of the largest takes longer than to read an FAC block.
+fn read_small(k: Block, many: usize, cells: &[i16], bytes: &mut [u8]) -> [bool; 3]
+    requires { ⌜ SeveralLent k many (now cells) (now bytes) × (k .cells ≤ 846) ⌝ }
+    ensures { λ r. ⌜ SeveralRead k many (now (cells .entry)) (now (bytes .entry)) r (now (bytes .exit)) ⌝ }
 {
     let mut places = small_place_buffer();
     let mut bits = small_bit_buffer();
@@ -80,6 +69,7 @@ fn read_small(k: Block, cells: &[i16], bytes: &mut [u8]) -> [bool; 3]
     block_places(k, &mut places);
     read_each(
         k,
+        many,
         &places,
         cells,
         &mut bits,
@@ -91,12 +81,12 @@ fn read_small(k: Block, cells: &[i16], bytes: &mut [u8]) -> [bool; 3]
 }
 
 // The same of any blocks, with one table of places for all.
-pub fn read_several(k: Block, cells: &[i16], bytes: &mut [u8]) -> [bool; 3]
-    requires { ⌜ SeveralLent k (now cells) (now bytes) ⌝ }
-    ensures { λ r. ⌜ SeveralRead k (now (cells .entry)) (now (bytes .entry)) r (now (bytes .exit)) ⌝ }
+pub fn read_several(k: Block, many: usize, cells: &[i16], bytes: &mut [u8]) -> [bool; 3]
+    requires { ⌜ SeveralLent k many (now cells) (now bytes) ⌝ }
+    ensures { λ r. ⌜ SeveralRead k many (now (cells .entry)) (now (bytes .entry)) r (now (bytes .exit)) ⌝ }
 {
     if k.cells <= SMALL_CELLS {
-        return read_small(k, cells, bytes);
+        return read_small(k, many, cells, bytes);
     }
     let mut places = place_buffer();
     let mut bits = bit_buffer();
@@ -106,6 +96,7 @@ pub fn read_several(k: Block, cells: &[i16], bytes: &mut [u8]) -> [bool; 3]
     block_places(k, &mut places);
     read_each(
         k,
+        many,
         &places,
         cells,
         &mut bits,

@@ -4,7 +4,7 @@ use mathlib.Core.Bool.{Bool, true, false, cond}
 use mathlib.Core.Logic.{_⊎_, inl, inr}
 use mathlib.Core.List.{List, [], _∷_, _++_, append-nil, append-assoc}
 use Prim.Native.Nat.{ℕ, _+_, _-_, _*_, _/_, _%_, _≤_, _<_}
-use native.Mathlib.Nat.{mul-left-comm, mul-comm, mul-le-mul-left, mul-div-cancel-left, zero-add, mod-lt, mod-eq-of-lt, mod-self}
+use native.Mathlib.Nat.{mul-left-comm, mul-comm, mul-le-mul-right, zero-add, mod-lt, mod-eq-of-lt, mod-self}
 use native.Mathlib.Omega.{arith}
 use borrow.Author.Tests.{eq-eqb, ne-eqb}
 use borrow.Rule.Slice.PartMut.{putMid}
@@ -14,7 +14,6 @@ use lib.IntN.{ℤ}
 use lib.Dec.{eqb}
 use Rattle.lists.specs.Lists.{table}
 use Rattle.lists.proofs.Tables.{table-add, table-ext}
-use Rattle.lists.proofs.Parts.{from-start, length-start}
 use Rattle.lists.proofs.Counting.{below-or}
 use Rattle.cellbytes.specs.CellBytes.{numbers}
 use Rattle.cellbytes.proofs.CellBytes.{numbers-take, numbers-drop}
@@ -89,24 +88,17 @@ part-more n m l v h e =
     ∙ ap₂ _++_ (table-ext (part n l′) (part n l) 0 m (λ j x y. kept-part l r (n * m) (n * j) n (part-below n j m (n * m) (omega arith) (omega (arith, mul-comm n m))) (omega arith)))
     (ap (λ (x : List _). x ∷ []) (rw (zero-add m) new))
 
--- The first m parts of a list are those of its front.
-pub front-parts : (n m : ℕ) (l : List ℤ) → n * m ≤ length l → table (part n (take (n * m) l)) 0 m ≡ table (part n l) 0 m
-unfolding part
-front-parts n m l h =
-    table-ext (part n (take (n * m) l)) (part n l) 0 m
-    (λ j x y. rw (append-nil (take (n * m) l)) at (kept-part l [] (n * m) (n * j) n (part-below n j m (n * m) (omega arith) (omega (arith, mul-comm n m))) h))
-
 -- After a row, over the number of frames and the state before it.
-module _ (k : ℕ) (state : State) (memory : List ℕ) (cells : List ℤ) (h : FinishLent k state memory cells) where
+module _ {k : ℕ} {state : State} {memory : List ℕ} {cells : List ℤ} (h : FinishLent k state memory cells) where
   abbrev new : List (List ℤ)
   new = finishedBy (state .scheme .settings) (progressOf state memory) memory
 
-  pub finish-none : (d : ℕ) → d ≡ depth (state .scheme .settings) → state .count + 1 < d → FrameLaid k state memory cells k cells
-  finish-none d f l =
+  pub finish-none : {d : ℕ} → d ≡ depth (state .scheme .settings) → state .count + 1 < d → FrameLaid k state memory cells k cells
+  finish-none f l =
       let none : new ≡ [] = unfold finishedBy progressOf in rw (ne-eqb (state .count) (depth (state .scheme .settings) - 1) (λ g. omega arith)) in
       record { count = rw none (omega arith); laid = rw (none, append-nil (table (part (slotSize (state .scheme .settings)) cells) 0 k)) }
 
-  module _ (after : State) (e : after ≡ nextState state) (n : ℕ) (u : n ≡ slotSize (state .scheme .settings)) where
+  module _ {after : State} (e : after ≡ nextState state) {n : ℕ} (u : n ≡ slotSize (state .scheme .settings)) where
     half : n / 2 ≡ nMux (state .scheme .settings)
     unfolding slotSize
     half = omega arith
@@ -132,11 +124,11 @@ module _ (k : ℕ) (state : State) (memory : List ℕ) (cells : List ℤ) (h : F
     pub slot-long : length (take (n * k + n - n * k) (drop (n * k) cells)) ≡ 2 * length (take (after .position * (n / 2) + n / 2 - after .position * (n / 2)) (drop (after .position * (n / 2)) memory))
     slot-long = length-mid (n * k) n cells (finish-room .0) ∙ rw (length-mid (after .position * (n / 2)) (n / 2) memory (finish-within .0)) (sym even)
 
-    pub finish-one : (d : ℕ) → d ≡ depth (state .scheme .settings) → d ≤ state .count + 1 → (v : List ℤ)
+    pub finish-one : {d : ℕ} → d ≡ depth (state .scheme .settings) → d ≤ state .count + 1 → {v : List ℤ}
         → v ≡ numbers (take (after .position * (n / 2) + n / 2 - after .position * (n / 2)) (drop (after .position * (n / 2)) memory))
         → length v ≡ length (take (n * k + n - n * k) (drop (n * k) cells))
         → FrameLaid k state memory cells (k + 1) (putMid (n * k) (n * k + n - n * k) cells v)
-    finish-one d f l v g same =
+    finish-one f l {v} g same =
         let s = state .scheme .settings in
         let m = nMux s in
         let one : new ≡ v ∷ [] =
@@ -201,7 +193,7 @@ pub record RowsTaken (state : State) (msc : List ℤ) (memory₀ : List ℕ) (n 
   pub finished-is : k ≡ length (finished-to state memory₀ msc i)
   pub laid : table (part (slotSize (state .scheme .settings)) cells) 0 k ≡ finished-to state memory₀ msc i
 
-module _ (state : State) (msc : List ℤ) (memory₀ out₀ : List ℕ) (lent : RowsLent state msc memory₀ out₀) (n : ℕ) where
+module _ {state : State} {msc : List ℤ} {memory₀ out₀ : List ℕ} (lent : RowsLent state msc memory₀ out₀) {n : ℕ} where
   pub rows-start : (cells : List ℤ) → length cells ≡ 36708 → n ≡ slotSize (state .scheme .settings) → RowsTaken state msc memory₀ n memory₀ cells 0 state 0
   unfolding stateOf progressOf afterRows finishedFrames table
   rows-start cells h e =
@@ -218,7 +210,7 @@ module _ (state : State) (msc : List ℤ) (memory₀ out₀ : List ℕ) (lent : 
         laid = refl;
       }
 
-  module _ (memory : List ℕ) (cells : List ℤ) (k : ℕ) (after : State) (i : ℕ) (w : RowsTaken state msc memory₀ n memory cells k after i) where
+  module _ {memory : List ℕ} {cells : List ℤ} {k : ℕ} {after : State} {i : ℕ} (w : RowsTaken state msc memory₀ n memory cells k after i) where
     settings-are : after .scheme .settings ≡ state .scheme .settings
     unfolding stateOf
     settings-are = ap (λ (x : State). x .scheme .settings) (w .state-is)
@@ -234,7 +226,7 @@ module _ (state : State) (msc : List ℤ) (memory₀ out₀ : List ℕ) (lent : 
     pub row-lent : i < 3 → RowLent after memory (take (n * i + n - n * i) (drop (n * i) msc))
     row-lent l = record { fits = w .fits; long = length-mid (n * i) n msc (row-within l) ∙ w .numbers-are ∙ ap slotSize (sym settings-are) }
 
-    module _ (l : i < 3) (memory′ : List ℕ) (e : memory′ ≡ taken (after .scheme .settings) (progressOf after memory) (take (n * i + n - n * i) (drop (n * i) msc)))
+    module _ (l : i < 3) {memory′ : List ℕ} (e : memory′ ≡ taken (after .scheme .settings) (progressOf after memory) (take (n * i + n - n * i) (drop (n * i) msc)))
         (m : length memory′ ≡ length memory) where
       pub row-finish : FinishLent k after memory′ cells
       row-finish =
@@ -245,10 +237,10 @@ module _ (state : State) (msc : List ℤ) (memory₀ out₀ : List ℕ) (lent : 
             few = omega (arith, w .few);
           }
 
-      pub row-turn : (r : ℕ) (cells′ : List ℤ) (next : State) → FrameLaid k after memory′ cells r cells′ → length cells′ ≡ length cells → next ≡ nextState after
+      pub row-turn : {r : ℕ} {cells′ : List ℤ} {next : State} → FrameLaid k after memory′ cells r cells′ → length cells′ ≡ length cells → next ≡ nextState after
           → RowsTaken state msc memory₀ n memory′ cells′ r next (i + 1)
       unfolding stateOf progressOf advanced
-      row-turn r cells′ next F o x =
+      row-turn {r} {cells′} {next} F o x =
           let c = state .scheme in
           let s = c .settings in
           let q = progressOf state memory₀ in
@@ -290,39 +282,25 @@ module _ (state : State) (msc : List ℤ) (memory₀ out₀ : List ℕ) (lent : 
       unfolding rowsOf parts
       frames-are = rw all-rows at (w .laid)
 
-      pub low : n * k ≤ length cells
-      unfolding slotSize
-      low =
-          let f : n * k ≤ n * 3 = mul-le-mul-left n (omega (arith, all-rows, w .few)) in
-          omega (arith, f, w .room, w .numbers-are, lent .fits .allowed .settings .ranges .muxMost)
-
       -- The cells of the finished frames are those blocks, and can be read.
-      many : length (take (n * k - 0) cells) / (2 * mscBlock (state .scheme) .cells) ≡ k
-      unfolding mscBlock slotSize
-      many =
-          let a = lent .fits .allowed .settings .ranges .muxLeast in
-          rw (length-start (n * k) cells low, w .numbers-are) (mul-div-cancel-left k (omega arith))
-
-      pub frames-blocks : blocksIn (mscBlock (state .scheme)) (take (n * k - 0) cells) ≡ frames
+      frames-blocks : blocksIn (mscBlock (state .scheme)) k cells ≡ frames
       unfolding blocksIn mscBlock slotSize
-      frames-blocks =
-          let e : 2 * nMux (state .scheme .settings) ≡ n = sym (w .numbers-are) in
-          ap (table (part (2 * nMux (state .scheme .settings)) (take (n * k - 0) cells)) 0) many ∙ rw (e, from-start (n * k)) (front-parts n k cells low) ∙ rw e at frames-are
+      frames-blocks = frames-are
 
-      pub frames-lent : {block : Block} → block ≡ mscBlock (state .scheme) → SeveralLent block (take (n * k - 0) cells) out₀
+      pub frames-lent : {block : Block} → block ≡ mscBlock (state .scheme) → SeveralLent block k cells out₀
       frames-lent b =
           let a = lent .fits .allowed in
-          let long : length out₀ ≡ 3 * frameBytes (state .scheme .settings) = ap length (lent .zeros) ∙ length-replicate {A = ℕ} (3 * frameBytes (state .scheme .settings)) 0 in
+          let m = frameBytes (state .scheme .settings) in
+          let long : length out₀ ≡ 3 * m = ap length (lent .zeros) ∙ length-replicate {A = ℕ} (3 * m) 0 in
           let few : k ≤ 3 = omega (arith, all-rows, w .few) in
           rw b (record {
             fits = msc-fits a;
-            some = unfold mscBlock in omega (arith, a .settings .ranges .muxLeast);
-            few = rw many few;
-            room = rw (many, ← msc-bytes a, long) (omega (arith, mul-le-mul-left (frameBytes (state .scheme .settings)) few));
-            zeros = rw long (lent .zeros);
+            few = few;
+            there = unfold mscBlock in omega (arith, mul-le-mul-right (2 * nMux (state .scheme .settings)) few, w .room, a .settings .ranges .muxMost);
+            room = rw (← msc-bytes a, long) (mul-le-mul-right m few);
           })
 
-      pub rows-end : {block : Block} {tests : List Bool} {out : List ℕ} → block ≡ mscBlock (state .scheme) → SeveralRead block (take (n * k - 0) cells) out₀ tests out
+      pub rows-end : {block : Block} {tests : List Bool} {out : List ℕ} → block ≡ mscBlock (state .scheme) → SeveralRead block k cells out₀ tests out
           → RowsRead state msc memory₀ (record { given = tests; finished = k; after = after }) memory out
       unfolding rowsOf parts
       rows-end b S =
@@ -331,5 +309,5 @@ module _ (state : State) (msc : List ℤ) (memory₀ out₀ : List ℕ) (lent : 
             held = w .memory-is ∙ rw all-rows;
             finished-is = w .finished-is ∙ rw all-rows;
             few = omega (arith, all-rows, w .few);
-            places = in-places (rw b at S) (msc-bytes (lent .fits .allowed)) (lent .zeros) frames-blocks;
+            places = rw frames-blocks at (in-places (rw b at S) (msc-bytes (lent .fits .allowed)) (lent .zeros));
           }

@@ -51,13 +51,14 @@ pub fn read_rows(state: State, msc: &[i16], memory: &mut [u8], out: &mut [u8]) -
     let mut after = state;
     let mut i = 0;
     while i < 3 {
-        take_row(after, &places, &msc[n * i..n * i + n], memory);
+        let at = n * i;
+        take_row(after, &places, &msc[at..at + n], memory);
         finished = lay_finished(finished, after, memory, &mut cells);
         after = next_state(after);
         i += 1;
     }
     let k = msc_block(state.scheme);
-    let given = read_several(k, &cells[0..n * finished as usize], out);
+    let given = read_several(k, finished as usize, &cells, out);
     Frames {
         given,
         finished,

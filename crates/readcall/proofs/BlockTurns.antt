@@ -2,8 +2,8 @@
 use mathlib.Core.Path.{_≡_, refl, ap, ap₂, _∙_}
 use mathlib.Core.Bool.{Bool, false}
 use mathlib.Core.List.{List, [], _∷_, _++_, append-nil}
-use Prim.Native.Nat.{ℕ, _*_, _/_, _≤_, _<_}
-use native.Mathlib.Nat.{div-self, mul-zero, mul-one}
+use Prim.Native.Nat.{ℕ, _*_, _≤_}
+use native.Mathlib.Nat.{mul-zero, mul-one}
 use native.Mathlib.Omega.{arith}
 use lib.ListN.{length, getD, length-append, length-map, length-replicate, drop}
 use lib.Seq.{take-all, drop-length}
@@ -34,14 +34,6 @@ use Rattle.readcall.specs.Contracts.{BlocksLent, BlocksRead, blocksOf}
 use Rattle.readcall.specs.declared.Blocks.{Blocks}
 use Rattle.blockreader.proofs.BlockTurns.{in-places}
 
--- The cells of one block.
-one-part : (n : ℕ) (cells : List ℤ) → 0 < n → length cells ≡ n → table (part n cells) 0 (length cells / n) ≡ cells ∷ []
-unfolding table part
-one-part n cells h e =
-    let one : length cells / n ≡ 1 = rw e (div-self h) in
-    let none : n * 0 ≡ 0 = mul-zero n in
-    rw (one, none) (ap (λ (l : List ℤ). l ∷ []) (take-all n cells (omega arith)))
-
 -- All blocks of a call, from their kinds.
 three : (l : List Bool) → length l ≡ 3 → getD l 0 false ∷ (getD l 1 false ∷ (getD l 2 false ∷ [])) ≡ l
 three [] e = absurd (omega (arith, e))
@@ -60,56 +52,52 @@ blocks-same e f i = rw (e, f, i)
 
 module _ (state : State) (memory : List ℕ) (c : ReadCall) (h : BlocksLent state memory c) where
   -- The FAC blocks, the SDC block and the rows can be read.
-  pub fac-lent : {k : Block} → k ≡ facBlock (state .scheme) → SeveralLent k (c .faccells) (c .fac)
+  pub fac-lent : {k : Block} → k ≡ facBlock (state .scheme) → SeveralLent k 3 (c .faccells) (c .fac)
   unfolding facBlock facCells bytesFor facBits
   fac-lent e =
       let long : length (c .fac) ≡ 27 = ap length (h .fac) ∙ length-replicate {A = ℕ} 27 0 in
       rw e (record {
         fits = fac-fits (state .scheme) (h .fits .allowed .table);
-        some = omega arith;
-        few = rw (h .cells .faclong) (omega arith);
-        room = rw (h .cells .faclong, fac-bits (state .scheme), long) (omega arith);
-        zeros = rw long (h .fac);
+        few = omega arith;
+        there = rw (h .cells .faclong) (omega arith);
+        room = rw (fac-bits (state .scheme), long) (omega arith);
       })
 
-  pub sdc-lent : {k : Block} → k ≡ sdcBlock (state .scheme) → SeveralLent k (c .sdccells) (c .sdc)
+  sdc-long : length (c .sdc) ≡ sdcBytes (state .scheme .settings)
+  sdc-long = ap length (h .sdc) ∙ length-replicate {A = ℕ} (sdcBytes (state .scheme .settings)) 0
+
+  pub sdc-lent : {k : Block} → k ≡ sdcBlock (state .scheme) → SeveralLent k 1 (c .sdccells) (c .sdc)
   unfolding sdcBlock sdcBytes
   sdc-lent e =
-      let a = h .fits .allowed in
-      let n = 2 * nSdc (state .scheme .settings) in
-      let one : length (c .sdccells) / n ≡ 1 = rw (h .cells .sdclong) (div-self (omega (arith, a .settings .ranges .sdcLeast))) in
-      let long : length (c .sdc) ≡ sdcBytes (state .scheme .settings) = ap length (h .sdc) ∙ length-replicate {A = ℕ} (sdcBytes (state .scheme .settings)) 0 in
       rw e (record {
-        fits = sdc-fits a;
-        some = omega (arith, a .settings .ranges .sdcLeast);
-        few = rw one (omega arith);
-        room = rw (one, sdc-bits (state .scheme), long) (omega arith);
-        zeros = rw long (h .sdc);
+        fits = sdc-fits (h .fits .allowed);
+        few = omega arith;
+        there = rw (h .cells .sdclong) (omega arith);
+        room = rw (sdc-bits (state .scheme), sdc-long) (omega arith);
       })
 
   pub rows-lent : RowsLent state (c .msccells) memory (c .msc)
   unfolding slotSize
   rows-lent = record { fits = h .fits; rows = omega (arith, h .cells .msclong, h .fits .allowed .settings .ranges .threeFrames); zeros = h .msc }
 
-  fac-read : {f : List Bool} {fac′ : List ℕ} → SeveralRead (facBlock (state .scheme)) (c .faccells) (c .fac) f fac′ → PlacesRead (facBlock (state .scheme)) 9 (parts 130 (c .faccells)) f fac′
+  fac-read : {f : List Bool} {fac′ : List ℕ} → SeveralRead (facBlock (state .scheme)) 3 (c .faccells) (c .fac) f fac′ → PlacesRead (facBlock (state .scheme)) 9 (parts 130 (c .faccells)) f fac′
   unfolding blocksIn parts facBlock facCells bytesFor facBits
-  fac-read S = in-places S (rw (fac-bits (state .scheme))) (h .fac) (rw (h .cells .faclong))
+  fac-read S = in-places S (rw (fac-bits (state .scheme))) (h .fac)
 
-  sdc-blocks : blocksIn (sdcBlock (state .scheme)) (c .sdccells) ≡ c .sdccells ∷ []
-  unfolding blocksIn sdcBlock
-  sdc-blocks = one-part (2 * nSdc (state .scheme .settings)) (c .sdccells) (omega (arith, h .fits .allowed .settings .ranges .sdcLeast)) (h .cells .sdclong)
+  sdc-blocks : blocksIn (sdcBlock (state .scheme)) 1 (c .sdccells) ≡ c .sdccells ∷ []
+  unfolding blocksIn sdcBlock table part
+  sdc-blocks = rw mul-zero (ap (λ (l : List ℤ). l ∷ []) (take-all (2 * nSdc (state .scheme .settings)) (c .sdccells) (omega (arith, h .cells .sdclong))))
 
-  sdc-read : {d : List Bool} {sdc′ : List ℕ} → SeveralRead (sdcBlock (state .scheme)) (c .sdccells) (c .sdc) d sdc′
+  sdc-read : {d : List Bool} {sdc′ : List ℕ} → SeveralRead (sdcBlock (state .scheme)) 1 (c .sdccells) (c .sdc) d sdc′
       → (getD d 0 false ≡ given (sdcBlock (state .scheme)) (c .sdccells)) × (sdc′ ≡ keptBytes (sdcBlock (state .scheme)) (sdcBytes (state .scheme .settings)) (c .sdccells))
   unfolding placedTests joined sdcBytes
   sdc-read S =
       let n : bytesFor (bitCount (sdcBlock (state .scheme))) ≡ sdcBytes (state .scheme .settings) = rw (sdc-bits (state .scheme)) in
-      let long : length (c .sdc) ≡ sdcBytes (state .scheme .settings) = ap length (h .sdc) ∙ length-replicate {A = ℕ} (sdcBytes (state .scheme .settings)) 0 in
-      let none : drop (sdcBytes (state .scheme .settings) * 1) (c .sdc) ≡ [] = rw (mul-one (sdcBytes (state .scheme .settings)), ← long) (drop-length (c .sdc)) in
+      let none : drop (sdcBytes (state .scheme .settings) * 1) (c .sdc) ≡ [] = rw (mul-one (sdcBytes (state .scheme .settings)), ← sdc-long) (drop-length (c .sdc)) in
       (rw (S .given-are, sdc-blocks), S .bytes-are ∙ rw (sdc-blocks, n, none, append-nil, append-nil))
 
   pub blocks-read : (f d : List Bool) (r : Frames) (memory′ fac′ sdc′ msc′ : List ℕ) → {k l : Block} → k ≡ facBlock (state .scheme) → l ≡ sdcBlock (state .scheme)
-      → SeveralRead k (c .faccells) (c .fac) f fac′ → SeveralRead l (c .sdccells) (c .sdc) d sdc′ → RowsRead state (c .msccells) memory r memory′ msc′
+      → SeveralRead k 3 (c .faccells) (c .fac) f fac′ → SeveralRead l 1 (c .sdccells) (c .sdc) d sdc′ → RowsRead state (c .msccells) memory r memory′ msc′
       → BlocksRead state memory c
       (record {
         given = getD f 0 false ∷ (getD f 1 false ∷ (getD f 2 false ∷ (getD d 0 false ∷ (getD (r .given) 0 false ∷ (getD (r .given) 1 false ∷ (getD (r .given) 2 false ∷ []))))));

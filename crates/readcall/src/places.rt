@@ -23,8 +23,8 @@ pub fn read_blocks(
         (readCall (now (faccells .entry)) (now (sdccells .entry)) (now (msccells .entry)) (now (fac .entry)) (now (sdc .entry)) (now (msc .entry)))
         r (now (memory .exit)) (now (fac .exit)) (now (sdc .exit)) (now (msc .exit)) ⌝ }
 {
-    let f = read_several(fac_block(state.scheme), faccells, fac);
-    let d = read_several(sdc_block(state.scheme), sdccells, sdc);
+    let f = read_several(fac_block(state.scheme), 3, faccells, fac);
+    let d = read_several(sdc_block(state.scheme), 1, sdccells, sdc);
     let frames = read_rows(state, msccells, memory, msc);
     let m = frames.given;
     let after = frames.after;

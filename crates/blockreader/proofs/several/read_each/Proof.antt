@@ -1,87 +1,72 @@
--- `blocks::read_each` meets its contract. The loop's invariant: the blocks before i are read. Assumes nothing.
-use Prim.Native.Nat.{_+_, _-_, _/_}
+-- `read_each` meets its contract. The loop's invariant: the blocks before i are read. Assumes nothing.
+use Prim.Native.Nat.{_-_}
 use mathlib.Core.Path.{_≡_, refl, _∙_}
 use native.Mathlib.Omega.{arith}
 use borrow.Author.Needs.{needs}
 use lib.ListN.{length}
-use Rattle.lists.specs.Bytes.{bytesFor}
-use Rattle.blockcoder.proofs.Each.{work-same}
-use Rattle.blockreader.proofs.BlockTurns.{Blocks, blocks-start, cells-within, bytes-within, block-lent, block-turn, blocks-end}
+use Rattle.blockcoder.proofs.Each.{work-same, bytes-are}
+use Rattle.blockreader.proofs.BlockTurns.{Blocks, blocks-start, cells-within, bytes-within, out-within, block-lent, block-turn, blocks-end}
 use Rattle.blockreader.proofs.several.read_each.Statement.{statement}
 use Rattle.blockreader.proofs.several.read_each.Tie as tie
 
 abbrev Inv-loop : tie.InvT-loop
-Inv-loop k places cells bits₀ labels₀ coded₀ again₀ bytes₀ n m many given₀ i₀ bits labels coded again bytes given i =
-    Blocks k cells bytes₀ given bytes i × (length bits ≡ length bits₀) × (length labels ≡ length labels₀) × (length coded ≡ length coded₀) × (length again ≡ length again₀)
+Inv-loop k many places cells bits₀ labels₀ coded₀ again₀ bytes₀ n m given₀ i₀ bits labels coded again bytes given i =
+    Blocks k many cells bytes₀ given bytes i × (length bits ≡ length bits₀) × (length labels ≡ length labels₀) × (length coded ≡ length coded₀) × (length again ≡ length again₀)
 
 abbrev μ-loop : tie.MeasureT-loop
-μ-loop k places cells bits₀ labels₀ coded₀ again₀ bytes₀ n m many given₀ i₀ bits labels coded again bytes given i = many - i
-
-mul-n : tie.Need-mul-n Inv-loop μ-loop
-mul-n c = omega (arith, c .before .before .before .before .before .before .pre .0 .0 .fits .most)
-
-bit-count-requires : tie.Need-bit-count-requires Inv-loop μ-loop
-bit-count-requires c κs = c .before .before .before .before .before .before .pre .0 .0 .fits
+μ-loop k many places cells bits₀ labels₀ coded₀ again₀ bytes₀ n m given₀ i₀ bits labels coded again bytes given i = many - i
 
 add-m : tie.Need-add-m Inv-loop μ-loop
 add-m c = omega (arith, c .bit-count .ensures, c .before .before .before .before .before .before .before .pre .0 .0 .fits .short)
 
-div-many : tie.Need-div-many Inv-loop μ-loop
-div-many c = omega (arith, c .before .before .before .before .before .before .before .pre .0 .0 .some)
-
 loop-holds : tie.Need-loop-holds Inv-loop μ-loop
 loop-holds c = (blocks-start (c .before .before .before .before .before .before .before .pre .0 .0) refl, refl, refl, refl, refl)
 
-mul-read-lent : tie.Need-mul-read-lent Inv-loop μ-loop
-mul-read-lent c = let h = cells-within (c .before .before .before .before .before .before .before .before .before .pre .0 .0) refl refl (c .loop-test .taken) in search needs
+mul-at : tie.Need-mul-at Inv-loop μ-loop
+mul-at c = let h = cells-within (c .before .before .before .before .before .before .before .before .before .pre .0 .0) refl (c .loop-test .taken) in search needs
 
-mul-read-lent-2 : tie.Need-mul-read-lent-2 Inv-loop μ-loop
-mul-read-lent-2 c = let h = cells-within (c .before .before .before .before .before .before .before .before .before .pre .0 .0) refl refl (c .loop-test .taken) in search needs
+mul-to : tie.Need-mul-to Inv-loop μ-loop
+mul-to c = let h = bytes-within (c .before .before .before .before .before .before .before .before .before .pre .0 .0) (bytes-are _ (c .before .before .bit-count .ensures)) (c .loop-test .taken) in search needs
 
 add-read-lent : tie.Need-add-read-lent Inv-loop μ-loop
-add-read-lent c = let h = cells-within (c .before .before .before .before .before .before .before .before .before .pre .0 .0) refl refl (c .loop-test .taken) in search needs
+add-read-lent c = let h = cells-within (c .before .before .before .before .before .before .before .before .before .pre .0 .0) refl (c .loop-test .taken) in search needs
 
-mul-read-lent-3 : tie.Need-mul-read-lent-3 Inv-loop μ-loop
-mul-read-lent-3 c = let h = cells-within (c .before .before .before .before .before .before .before .before .before .pre .0 .0) refl refl (c .loop-test .taken) in search needs
+mul-read-lent : tie.Need-mul-read-lent Inv-loop μ-loop
+mul-read-lent c = let h = cells-within (c .before .before .before .before .before .before .before .before .before .pre .0 .0) refl (c .loop-test .taken) in search needs
 
 part-read-lent-end : tie.Need-part-read-lent-end Inv-loop μ-loop
-part-read-lent-end c = cells-within (c .before .before .before .before .before .before .before .before .before .pre .0 .0) refl refl (c .loop-test .taken)
-
-mul-read-lent-4 : tie.Need-mul-read-lent-4 Inv-loop μ-loop
-unfolding bytesFor
-mul-read-lent-4 c = let h = bytes-within (c .before .before .before .before .before .before .before .before .before .before .before .before .before .before .pre .0 .0) {m = (c .before .before .before .before .before .before .before .bit-count .result + 7) / 8} (rw (c .before .before .before .before .before .before .before .bit-count .ensures)) (c .before .before .before .before .before .loop-test .taken) in search needs
-
-mul-read-lent-5 : tie.Need-mul-read-lent-5 Inv-loop μ-loop
-unfolding bytesFor
-mul-read-lent-5 c = let h = bytes-within (c .before .before .before .before .before .before .before .before .before .before .before .before .before .before .pre .0 .0) {m = (c .before .before .before .before .before .before .before .bit-count .result + 7) / 8} (rw (c .before .before .before .before .before .before .before .bit-count .ensures)) (c .before .before .before .before .before .loop-test .taken) in search needs
+part-read-lent-end c = cells-within (c .before .before .before .before .before .before .before .before .before .pre .0 .0) refl (c .loop-test .taken)
 
 add-read-lent-2 : tie.Need-add-read-lent-2 Inv-loop μ-loop
-unfolding bytesFor
-add-read-lent-2 c = let h = bytes-within (c .before .before .before .before .before .before .before .before .before .before .before .before .before .before .pre .0 .0) {m = (c .before .before .before .before .before .before .before .bit-count .result + 7) / 8} (rw (c .before .before .before .before .before .before .before .bit-count .ensures)) (c .before .before .before .before .before .loop-test .taken) in search needs
+add-read-lent-2 c = let h = bytes-within (c .before .before .before .before .before .before .before .before .before .before .before .before .before .before .pre .0 .0) (bytes-are _ (c .before .before .before .before .before .before .before .bit-count .ensures)) (c .before .before .before .before .before .loop-test .taken) in search needs
 
 part-read-lent-end-2 : tie.Need-part-read-lent-end-2 Inv-loop μ-loop
-unfolding bytesFor
-part-read-lent-end-2 c = rw (c .before .before .before .before .before .before .loop .inv .0 .long) (bytes-within (c .before .before .before .before .before .before .before .before .before .before .before .before .before .before .pre .0 .0) (rw (c .before .before .before .before .before .before .before .bit-count .ensures)) (c .before .before .before .before .before .loop-test .taken))
+part-read-lent-end-2 c = out-within (c .before .before .before .before .before .before .before .before .before .before .before .before .before .before .pre .0 .0) (c .before .before .before .before .before .before .loop .inv .0) (c .before .before .before .before .before .loop-test .taken) refl (bytes-are _ (c .before .before .before .before .before .before .before .bit-count .ensures))
 
 read-lent-requires : tie.Need-read-lent-requires Inv-loop μ-loop
-unfolding bytesFor
 read-lent-requires c κs =
     let p = c .before .before .before .before .before .before .before .before .before .before .before .before .before .before .before .pre in
-    let v = c .before .before .before .before .before .before .before .loop .inv in
-    ((block-lent (p .0 .0) (v .0) (c .before .before .before .before .before .before .loop-test .taken) refl (rw (c .before .before .before .before .before .before .before .before .bit-count .ensures)), work-same (p .0 .1) (v .1) (v .2) (v .3), rw (v .4) (p .0 .2)), p .1)
+    let v = c .before .before .before .before .before .before .before .loop .inv in (
+      (
+        block-lent (p .0 .0) (v .0) (c .before .before .before .before .before .before .loop-test .taken) refl (bytes-are _ (c .before .before .before .before .before .before .before .before .bit-count .ensures)),
+        work-same (p .0 .1) (v .1) (v .2) (v .3),
+        rw (v .4) (p .0 .2),
+      ),
+      p .1,
+    )
 
 array-write-given : tie.Need-array-write-given Inv-loop μ-loop
-array-write-given c = omega (arith, c .before .before .before .before .before .before .before .before .before .before .before .before .before .before .before .before .before .loop-test .taken, c .before .before .before .before .before .before .before .before .before .before .before .before .before .before .before .before .before .before .before .before .before .before .before .before .before .before .pre .0 .0 .few)
+array-write-given c = omega (arith, c .before .before .before .before .before .before .before .before .before .before .before .before .before .before .before .before .loop-test .taken, c .before .before .before .before .before .before .before .before .before .before .before .before .before .before .before .before .before .before .before .before .before .before .before .before .before .pre .0 .0 .few)
 
 add-i : tie.Need-add-i Inv-loop μ-loop
-add-i c = omega (arith, c .before .before .before .before .before .before .before .before .before .before .before .before .before .before .before .before .before .loop-test .taken, c .before .before .before .before .before .before .before .before .before .before .before .before .before .before .before .before .before .before .before .before .before .before .before .before .before .before .pre .0 .0 .few)
+add-i c = omega (arith, c .before .before .before .before .before .before .before .before .before .before .before .before .before .before .before .before .loop-test .taken, c .before .before .before .before .before .before .before .before .before .before .before .before .before .before .before .before .before .before .before .before .before .before .before .before .before .pre .0 .0 .few)
 
 loop-again : tie.Need-loop-again Inv-loop μ-loop
-unfolding bytesFor
 loop-again c =
-    let r = c .before .before .before .before .before .before .before .before .before .before .read-lent in
-    let v = c .before .before .before .before .before .before .before .before .before .before .before .before .before .before .before .before .before .before .loop .inv in (
-      block-turn (c .before .before .before .before .before .before .before .before .before .before .before .before .before .before .before .before .before .before .before .before .before .before .before .before .before .before .pre .0 .0) (v .0) (c .before .before .before .before .before .before .before .before .before .before .before .before .before .before .before .before .before .loop-test .taken) refl (rw (c .before .before .before .before .before .before .before .before .before .before .before .before .before .before .before .before .before .before .before .bit-count .ensures)) _ _ _ (c .is-given .ensures) (r .kept .1 .1 .1 .1 .1 .1 .1 .0) (r .ensures),
+    let r = c .before .before .before .before .before .before .before .before .before .read-lent in
+    let b = c .before .before .before .before .before .before .before .before .before .before .before .before .before .before .before .before in
+    let v = b .before .loop .inv in (
+      block-turn (b .before .before .before .before .before .before .before .before .before .pre .0 .0) (v .0) (b .loop-test .taken) refl (bytes-are _ (b .before .before .bit-count .ensures)) _ _ (r .kept .1 .1 .1 .1 .1 .1 .1 .0) (r .ensures),
       r .kept .1 .1 .1 .0 ∙ v .1,
       r .kept .1 .1 .1 .1 .0 ∙ v .2,
       r .kept .1 .1 .1 .1 .1 .0 ∙ v .3,
@@ -93,4 +78,4 @@ returns c = blocks-end (c .before .before .before .before .before .before .befor
 
 pub read-each-spec : {M : Type 1} → statement M
 read-each-spec =
-    tie.close (tie.spec Inv-loop μ-loop mul-n bit-count-requires add-m div-many loop-holds mul-read-lent mul-read-lent-2 add-read-lent mul-read-lent-3 (λ c. search needs) (λ c. search needs) part-read-lent-end mul-read-lent-4 mul-read-lent-5 add-read-lent-2 (λ c. search needs) (λ c. search needs) part-read-lent-end-2 read-lent-requires (λ c κs. search needs) array-write-given add-i (λ c. search needs) loop-again (λ c. c .before .loop .inv .1) (λ c. c .before .loop .inv .2) (λ c. c .before .loop .inv .3) (λ c. c .before .loop .inv .4) (λ c. c .before .loop .inv .0 .long) returns)
+    tie.close (tie.spec Inv-loop μ-loop (λ c. omega (arith, c .before .before .before .before .before .before .pre .0 .0 .fits .most)) (λ c κs. c .before .before .before .before .before .before .pre .0 .0 .fits) add-m loop-holds mul-at mul-to add-read-lent mul-read-lent (λ c. search needs) (λ c. search needs) part-read-lent-end add-read-lent-2 (λ c. search needs) (λ c. search needs) part-read-lent-end-2 read-lent-requires array-write-given add-i (λ c. omega (arith, c .before .before .before .before .before .before .before .before .before .before .before .before .before .before .before .before .loop-test .taken)) loop-again (λ c. c .before .loop .inv .1) (λ c. c .before .loop .inv .2) (λ c. c .before .loop .inv .3) (λ c. c .before .loop .inv .4) (λ c. c .before .loop .inv .0 .long) returns)

@@ -5,35 +5,35 @@ use Rattle.frames.proofs.read.lay_finished.Statement.{statement}
 use Rattle.frames.proofs.read.lay_finished.Tie as tie
 
 returns : tie.Need-returns
-returns c = finish-none _ _ _ _ (c .before .before .before .before .before .pre) _ (c .before .depth .ensures) (c .if1 .taken)
+returns c = finish-none (c .before .before .before .before .before .pre) (c .before .depth .ensures) (c .if1 .taken)
 
 mul-at : tie.Need-mul-at
-mul-at c = let h = finish-within _ _ _ _ (c .before .before .before .before .before .before .before .before .pre) _ (c .before .before .next-state .ensures) _ (c .before .slot-size .ensures) in search needs
+mul-at c = let h = finish-within (c .before .before .before .before .before .before .before .before .pre) (c .before .before .next-state .ensures) (c .before .slot-size .ensures) in search needs
 
 mul-to : tie.Need-mul-to
-mul-to c = let h = finish-room _ _ _ _ (c .before .before .before .before .before .before .before .before .pre) _ (c .before .before .next-state .ensures) _ (c .before .slot-size .ensures) in search needs
+mul-to c = let h = finish-room (c .before .before .before .before .before .before .before .before .pre) (c .before .before .next-state .ensures) (c .before .slot-size .ensures) in search needs
 
 add-to-numbers : tie.Need-add-to-numbers
-add-to-numbers c = let h = finish-within _ _ _ _ (c .before .before .before .before .before .before .before .before .pre) _ (c .before .before .next-state .ensures) _ (c .before .slot-size .ensures) in search needs
+add-to-numbers c = let h = finish-within (c .before .before .before .before .before .before .before .before .pre) (c .before .before .next-state .ensures) (c .before .slot-size .ensures) in search needs
 
 part-to-numbers-end : tie.Need-part-to-numbers-end
-part-to-numbers-end c = finish-within _ _ _ _ (c .before .before .before .before .before .before .before .before .pre) _ (c .before .before .next-state .ensures) _ (c .before .slot-size .ensures) .0
+part-to-numbers-end c = finish-within (c .before .before .before .before .before .before .before .before .pre) (c .before .before .next-state .ensures) (c .before .slot-size .ensures) .0
 
 add-to-numbers-2 : tie.Need-add-to-numbers-2
-add-to-numbers-2 c = let h = finish-room _ _ _ _ (c .before .before .before .before .before .before .before .before .before .pre) _ (c .before .before .before .next-state .ensures) _ (c .before .before .slot-size .ensures) in search needs
+add-to-numbers-2 c = let h = finish-room (c .before .before .before .before .before .before .before .before .before .pre) (c .before .before .before .next-state .ensures) (c .before .before .slot-size .ensures) in search needs
 
 mul-to-numbers : tie.Need-mul-to-numbers
-mul-to-numbers c = let h = finish-room _ _ _ _ (c .before .before .before .before .before .before .before .before .before .pre) _ (c .before .before .before .next-state .ensures) _ (c .before .before .slot-size .ensures) in search needs
+mul-to-numbers c = let h = finish-room (c .before .before .before .before .before .before .before .before .before .pre) (c .before .before .before .next-state .ensures) (c .before .before .slot-size .ensures) in search needs
 
 part-to-numbers-end-2 : tie.Need-part-to-numbers-end-2
-part-to-numbers-end-2 c = finish-room _ _ _ _ (c .before .before .before .before .before .before .before .before .before .pre) _ (c .before .before .before .next-state .ensures) _ (c .before .before .slot-size .ensures) .0
+part-to-numbers-end-2 c = finish-room (c .before .before .before .before .before .before .before .before .before .pre) (c .before .before .before .next-state .ensures) (c .before .before .slot-size .ensures) .0
 
 to-numbers-requires : tie.Need-to-numbers-requires
-to-numbers-requires c κs = slot-long _ _ _ _ (c .before .before .before .before .before .before .before .before .before .before .pre) _ (c .before .before .before .before .next-state .ensures) _ (c .before .before .before .slot-size .ensures)
+to-numbers-requires c κs = slot-long (c .before .before .before .before .before .before .before .before .before .before .pre) (c .before .before .before .before .next-state .ensures) (c .before .before .before .slot-size .ensures)
 
 returns-2 : tie.Need-returns-2
 returns-2 c =
-    finish-one _ _ _ _ (c .before .before .before .before .before .before .before .before .before .before .before .before .pre) _ (c .before .before .before .before .before .before .next-state .ensures) _ (c .before .before .before .before .before .slot-size .ensures) _ (c .before .before .before .before .before .before .before .before .depth .ensures) (c .before .before .before .before .before .before .before .if1 .left) _ (c .before .to-numbers .ensures) (c .before .to-numbers .kept .1 .0)
+    finish-one (c .before .before .before .before .before .before .before .before .before .before .before .before .pre) (c .before .before .before .before .before .before .next-state .ensures) (c .before .before .before .before .before .slot-size .ensures) (c .before .before .before .before .before .before .before .before .depth .ensures) (c .before .before .before .before .before .before .before .if1 .left) (c .before .to-numbers .ensures) (c .before .to-numbers .kept .1 .0)
 
 pub lay-finished-spec : {M : Type 1} → statement M
 lay-finished-spec =
