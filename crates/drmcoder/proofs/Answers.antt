@@ -9,9 +9,9 @@ use Rattle.channels.specs.Scheme.{schemeOf}
 use Rattle.superframe.specs.declared.State.{State}
 use Rattle.superframe.specs.Reset.{ResetYield, resetOf}
 use Rattle.superframe.specs.Code.{CodeCall, CodeYield, codeOf}
-use Rattle.superframe.specs.Preview.{PreviewYield, previewOf}
+use Rattle.previewcall.specs.Preview.{PreviewYield, previewOf}
 use Rattle.superframe.specs.Read.{ReadCall, ReadYield, readOf}
-use Rattle.superframe.specs.ReadOn.{ReadOnCall, ReadOnYield, readOnOf}
+use Rattle.keptcells.specs.ReadOn.{ReadOnCall, ReadOnYield, readOnOf}
 use Rattle.drmcoder.specs.ReadOn.{readOnYields, readOnAnswered, readOnBytes}
 use Rattle.drmcoder.specs.Bytes.{settingsOf, stateOf}
 use Rattle.drmcoder.specs.Calls.{stateAfter, stateRead, answerWord, resetYields, codeYields, readYields, resetAnswered, resetBytes, codeAnswered, codeBytes, readAnswered, readBytes}

@@ -6,7 +6,7 @@ use lib.ListN.{length}
 use lib.IntN.{ℤ}
 use lib.Dec.{eqb}
 use Rattle.superframe.specs.Code.{CodeCall}
-use Rattle.superframe.specs.Preview.{PreviewYield, previewOf}
+use Rattle.previewcall.specs.Preview.{PreviewYield, previewOf}
 use Rattle.drmcoder.specs.Bytes.{stateOf}
 use Rattle.drmcoder.specs.Calls.{stateAfter}
 

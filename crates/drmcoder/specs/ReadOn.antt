@@ -4,7 +4,7 @@ use mathlib.Core.Bool.{cond}
 use mathlib.Core.List.{List}
 use lib.ListN.{length}
 use lib.Dec.{eqb}
-use Rattle.superframe.specs.ReadOn.{ReadOnCall, ReadOnYield, readOnOf}
+use Rattle.keptcells.specs.ReadOn.{ReadOnCall, ReadOnYield, readOnOf}
 use Rattle.drmcoder.specs.Bytes.{stateOf}
 use Rattle.drmcoder.specs.Calls.{ReadBytes, readYields, readAnswered}
 

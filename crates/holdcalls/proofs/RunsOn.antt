@@ -10,8 +10,7 @@ use Rattle.superframe.specs.declared.State.{State}
 use Rattle.superframe.specs.Call.{memoryLength}
 use Rattle.superframe.specs.Code.{CodeCall, codeOf}
 use Rattle.superframe.specs.Contracts.{Fits}
-use Rattle.superframe.specs.Runs.{stateAfter, memoryAfter, Run, cells, stateNow, memoryNow}
-use Rattle.superframe.specs.RunsWithPreviews.{callYields}
+use Rattle.superframe.specs.Runs.{callYields, stateAfter, memoryAfter, Run, cells, stateNow, memoryNow}
 use Rattle.superframe.proofs.CodeRuns.{Standing}
 use Rattle.superframe.proofs.Runs.{run-stands}
 use Rattle.superframe.proofs.Accepted.{coding}

@@ -9,8 +9,7 @@ use Rattle.superframe.specs.declared.State.{State}
 use Rattle.superframe.specs.Call.{memoryLength}
 use Rattle.superframe.specs.Code.{CodeCall}
 use Rattle.superframe.specs.Reset.{ResetYield}
-use Rattle.superframe.specs.Runs.{stateAt, memoryAt, sent, refusals, stateAfter, memoryAfter, Run, cells, stateNow, memoryNow}
-use Rattle.superframe.specs.RunsWithPreviews.{callYields}
+use Rattle.superframe.specs.Runs.{callYields, stateAt, memoryAt, sent, refusals, stateAfter, memoryAfter, Run, cells, stateNow, memoryNow}
 use Rattle.holdlines.specs.declared.Form.{Form}
 use Rattle.holdlines.specs.Files.{fileLength}
 use Rattle.holdcalls.specs.Store.{storeOf}

@@ -17,7 +17,7 @@ use Rattle.channels.specs.Scheme.{schemeRefusal}
 use Rattle.superframe.specs.declared.State.{State}
 use Rattle.superframe.specs.Code.{CodeCall, codeOf}
 use Rattle.superframe.specs.Read.{ReadCall, readOf}
-use Rattle.superframe.specs.ReadOn.{readOnOf}
+use Rattle.keptcells.specs.ReadOn.{readOnOf}
 use Rattle.grid.specs.Calls.{gridSizes, placeOf, takeOf}
 use Rattle.placing.specs.Contracts.{cellsFrom}
 use Rattle.codecall.specs.Contracts.{codeCall}

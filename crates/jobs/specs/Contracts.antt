@@ -10,7 +10,7 @@ use Rattle.settings.specs.declared.Sizes.{Sizes}
 use Rattle.settings.specs.Sizes.{sizesOf}
 use Rattle.superframe.specs.declared.State.{State}
 use Rattle.superframe.specs.Read.{ReadCall, readOf}
-use Rattle.superframe.specs.ReadOn.{lostBytes, readOnOf}
+use Rattle.keptcells.specs.ReadOn.{lostBytes, readOnOf}
 use Rattle.readcall.specs.Contracts.{readCall}
 use Rattle.console.specs.declared.Job.{Job}
 use Rattle.console.specs.declared.Job.the-variants.{Read, ReadOn}

@@ -15,7 +15,7 @@ use Rattle.superframe.specs.declared.Answer.the-variants.{Finished, Refused as 
 use Rattle.superframe.specs.Call.{facBytes, facNumbers}
 use Rattle.superframe.specs.Code.{CodeCall, CodeYield, codeOf}
 use Rattle.superframe.specs.Read.{ReadCall, ReadYield, readOf}
-use Rattle.superframe.specs.ReadOn.{ReadOnCall, ReadOnYield, lostBytes, readOnOf}
+use Rattle.keptcells.specs.ReadOn.{ReadOnCall, ReadOnYield, lostBytes, readOnOf}
 use Rattle.callrefusals.specs.Contracts.{lengthRefusal}
 use Rattle.console.specs.declared.Job.{Job}
 use Rattle.settings.specs.declared.Settings.{Settings}

@@ -22,7 +22,7 @@ use Rattle.block.specs.Points.{isPoint}
 use Rattle.pointtests.specs.PointTests.{cellPasses, pointsPass, pointsOnly}
 use Rattle.channels.specs.declared.Scheme.{Scheme}
 use Rattle.channels.specs.Msc.{mscBlock, mscConstellation}
-use Rattle.superframe.specs.ReadOn.{keptNumber, keptCells, lostMark}
+use Rattle.keptcells.specs.ReadOn.{keptNumber, keptCells, lostMark}
 
 -- The test of one cell.
 one-point : (c : ℕ) (cell : List ℤ) → length cell ≡ 2 → pointsPass (pointsOnly c) cell ≡ isPoint (constellation c) (getD cell 0 (pos 0)) (getD cell 1 (pos 0))

@@ -1,1 +1,4 @@
+-- The call that reads on.
+pub mod ReadOn
+-- What functions require.
 pub mod Contracts

@@ -9,7 +9,7 @@ ghost use mathlib.Core.List.{map};
 ghost use lib.IntN.{pos};
 ghost use lib.ListN.{length};
 ghost use Rattle.pointtests.specs.PointTests.{pointsPass, pointsOnly};
-ghost use Rattle.superframe.specs.ReadOn.{keptCells, lostMark};
+ghost use Rattle.keptcells.specs.ReadOn.{keptCells, lostMark};
 ghost use Rattle.keptcells.specs.Contracts.{CellsKept};
 
 // A cell is a point of a constellation.

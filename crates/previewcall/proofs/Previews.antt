@@ -9,7 +9,7 @@ use Rattle.channels.proofs.Schemes.{scheme-accepted}
 use Rattle.superframe.specs.declared.State.{State}
 use Rattle.superframe.specs.Call.{memoryLength}
 use Rattle.superframe.specs.Code.{CodeCall, CodeYield, codeRefusal, codeAccepted, codeRefused}
-use Rattle.superframe.specs.Preview.{withoutMemory, previewOf}
+use Rattle.previewcall.specs.Preview.{withoutMemory, previewOf}
 use Rattle.superframe.specs.Contracts.{CodeFits}
 use Rattle.superframe.proofs.Calls.{code-fits, code-accepts, code-refuses}
 

@@ -2,7 +2,7 @@
 use mathlib.Core.List.{List}
 use lib.IntN.{ℤ}
 use Rattle.superframe.specs.declared.Done.{Done}
-use Rattle.superframe.specs.Preview.{PreviewYield}
+use Rattle.previewcall.specs.Preview.{PreviewYield}
 
 -- What a preview yields, from its result and the outputs as it leaves them.
 abbrev pub previewYield : Done → List ℤ → List ℤ → List ℤ → PreviewYield

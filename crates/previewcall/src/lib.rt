@@ -6,8 +6,9 @@ use lists::bytes::copy;
 use superframe::Done;
 use superframe::State;
 ghost use mathlib.Core.Path.{_≡_};
-ghost use Rattle.superframe.specs.Preview.{previewOf};
+ghost use Rattle.previewcall.specs.Preview.{previewOf};
 ghost use Rattle.codecall.specs.Contracts.{codeCall};
+ghost use Rattle.previewcall.specs.RunsWithPreviews.{RunsWithPreviews};
 ghost use Rattle.previewcall.specs.Contracts.{previewYield};
 
 // The cells of the next super frame and the state after it, as Code would give them; memory is read only. A refusal leaves the outputs as they were.
@@ -37,3 +38,8 @@ pub fn preview(
     copy(memory, held);
     code_accepted(state, fac, sdc, msc, held, faccells, sdccells, msccells)
 }
+
+// The theorem on whole lists of calls: a run with previews in between sends the cells of the same run without them.
+pub fn runs_with_previews()
+    ensures { λ _. ⌜ RunsWithPreviews ⌝ }
+{}

@@ -7,7 +7,7 @@ use lib.Dec.{eqb}
 use Rattle.settings.specs.Sizes.{sizesOf}
 use Rattle.superframe.specs.declared.State.{State}
 use Rattle.superframe.specs.Code.{CodeYield, codeOf}
-use Rattle.superframe.specs.Preview.{withoutMemory, previewOf}
+use Rattle.previewcall.specs.Preview.{withoutMemory, previewOf}
 use Rattle.console.specs.declared.Job.the-variants.{Code}
 use Rattle.turns.specs.Yield.{MadeYield, madeYield, through, refused, answered}
 use Rattle.jobs.specs.Output.{cellOutput}

@@ -5,7 +5,7 @@ use mathlib.Core.List.{List}
 use lib.Dec.{eqb}
 use Rattle.settings.specs.Sizes.{sizesOf}
 use Rattle.superframe.specs.declared.State.{State}
-use Rattle.superframe.specs.Preview.{PreviewYield, previewOf}
+use Rattle.previewcall.specs.Preview.{PreviewYield, previewOf}
 use Rattle.console.specs.declared.Job.the-variants.{Code}
 use Rattle.turns.specs.Yield.{MadeYield, refused, answered}
 use Rattle.jobs.specs.Output.{cellOutput}

@@ -18,15 +18,14 @@ use Rattle.superframe.specs.declared.State.{State}
 use Rattle.superframe.specs.declared.Answer.the-variants.{Finished, Refused}
 use Rattle.superframe.specs.Call.{inOrder, memoryLength}
 use Rattle.superframe.specs.Code.{byteLengths, cellLengths}
-use Rattle.superframe.specs.ReadOn.{ReadOnCall, lostBytes, readOnRefusal, keptCells, lostMark, readOnAccepted, readOnRefused, readOnOf}
-use Rattle.superframe.specs.Contracts.{ReadOnFits}
+use Rattle.keptcells.specs.ReadOn.{ReadOnCall, lostBytes, readOnRefusal, keptCells, lostMark, readOnAccepted, readOnRefused, readOnOf}
 use Rattle.superframe.proofs.Calls.{first-own-pass}
-use Rattle.superframe.proofs.ReadOnCalls.{on-fits, on-accepts, on-refuses}
+use Rattle.keptcells.proofs.ReadOnCalls.{on-fits, on-accepts, on-refuses}
 use Rattle.callrefusals.specs.Contracts.{refusalThen}
 use Rattle.callrefusals.proofs.Chains.{first-own-hold, then-stops, then-goes-on}
 use Rattle.readcall.specs.declared.Blocks.{Blocks}
 use Rattle.readcall.specs.Contracts.{readCall, blocksOf, BlocksLent, BlocksRead}
-use Rattle.keptcells.specs.Contracts.{CellsKept}
+use Rattle.keptcells.specs.Contracts.{CellsKept, ReadOnFits}
 use Rattle.readoncall.specs.Contracts.{readOnCall, readOnYield, refusalAfter, KeptLent}
 
 -- Two tests of one number.

@@ -10,7 +10,7 @@ use Rattle.superframe.specs.declared.State.{State}
 use Rattle.superframe.specs.declared.Reading.{Reading}
 use Rattle.superframe.specs.Call.{inOrder}
 use Rattle.superframe.specs.Read.{ReadCall}
-use Rattle.superframe.specs.ReadOn.{lostBytes, ReadOnCall, ReadOnYield}
+use Rattle.keptcells.specs.ReadOn.{lostBytes, ReadOnCall, ReadOnYield}
 use Rattle.superframe.specs.Contracts.{BytesFit, CellsFit}
 use Rattle.cellmemory.specs.Contracts.{StateFits}
 use Rattle.readcall.specs.Contracts.{readCall, readYield}

@@ -12,7 +12,7 @@ use superframe::Reading;
 use superframe::State;
 ghost use mathlib.Core.Path.{_≡_};
 ghost use Rattle.lists.specs.Buffers.{Long};
-ghost use Rattle.superframe.specs.ReadOn.{keptCells, readOnOf};
+ghost use Rattle.keptcells.specs.ReadOn.{keptCells, readOnOf};
 ghost use Rattle.superframe.specs.Contracts.{Fits};
 ghost use Rattle.readcall.specs.Contracts.{readCall, BlocksRead};
 ghost use Rattle.readoncall.specs.Contracts.{readOnCall, readOnYield, refusalAfter, KeptLent};

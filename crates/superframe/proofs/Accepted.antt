@@ -1,4 +1,4 @@
--- The coding of settings and a table that are not refused: its blocks are recovered and its sizes fit. And demands 2 and 3, and S-13.
+-- The coding of settings and a table that are not refused: its blocks are recovered and its sizes fit. And demands 2 and 3.
 use Prim.Native.Nat.{ℕ}
 use mathlib.Core.Path.{_≡_, _∙_}
 use native.Mathlib.Omega.{arith}
@@ -25,15 +25,9 @@ use Rattle.superframe.specs.Call.{facBytes}
 use Rattle.superframe.specs.Runs.{bitsOf}
 use Rattle.superframe.specs.SingleCalls.{SingleCalls}
 use Rattle.superframe.specs.WholeRuns.{WholeRuns}
-use Rattle.superframe.specs.NoEmptyCells.{NoEmptyCells}
-use Rattle.superframe.specs.RunsWithPreviews.{RunsWithPreviews}
-use Rattle.superframe.specs.OnRuns.{OnRuns}
 use Rattle.superframe.proofs.Coding.{Recovers, Coding}
 use Rattle.superframe.proofs.SingleCalls.{single-calls-of}
 use Rattle.superframe.proofs.WholeRuns.{whole-runs-of}
-use Rattle.superframe.proofs.NoEmptyCells.{no-empty-cells-of}
-use Rattle.superframe.proofs.RunsWithPreviews.{runs-with-previews-of}
-use Rattle.superframe.proofs.OnRuns.{on-runs-of}
 
 -- A block whose levels and constellation fit is recovered.
 pub recovers : {k : Block} → BlockFits k → (bytes : ℕ) → bytesFor (bitCount k) ≡ bytes → Recovers k bytes
@@ -82,15 +76,3 @@ single-calls = single-calls-of coding
 -- Demand 3.
 pub whole-runs : WholeRuns
 whole-runs = whole-runs-of coding
-
--- S-5.
-pub no-empty-cells : NoEmptyCells
-no-empty-cells = no-empty-cells-of coding
-
--- S-3.
-pub runs-with-previews : RunsWithPreviews
-runs-with-previews = runs-with-previews-of coding
-
--- S-13.
-pub on-runs : OnRuns
-on-runs = on-runs-of coding

@@ -7,6 +7,7 @@ pub mod Coding
 pub mod History
 pub mod Coder
 pub mod Reader
+pub mod Ignored
 pub mod Calls
 pub mod SuperFrames
 pub mod CodeRuns
@@ -17,14 +18,7 @@ pub mod ReadCalls
 pub mod ReadRuns
 pub mod SameBits
 pub mod WholeRuns
-pub mod Received
-pub mod ReadOnCalls
-pub mod ReadOnRuns
 pub mod Faults
 pub mod Sendable
 pub mod SingleCalls
-pub mod NoEmptyCells
-pub mod RunsWithPreviews
-pub mod ReadOnSame
-pub mod OnRuns
 pub mod Accepted

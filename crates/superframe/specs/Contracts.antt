@@ -17,7 +17,6 @@ use Rattle.superframe.specs.declared.State.{State}
 use Rattle.superframe.specs.Call.{facBytes, memoryLength, memoryCell}
 use Rattle.superframe.specs.Code.{CodeCall, sparesZero}
 use Rattle.superframe.specs.Read.{ReadCall}
-use Rattle.superframe.specs.ReadOn.{ReadOnCall, lostBytes}
 
 -- No refusal from 1 to 8, nor 23: settings that are allowed, a table that passes, and memory of the settings' length.
 pub record Fits (s : Scheme) (memory : List ℕ) : Type 0 where
@@ -56,11 +55,3 @@ pub record ReadFits (state : State) (memory : List ℕ) (c : ReadCall) : Type 0 
   pub cells : CellsFit (state .scheme .settings) (c .faccells) (c .sdccells) (c .msccells)
   pub bytes : BytesFit (state .scheme .settings) (c .fac) (c .sdc) (c .msc)
   pub order : Ordered false state memory
-
--- What a call that reads on says that no number refuses: (0, 0) passes in its memory.
-pub record ReadOnFits (state : State) (memory : List ℕ) (c : ReadOnCall) : Type 0 where
-  pub fits : Fits (state .scheme) memory
-  pub cells : CellsFit (state .scheme .settings) (c .call .faccells) (c .call .sdccells) (c .call .msccells)
-  pub bytes : BytesFit (state .scheme .settings) (c .call .fac) (c .call .sdc) (c .call .msc)
-  pub seven : length (c .lost) ≡ lostBytes
-  pub order : Ordered true state memory

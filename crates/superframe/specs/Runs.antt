@@ -18,7 +18,7 @@ use Rattle.channels.specs.Msc.{mscBlock}
 use Rattle.superframe.specs.declared.State.{State}
 use Rattle.superframe.specs.Call.{parts, facBytes}
 use Rattle.superframe.specs.Reset.{resetOf}
-use Rattle.superframe.specs.Code.{CodeCall, codeOf, byteLengths}
+use Rattle.superframe.specs.Code.{CodeCall, CodeYield, codeOf, byteLengths}
 use Rattle.superframe.specs.Read.{ReadCall, ReadYield, readOf, answerNumber, answerFrames}
 
 -- An accepted Reset: the state, settings, table and memory that it was handed.
@@ -80,6 +80,13 @@ sent state memory (c ∷ cs) =
     let y = codeOf state memory c in
     let rest = sent (y .done .state) (y .memory) cs in
     cond (codes state memory c) (record { fac = y .faccells; sdc = y .sdccells; msc = y .msccells } ∷ rest) rest
+
+-- What the calls of a list yield; each is handed the state that the last one returned and the memory as that one left it.
+unfoldable pub callYields : State → List ℕ → List CodeCall → List CodeYield
+callYields state memory [] = []
+callYields state memory (c ∷ cs) =
+    let y = codeOf state memory c in
+    y ∷ callYields (y .done .state) (y .memory) cs
 
 -- The answers of the calls of a list.
 unfoldable pub refusals : State → List ℕ → List CodeCall → List ℕ

@@ -1,7 +1,7 @@
 -- `preview` meets its contract. Assumes nothing.
 use native.Mathlib.Omega.{arith}
 use borrow.Author.Needs.{needs}
-use Rattle.superframe.specs.Preview.{withoutMemory}
+use Rattle.previewcall.specs.Preview.{withoutMemory}
 use Rattle.previewcall.proofs.Previews.{refused-preview, copy-room, copy-fits, copy-yields}
 use Rattle.previewcall.proofs.preview.Statement.{statement}
 use Rattle.previewcall.proofs.preview.Tie as tie

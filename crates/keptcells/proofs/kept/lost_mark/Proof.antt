@@ -1,5 +1,5 @@
 -- `kept::lost_mark` meets its contract. Assumes nothing.
-use Rattle.superframe.specs.ReadOn.{lostMark}
+use Rattle.keptcells.specs.ReadOn.{lostMark}
 use Rattle.keptcells.proofs.kept.lost_mark.Statement.{statement}
 use Rattle.keptcells.proofs.kept.lost_mark.Tie as tie
 

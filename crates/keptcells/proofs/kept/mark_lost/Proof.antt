@@ -4,7 +4,7 @@ use mathlib.Core.Bool.{false}
 use borrow.Author.Needs.{needs}
 use lib.ListN.{getD}
 use Rattle.lists.proofs.Tables.{Filled, filled-start, filled-turn}
-use Rattle.superframe.specs.ReadOn.{lostMark}
+use Rattle.keptcells.specs.ReadOn.{lostMark}
 use Rattle.keptcells.proofs.Turns.{marks-end}
 use Rattle.keptcells.proofs.kept.mark_lost.Statement.{statement}
 use Rattle.keptcells.proofs.kept.mark_lost.Tie as tie

@@ -24,34 +24,34 @@ use Rattle.channels.specs.Scheme.{schemeRefusal}
 use Rattle.channels.specs.Fac.{facBlock}
 use Rattle.channels.specs.Sdc.{sdcBlock}
 use Rattle.channels.specs.Msc.{mscBlock}
 use Rattle.superframe.specs.Memory.{slotSize}
 use Rattle.superframe.specs.Interleaving.{delay}
 use Rattle.superframe.specs.Call.{part}
 use Rattle.superframe.specs.Blocks.{keptBytes}
-use Rattle.superframe.specs.ReadOn.{ReadOnCall, keptNumber, lostMark}
+use Rattle.keptcells.specs.ReadOn.{ReadOnCall, keptNumber, lostMark}
 use Rattle.superframe.specs.Runs.{Begun, stateAt, memoryAt, Bits, SuperFrame, readCount, Fed, Accepts, Run, bits, cells}
 use Rattle.superframe.specs.Standard.{standardRow, superFrame, standard}
 use Rattle.superframe.specs.WholeRuns.{standardCells}
 use Rattle.superframe.specs.Code.{cellLengths}
-use Rattle.superframe.specs.Received.{receivedAt, receivedFac, receivedSdc, receivedRow, receivedFrame}
-use Rattle.superframe.specs.OnRuns.{readingOn, Out, Outs, outAt, handedOn, Told, ToldAll, Right, RightWhere, Outside, whole, OnRuns}
-use Rattle.superframe.specs.OnRuns.Told.{isLost, isKept}
+use Rattle.readonruns.specs.Received.{receivedAt, receivedFac, receivedSdc, receivedRow, receivedFrame}
+use Rattle.readonruns.specs.OnRuns.{readingOn, Out, Outs, outAt, handedOn, Told, ToldAll, Right, RightWhere, Outside, whole, OnRuns}
+use Rattle.readonruns.specs.OnRuns.Told.{isLost, isKept}
 use Rattle.superframe.proofs.Places.{delay-low}
 use Rattle.superframe.proofs.Coding.{all-at, Recovers, Coding, depth-low}
 use Rattle.superframe.proofs.History.{frameAt, standard-carries}
 use Rattle.superframe.proofs.Reader.{sentAge}
 use Rattle.superframe.proofs.SuperFrames.{fac-part, sdc-part, row-part, cells-long}
 use Rattle.superframe.proofs.CodeRuns.{Whole}
 use Rattle.superframe.proofs.Runs.{startOf, begun-allowed, coded-by, begun-keeps, bits-whole, run-sends, sent-frame, sent-long}
 use Rattle.superframe.proofs.Calls.{fit-cells}
 use Rattle.superframe.proofs.FedRuns.{Goes, begun-runs, begun-all}
 use Rattle.superframe.proofs.SameBits.{rows-frames}
 use Rattle.superframe.proofs.SingleCalls.{as-table}
-use Rattle.superframe.proofs.Received.{carried-cell, row-number, received-carries}
-use Rattle.superframe.proofs.ReadOnCalls.{outOf}
-use Rattle.superframe.proofs.ReadOnRuns.{facOut, sdcOut, frameOut, betweenOn, onHanding, KeepsOn, on-goes, lendOn, lend-on}
-use Rattle.superframe.proofs.ReadOnSame.{number-kept, as-read}
+use Rattle.readonruns.proofs.Received.{carried-cell, row-number, received-carries}
+use Rattle.readonruns.proofs.Outs.{outOf}
+use Rattle.readonruns.proofs.ReadOnRuns.{facOut, sdcOut, frameOut, betweenOn, onHanding, KeepsOn, on-goes, lendOn, lend-on}
+use Rattle.readonruns.proofs.ReadOnSame.{number-kept, as-read}
 use Rattle.superframe.proofs.ReadCalls.{row-points}
 
 -- A block or frame is told by its received cells; it is right where these are the cells of the bits brought.
 module _ {k : Block} {n : ℕ} (r : Recovers k n) where

@@ -4,11 +4,11 @@ use mathlib.Core.Path.{_≡_}
 use mathlib.Core.Bool.{cond}
 use mathlib.Core.List.{List, [], _∷_, _++_}
 use lib.Dec.{eqb}
 use Rattle.superframe.specs.declared.State.{State}
 use Rattle.superframe.specs.Code.{CodeCall, CodeYield, codeOf}
-use Rattle.superframe.specs.Preview.{PreviewYield, previewOf}
-use Rattle.superframe.specs.Runs.{Begun, stateAt, memoryAt, SuperFrame, Run, cells, stateNow, memoryNow}
+use Rattle.previewcall.specs.Preview.{PreviewYield, previewOf}
+use Rattle.superframe.specs.Runs.{Begun, stateAt, memoryAt, callYields, SuperFrame, Run, cells, stateNow, memoryNow}
 use Rattle.superframe.specs.WholeRuns.{standardCells}
 
 -- A Code call or a preview, with any inputs.
 pub data Event : Type 0 where
@@ -45,13 +45,6 @@ unfoldable pub codings : List Event → List CodeCall
 codings [] = []
 codings (coding c ∷ es) = c ∷ codings es
 codings (showing c ∷ es) = codings es
-
--- What the calls of a list yield; each is handed the state that the last one returned and the memory as that one left it.
-unfoldable pub callYields : State → List ℕ → List CodeCall → List CodeYield
-callYields state memory [] = []
-callYields state memory (c ∷ cs) =
-    let y = codeOf state memory c in
-    y ∷ callYields (y .done .state) (y .memory) cs
 
 -- The run without its previews: an accepted Reset, and the Code calls of a list of events.
 unfoldable pub withoutPreviews : Begun → List Event → Run

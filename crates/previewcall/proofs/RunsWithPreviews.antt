@@ -6,13 +6,13 @@ use mathlib.Core.List.{List, [], _∷_, _++_}
 use lib.Dec.{eqb}
 use Rattle.channels.specs.declared.Scheme.{Scheme}
 use Rattle.channels.specs.Scheme.{schemeRefusal}
 use Rattle.superframe.specs.declared.State.{State}
 use Rattle.superframe.specs.Code.{CodeCall, codeOf}
-use Rattle.superframe.specs.Preview.{previewOf}
-use Rattle.superframe.specs.Runs.{Begun, stateAt, memoryAt, codes, sent, stateAfter, memoryAfter, cells, stateNow, memoryNow}
-use Rattle.superframe.specs.RunsWithPreviews.{Event, coding, showing, coded, shown, outcomes, yields, sentBy, codings, callYields, withoutPreviews, fromReset, RunsWithPreviews}
+use Rattle.previewcall.specs.Preview.{previewOf}
+use Rattle.superframe.specs.Runs.{Begun, stateAt, memoryAt, callYields, codes, sent, stateAfter, memoryAfter, cells, stateNow, memoryNow}
+use Rattle.previewcall.specs.RunsWithPreviews.{Event, coding, showing, coded, shown, outcomes, yields, sentBy, codings, withoutPreviews, fromReset, RunsWithPreviews}
 use Rattle.superframe.proofs.Coding.{Coding}
 use Rattle.superframe.proofs.Runs.{run-sends}
 
 -- The Code calls yield what they yield with the previews left out.
 previews-out : (state : State) (memory : List ℕ) (es : List Event) → yields (outcomes state memory es) ≡ callYields state memory (codings es)

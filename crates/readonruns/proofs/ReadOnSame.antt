@@ -1,19 +1,16 @@
 -- Where Read accepts a call, reading on yields the same: cells that are not ignored are points and are kept, and no block is lost. Assumes nothing.
 use Prim.Native.Nat.{ℕ, zero, suc, _+_, _-_, _*_, _/_, _≤_, _<_}
 use mathlib.Core.Path.{_≡_, refl, sym, ap, _∙_}
-use mathlib.Core.Logic.{inl, inr}
 use mathlib.Core.Bool.{Bool, true, false}
 use mathlib.Core.List.{List, [], _∷_, _++_, map, append-nil}
 use native.Mathlib.Omega.{arith}
 use lib.ListN.{length, getD, replicate, length-append, length-replicate, length-map}
 use lib.IntN.{ℤ, pos}
-use borrow.Author.Tests.{le-leb, lt-leb, eqb-true}
+use borrow.Author.Tests.{le-leb, eqb-true}
 use Rattle.lists.specs.Lists.{table}
 use Rattle.lists.specs.Bools.{every}
-use Rattle.lists.proofs.Counting.{below-or}
 use Rattle.lists.proofs.Bools.{and-left, and-right, or-right, every-append, every-table, table-every}
 use Rattle.lists.proofs.Tables.{length-table}
-use Rattle.settings.specs.declared.Settings.{Settings}
 use Rattle.settings.specs.Cells.{facCells}
 use Rattle.settings.specs.Lengths.{nMux}
 use Rattle.settings.specs.Sizes.{depth, frameBytes, sdcBytes}
@@ -26,56 +23,23 @@ use Rattle.channels.specs.declared.Scheme.{Scheme}
 use Rattle.channels.specs.Fac.{facBlock}
 use Rattle.channels.specs.Sdc.{sdcBlock}
 use Rattle.channels.specs.Msc.{mscBlock}
 use Rattle.superframe.specs.declared.State.{State}
 use Rattle.superframe.specs.Memory.{slotSize}
-use Rattle.superframe.specs.Interleaving.{Progress, delay, advanced, takenFrom, taken, afterRows, finishedFrames, fillers}
+use Rattle.superframe.specs.Interleaving.{delay, afterRows, finishedFrames, fillers}
 use Rattle.superframe.specs.Call.{part, parts, joined, facBytes, memoryCell}
-use Rattle.superframe.specs.Contracts.{Ordered, ReadOnFits}
+use Rattle.superframe.specs.Contracts.{Ordered}
+use Rattle.keptcells.specs.Contracts.{ReadOnFits}
 use Rattle.superframe.specs.Code.{progressOf}
 use Rattle.superframe.specs.Read.{ReadCall, answerNumber, rowsOf, fillersOf, rowCell, rowPoints, countAt, orderRefusal, pointTests, givenTests, handedOut, readAccepted, readOf}
 use Rattle.superframe.specs.Blocks.{keptBytes, placedBytes, placedTests}
-use Rattle.superframe.specs.ReadOn.{lostBytes, keptNumber, keptCells, lostMark, readOnAccepted, readOnOf}
+use Rattle.keptcells.specs.ReadOn.{lostBytes, keptNumber, keptCells, lostMark, readOnAccepted, readOnOf}
 use Rattle.superframe.specs.Runs.{reading, reads}
 use Rattle.superframe.proofs.Calls.{read-fits, read-accepts}
+use Rattle.superframe.proofs.Ignored.{after-same, finished-same}
 use Rattle.superframe.proofs.Faults.{finished-count, three-rows}
 use Rattle.superframe.proofs.SingleCalls.{accepted-by, yielded}
-use Rattle.superframe.proofs.Received.{kept-part}
-use Rattle.superframe.proofs.ReadOnCalls.{fits-on, on-accepts}
-
--- Rows that agree wherever they are not ignored are taken alike.
-module _ (s : Settings) (position count : ℕ) (one two : List ℤ) (same : (k : ℕ) → k < slotSize s → delay (depth s) k ≤ count → getD one k (pos 0) ≡ getD two k (pos 0)) where
-  taken-from : (n k : ℕ) (memory : List ℕ) → k + n ≤ slotSize s → takenFrom s position count one k n memory ≡ takenFrom s position count two k n memory
-  unfolding takenFrom
-  taken-from zero k memory h = refl
-  taken-from (suc n) k memory h =
-      elim (below-or count (delay (depth s) k)) [
-        | inl x ↦ rw (lt-leb (delay (depth s) k) count x) (taken-from n (suc k) memory (omega arith))
-        | inr x ↦ rw (le-leb (delay (depth s) k) count x, same k (omega arith) x) (taken-from n (suc k) _ (omega arith))
-      ]
-
--- Rows one after the other, of a call begun at a count.
-module _ (s : Settings) (count last : ℕ) (one two : ℕ → List ℤ)
-    (same : (i k : ℕ) → i < last → k < slotSize s → delay (depth s) k ≤ countAt s count i → getD (one i) k (pos 0) ≡ getD (two i) k (pos 0)) where
-  taken-same : (i : ℕ) (q : Progress) → i < last → q .count ≡ countAt s count i → taken s q (one i) ≡ taken s q (two i)
-  unfolding taken
-  taken-same i q low e = taken-from s (q .position) (q .count) (one i) (two i) (λ k h d. same i k low h (omega arith)) (slotSize s) 0 (q .memory) (omega arith)
-
-  next-count : (i : ℕ) (q : Progress) (memory : List ℕ) → q .count ≡ countAt s count i → advanced (depth s) memory q .count ≡ countAt s count (suc i)
-  unfolding advanced countAt
-  next-count i q memory e = omega arith
-
-  pub after-same : (n i : ℕ) (q : Progress) → i + n ≤ last → q .count ≡ countAt s count i → afterRows s q (table one i n) ≡ afterRows s q (table two i n)
-  unfolding afterRows table
-  after-same zero i q low e = refl
-  after-same (suc n) i q low e =
-      ap (λ m. afterRows s (advanced (depth s) m q) (table one (suc i) n)) (taken-same i q (omega arith) e)
-      ∙ after-same n (suc i) (advanced (depth s) (taken s q (two i)) q) (omega arith) (next-count i q _ e)
-
-  pub finished-same : (n i : ℕ) (q : Progress) → i + n ≤ last → q .count ≡ countAt s count i → finishedFrames s q (table one i n) ≡ finishedFrames s q (table two i n)
-  unfolding finishedFrames table
-  finished-same zero i q low e = refl
-  finished-same (suc n) i q low e =
-      rw (taken-same i q (omega arith) e, finished-same n (suc i) (advanced (depth s) (taken s q (two i)) q) (omega arith) (next-count i q _ e))
+use Rattle.readonruns.proofs.Received.{kept-part}
+use Rattle.keptcells.proofs.ReadOnCalls.{fits-on, on-accepts}
 
 -- A row whose cells are points where they are not ignored keeps them.
 module _ (s : Scheme) (count : ℕ) (row : List ℤ) (ok : rowPoints s count row ≡ true) where

@@ -2,14 +2,13 @@
 use Prim.Native.Nat.{ℕ, zero, suc, _+_, _-_, _*_, _≤_, _<_, min}
 use mathlib.Core.Path.{_≡_, refl, sym, ap, _∙_}
 use mathlib.Core.Logic.{inl, inr}
-use mathlib.Core.Bool.{true, false, cond}
-use mathlib.Core.List.{List, [], _∷_, _++_}
+use mathlib.Core.Bool.{true, false}
+use mathlib.Core.List.{List, [], _∷_}
 use native.Mathlib.Decide.{ℕ-discrete}
 use native.Mathlib.Omega.{arith}
 use lib.ListN.{length, getD, drop, length-take, length-drop}
 use lib.Seq.{getD-take, getD-drop}
 use lib.IntN.{ℤ, pos, negsuc}
-use lib.Dec.{leb}
 use borrow.Author.Tests.{lt-leb}
 use Rattle.lists.specs.Lists.{table}
 use Rattle.lists.specs.Bools.{every}
@@ -31,63 +30,25 @@ use Rattle.channels.specs.Scheme.{schemeRefusal}
 use Rattle.channels.specs.Fac.{facBlock}
 use Rattle.channels.specs.Sdc.{sdcBlock}
 use Rattle.channels.specs.Msc.{mscBlock}
 use Rattle.superframe.specs.declared.State.{State}
-use Rattle.superframe.specs.Memory.{slotSize, replaced}
-use Rattle.superframe.specs.Interleaving.{Progress, advanced, delay, slotBefore, sentPlace, fillers, takenFrom, taken, finishedBy, afterRows, finishedFrames}
+use Rattle.superframe.specs.Memory.{slotSize}
+use Rattle.superframe.specs.Interleaving.{delay, fillers, afterRows, finishedFrames}
 use Rattle.superframe.specs.Call.{part, parts}
 use Rattle.superframe.specs.Code.{byteLengths, cellLengths, progressOf}
 use Rattle.superframe.specs.Read.{ReadCall, rowsOf, fillersOf, countAt, rowCell, rowPoints, pointTests, givenTests, orderRefusal, answerOf, readAccepted, readRefused, readOf}
 use Rattle.superframe.specs.Runs.{SuperFrame, Run, bits, cells}
 use Rattle.superframe.specs.SingleCalls.{cellIsPoint, inFac, inSdc, inRow, sentAt}
-use Rattle.superframe.specs.NoEmptyCells.{Points, NoneEmpty, DifferIgnored, NoEmptyCells}
+use Rattle.noemptycells.specs.NoEmptyCells.{Points, NoneEmpty, DifferIgnored, NoEmptyCells}
 use Rattle.superframe.proofs.Places.{delay-low, delay-cell}
+use Rattle.superframe.proofs.Ignored.{after-same, finished-same}
 use Rattle.superframe.proofs.Calls.{cells-fit, fit-cells, read-fits, answer-order, read-refuses}
 use Rattle.superframe.proofs.Coding.{Coding, depth-low}
 use Rattle.superframe.proofs.History.{twice}
 use Rattle.superframe.proofs.SuperFrames.{fillers-are, cells-long}
 use Rattle.superframe.proofs.Runs.{begun-allowed}
 use Rattle.superframe.proofs.Sendable.{sent-is, sent-nowhere}
 
--- Rows that agree wherever a number is not ignored are taken alike.
-taken-same : (s : Settings) (position count : ℕ) (one two : List ℤ) (n k : ℕ) (memory : List ℕ)
-    → ((j : ℕ) → k ≤ j → j < k + n → delay (depth s) j ≤ count → getD one j (pos 0) ≡ getD two j (pos 0))
-    → takenFrom s position count one k n memory ≡ takenFrom s position count two k n memory
-unfolding takenFrom
-taken-same s position count one two zero k memory h = refl
-taken-same s position count one two (suc n) k memory h =
-    ap (takenFrom s position count one (suc k) n) step
-    ∙ taken-same s position count one two n (suc k) _ (λ j x y. h j (omega arith) (omega arith))
-  where
-    at : ℤ → List ℕ
-    at v = replaced (slotSize s) memory (slotBefore (depth s) position (delay (depth s) k)) (sentPlace (nMux s) k) v
-
-    step : cond (leb (delay (depth s) k) count) (at (getD one k (pos 0))) memory ≡ cond (leb (delay (depth s) k) count) (at (getD two k (pos 0))) memory
-    step =
-        elim (below-or count (delay (depth s) k)) [
-          | inl x ↦ rw (lt-leb (delay (depth s) k) count x)
-          | inr x ↦ ap (λ v. cond (leb (delay (depth s) k) count) (at v) memory) (h k (omega arith) (omega arith) x)
-        ]
-
--- So the progress after such rows, and the frames that they finish, are the same.
-module _ (s : Settings) (count : ℕ) (R S : ℕ → List ℤ)
-    (h : (i k : ℕ) → i < 3 → k < slotSize s → delay (depth s) k ≤ countAt s count i → getD (R i) k (pos 0) ≡ getD (S i) k (pos 0)) where
-  row-same : (i : ℕ) → i < 3 → (q : Progress) → q .count ≡ countAt s count i → taken s q (R i) ≡ taken s q (S i)
-  unfolding taken
-  row-same i l q e = taken-same s (q .position) (q .count) (R i) (S i) (slotSize s) 0 (q .memory) (λ j x y z. h i j l (omega arith) (omega arith))
-
-  rows-same : (n a : ℕ) → a + n ≤ 3 → (q : Progress) → q .count ≡ countAt s count a
-      → (afterRows s q (table R a n) ≡ afterRows s q (table S a n)) × (finishedFrames s q (table R a n) ≡ finishedFrames s q (table S a n))
-  unfolding table afterRows finishedFrames advanced countAt
-  rows-same zero a l q e = (refl, refl)
-  rows-same (suc n) a l q e =
-      let t = row-same a (omega arith) q e in
-      let next = rows-same n (suc a) (omega arith) (advanced (depth s) (taken s q (S a)) q) (omega arith) in (
-        ap (λ m. afterRows s (advanced (depth s) m q) (table R (suc a) n)) t ∙ next .0,
-        ap (λ m. finishedBy s q m ++ finishedFrames s (advanced (depth s) m q) (table R (suc a) n)) t
-            ∙ ap (λ fs. finishedBy s q (taken s q (S a)) ++ fs) (next .1),
-      )
-
--- And so are the tests of 13 on them.
+-- Rows that differ in ignored cells only pass the same tests of 13.
 points-same : (s : Scheme) (count : ℕ) (one two : List ℤ)
     → ((k : ℕ) → k < slotSize (s .settings) → delay (depth (s .settings)) k ≤ count → getD one k (pos 0) ≡ getD two k (pos 0))
     → rowPoints s count one ≡ rowPoints s count two
@@ -124,7 +85,13 @@ module _ (state : State) (memory : List ℕ) (one two : ReadCall) (D : DifferIgn
         × (finishedFrames (state .scheme .settings) (progressOf state memory) (rowsOf (state .scheme .settings) (one .msccells))
         ≡ finishedFrames (state .scheme .settings) (progressOf state memory) (rowsOf (state .scheme .settings) (two .msccells)))
     unfolding rowsOf parts progressOf countAt
-    rows-alike = rows-same (state .scheme .settings) (state .count) (part _ (one .msccells)) (part _ (two .msccells)) (D .rows) 3 0 (omega arith) (progressOf state memory) (omega arith)
+    rows-alike =
+        let s = state .scheme .settings in
+        let R = part (slotSize s) (one .msccells) in
+        let S = part (slotSize s) (two .msccells) in (
+          after-same s (state .count) 3 R S (D .rows) 3 0 (progressOf state memory) (omega arith) (omega arith),
+          finished-same s (state .count) 3 R S (D .rows) 3 0 (progressOf state memory) (omega arith) (omega arith),
+        )
 
     given-same : givenTests (state .scheme) (progressOf state memory) one ≡ givenTests (state .scheme) (progressOf state memory) two
     unfolding givenTests

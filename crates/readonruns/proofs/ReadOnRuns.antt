@@ -21,26 +21,27 @@ use Rattle.channels.specs.Scheme.{schemeRefusal}
 use Rattle.channels.specs.Fac.{facBlock}
 use Rattle.channels.specs.Sdc.{sdcBlock}
 use Rattle.channels.specs.Msc.{mscBlock}
 use Rattle.superframe.specs.declared.State.{State}
 use Rattle.superframe.specs.Interleaving.{Progress, afterRows, finishedFrames}
 use Rattle.superframe.specs.Call.{part, facBytes}
 use Rattle.superframe.specs.Code.{byteLengths, cellLengths, progressOf, stateOf}
 use Rattle.superframe.specs.Read.{answerNumber, answerFrames, rowsOf}
 use Rattle.superframe.specs.Blocks.{placedBytes, placedTests, keptBytes}
-use Rattle.superframe.specs.ReadOn.{ReadOnCall, lostBytes, readOnRefusal, keptCells, lostMark, readOnAccepted, readOnRefused, readOnOf}
+use Rattle.keptcells.specs.ReadOn.{ReadOnCall, lostBytes, readOnRefusal, keptCells, lostMark, readOnAccepted, readOnRefused, readOnOf}
 use Rattle.superframe.specs.Contracts.{CellsFit}
 use Rattle.superframe.specs.Runs.{SuperFrame, reads}
-use Rattle.superframe.specs.Received.{receivedAt, receivedFac, receivedSdc, receivedRow, receivedFrame}
-use Rattle.superframe.specs.OnRuns.{readingOn, Out, outs, Outs, handedOn, whole}
+use Rattle.readonruns.specs.Received.{receivedAt, receivedFac, receivedSdc, receivedRow, receivedFrame}
+use Rattle.readonruns.specs.OnRuns.{readingOn, Out, outs, Outs, handedOn, whole}
 use Rattle.superframe.proofs.Coding.{Coding}
 use Rattle.superframe.proofs.History.{Keeps, keeps-ordered}
 use Rattle.superframe.proofs.Reader.{sentAge, sentAge-cell, reader-after, reader-finished}
 use Rattle.superframe.proofs.Calls.{bytes-fit, cells-fit}
 use Rattle.superframe.proofs.FedRuns.{three-more, frames-more, Handing, Lends, Turn, Goes}
 use Rattle.superframe.proofs.ReadCalls.{feeding}
 use Rattle.superframe.proofs.ReadRuns.{lendAll, lend-all}
-use Rattle.superframe.proofs.Received.{facs-are, kept-rows-are, received-carries, received-good}
-use Rattle.superframe.proofs.ReadOnCalls.{fits-on, on-accepts, outOf, kept-long, placed-outs, test-at, tests-long, mark-first, mark-next}
+use Rattle.readonruns.proofs.Received.{facs-are, kept-rows-are, received-carries, received-good}
+use Rattle.keptcells.proofs.ReadOnCalls.{fits-on, on-accepts}
+use Rattle.readonruns.proofs.Outs.{outOf, kept-long, placed-outs, test-at, tests-long, mark-first, mark-next}
 
 -- FAC block i, SDC block i and frame i as they are handed out.
 module _ (s : Scheme) (R : List SuperFrame) where

@@ -10,10 +10,10 @@ use Rattle.settings.specs.Cells.{facCells}
 use Rattle.settings.specs.Lengths.{nMux}
 use Rattle.settings.specs.Sizes.{depth}
 use Rattle.channels.specs.declared.Scheme.{Scheme}
 use Rattle.superframe.specs.Memory.{slotSize}
 use Rattle.superframe.specs.Call.{part}
-use Rattle.superframe.specs.ReadOn.{keptCells}
+use Rattle.keptcells.specs.ReadOn.{keptCells}
 use Rattle.superframe.specs.Runs.{SuperFrame}
 
 -- Super frame m of those received, from 0; empty past the last.
 unfoldable pub receivedAt : List SuperFrame → ℕ → SuperFrame

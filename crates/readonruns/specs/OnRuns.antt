@@ -21,13 +21,13 @@ use Rattle.channels.specs.declared.Scheme.{Scheme}
 use Rattle.channels.specs.Fac.{facBlock}
 use Rattle.channels.specs.Sdc.{sdcBlock}
 use Rattle.channels.specs.Msc.{mscBlock}
 use Rattle.superframe.specs.declared.State.{State}
 use Rattle.superframe.specs.Call.{part, facBytes}
 use Rattle.superframe.specs.Code.{byteLengths, cellLengths}
 use Rattle.superframe.specs.Read.{ReadCall, answerFrames, readOf}
-use Rattle.superframe.specs.ReadOn.{ReadOnCall, lostBytes, readOnOf}
+use Rattle.keptcells.specs.ReadOn.{ReadOnCall, lostBytes, readOnOf}
 use Rattle.superframe.specs.Runs.{Begun, stateAt, memoryAt, Bits, bitsOf, SuperFrame, Reader, reading, reads, readCount, Fed, Accepts, Run, bits, cells}
-use Rattle.superframe.specs.Received.{receivedAt, receivedFac, receivedSdc, receivedRow, receivedFrame}
+use Rattle.readonruns.specs.Received.{receivedAt, receivedFac, receivedSdc, receivedRow, receivedFrame}
 
 -- Reading on is a reader as Read is; its outputs have room if those of Read have and there are seven bytes.
 abbrev pub readingOn : Reader ReadOnCall

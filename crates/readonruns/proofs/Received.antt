@@ -25,19 +25,19 @@ use Rattle.block.specs.Block.{pointsOf}
 use Rattle.block.specs.Points.{isEmpty, isPoint}
 use Rattle.channels.specs.declared.Scheme.{Scheme}
 use Rattle.channels.specs.Msc.{mscBlock}
 use Rattle.superframe.specs.Memory.{slotSize}
 use Rattle.superframe.specs.Interleaving.{sentPlace, delay}
 use Rattle.superframe.specs.Call.{part, parts}
 use Rattle.superframe.specs.Read.{rowsOf}
-use Rattle.superframe.specs.ReadOn.{keptNumber, keptCells}
+use Rattle.keptcells.specs.ReadOn.{keptNumber, keptCells}
 use Rattle.superframe.specs.Runs.{SuperFrame}
-use Rattle.superframe.specs.Received.{receivedAt, receivedFac, receivedRow, sentNumbers, carriedFrame, receivedFrame}
+use Rattle.readonruns.specs.Received.{receivedAt, receivedFac, receivedRow, sentNumbers, carriedFrame, receivedFrame}
 use Rattle.superframe.proofs.Places.{delay-cell, sent-real, sent-imaginary, cell-sent}
 use Rattle.superframe.proofs.Coding.{Coding, point-small}
 use Rattle.superframe.proofs.Reader.{covers}
 use Rattle.cellbytes.specs.Contracts.{Small}
 use Rattle.cellbytes.proofs.CellBytes.{small-pos}
 use Rattle.superframe.proofs.History.{Carries, goodCell, Good, good-point, twice}
 
 -- Rows carry the frames that are put together from them.
 module _ (s : Settings) (big : 5 ≤ nMux s) (rows : ℕ → List ℤ) where
