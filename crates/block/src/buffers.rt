@@ -85,9 +85,3 @@ pub fn small_bit_buffer() -> [u8; SMALL_BITS]
 {
     [0u8; SMALL_BITS]
 }
-
-pub fn small_coordinate_buffer() -> [i16; SMALL_NUMBERS]
-    ensures { λ r. ⌜ Long 1692 r ⌝ }
-{
-    [0i16; SMALL_NUMBERS]
-}

@@ -8,12 +8,10 @@ use block::buffers::coordinate_buffer;
 use block::buffers::place_buffer;
 use block::buffers::small_bit_buffer;
 use block::buffers::small_cell_buffer;
-use block::buffers::small_coordinate_buffer;
 use block::buffers::small_place_buffer;
 use blockplaces::tables::block_places;
 use multilevel::places::bit_count;
-ghost use Prim.Native.Nat.{_*_, _≤_};
-ghost use lib.ListN.{length};
+ghost use Prim.Native.Nat.{_≤_};
 ghost use Rattle.blockplaces.specs.Contracts.{BlockOrder};
 ghost use Rattle.blockcoder.specs.Contracts.{WorkLent};
 ghost use Rattle.blockreader.specs.Contracts.{SeveralLent, SeveralRead};
@@ -27,13 +25,13 @@ fn read_each(
     bits: &mut [u8],
     labels: &mut [u8],
     coded: &mut [u8],
-    again: &mut [i16],
     bytes: &mut [u8],
 ) -> [bool; 3]
-    requires { ⌜ SeveralLent k many (now cells) (now bytes) × WorkLent k (now bits) (now labels) (now coded) × (2 * k .cells ≤ length (now again)) ⌝ }
+    requires { ⌜ SeveralLent k many (now cells) (now bytes) × WorkLent k (now bits) (now labels) (now coded) ⌝ }
     requires { ⌜ BlockOrder k (now places) ⌝ }
     ensures { λ r. ⌜ SeveralRead k many (now (cells .entry)) (now (bytes .entry)) r (now (bytes .exit)) ⌝ }
 {
+    let mut again = coordinate_buffer();
     let n = 2 * k.cells;
     let m = (bit_count(k) + 7) / 8;
     let mut given = [true; 3];
@@ -48,7 +46,7 @@ fn read_each(
             bits,
             labels,
             coded,
-            again,
+            &mut again,
             &mut bytes[to..to + m],
         );
         i += 1;
@@ -65,7 +63,6 @@ fn read_small(k: Block, many: usize, cells: &[i16], bytes: &mut [u8]) -> [bool; 
     let mut bits = small_bit_buffer();
     let mut labels = small_cell_buffer();
     let mut coded = small_cell_buffer();
-    let mut again = small_coordinate_buffer();
     block_places(k, &mut places);
     read_each(
         k,
@@ -75,7 +72,6 @@ fn read_small(k: Block, many: usize, cells: &[i16], bytes: &mut [u8]) -> [bool; 
         &mut bits,
         &mut labels,
         &mut coded,
-        &mut again,
         bytes,
     )
 }
@@ -92,7 +88,6 @@ pub fn read_several(k: Block, many: usize, cells: &[i16], bytes: &mut [u8]) -> [
     let mut bits = bit_buffer();
     let mut labels = cell_buffer();
     let mut coded = cell_buffer();
-    let mut again = coordinate_buffer();
     block_places(k, &mut places);
     read_each(
         k,
@@ -102,7 +97,6 @@ pub fn read_several(k: Block, many: usize, cells: &[i16], bytes: &mut [u8]) -> [
         &mut bits,
         &mut labels,
         &mut coded,
-        &mut again,
         bytes,
     )
 }
