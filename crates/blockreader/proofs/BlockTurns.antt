@@ -138,14 +138,16 @@ module _ {k : Block} {many : ℕ} {cells : List ℤ} {bytes : List ℕ} (L : Sev
   pub blocks-end : {tests : List Bool} {out : List ℕ} {i : ℕ} → Blocks k many cells bytes tests out i → many ≤ i → SeveralRead k many cells bytes tests out
   blocks-end {i = i} B h = let e : i ≡ many = omega (arith, B .upto) in rw e at (B .read)
 
--- Blocks that are read into room for three.
-pub in-places : {k : Block} {n many : ℕ} {cells : List ℤ} {zeros out : List ℕ} {tests : List Bool} → SeveralRead k many cells zeros tests out
-    → n ≡ bytesFor (bitCount k) → zeros ≡ replicate (3 * n) 0 → PlacesRead k n (blocksIn k many cells) tests out
+-- Blocks that are read into room for three, zeros behind them.
+pub in-places : {k : Block} {n many : ℕ} {cells : List ℤ} {bytes out : List ℕ} {tests : List Bool} → SeveralRead k many cells bytes tests out
+    → n ≡ bytesFor (bitCount k) → drop (n * many) bytes ≡ replicate ((3 - many) * n) 0 → PlacesRead k n (blocksIn k many cells) tests out
 unfolding placedBytes blocksIn
-in-places {k} {n} {many} {cells} S e z =
-    let long : length (blocksIn k many cells) ≡ many = length-table (part (2 * k .cells) cells) 0 many in
+in-places {k} {n} {many} {cells} S e z = record { given-are = S .given-are; bytes-are = S .bytes-are ∙ rw (← e, z, length-table) }
+
+pub zeros-behind : (n many : ℕ) {zeros : List ℕ} → zeros ≡ replicate (3 * n) 0 → drop (n * many) zeros ≡ replicate ((3 - many) * n) 0
+zeros-behind n many z =
     let g : 3 * n - n * many ≡ (3 - many) * n = rw (mul-comm (3 - many) n, mul-sub n 3 many, mul-comm n 3) in
-    record { given-are = S .given-are; bytes-are = S .bytes-are ∙ rw (long, ← e, z, drop-zeros (n * many) (3 * n), g) }
+    rw (z, drop-zeros (n * many) (3 * n), g)
 
 -- One block read alone.
 module _ {k : Block} {cells : List ℤ} {bytes : List ℕ} (R : BlockLent k bytes cells) where

@@ -8,7 +8,7 @@ use native.Mathlib.Nat.{mul-left-comm, mul-comm, mul-le-mul-right, zero-add, mod
 use native.Mathlib.Omega.{arith}
 use borrow.Author.Tests.{eq-eqb, ne-eqb}
 use borrow.Rule.Slice.PartMut.{putMid}
-use lib.ListN.{length, length-append, length-drop, length-replicate, take, drop, take-append-drop}
+use lib.ListN.{length, length-append, length-drop, length-replicate, take, drop, replicate, take-append-drop}
 use lib.Seq.{take-at, drop-at, length-take-le, take-append-le, drop-append-le}
 use lib.IntN.{ℤ}
 use lib.Dec.{eqb}
@@ -42,7 +42,7 @@ use Rattle.cellmemory.specs.Contracts.{StateFits, RowLent, RowOrder, nextState}
 use Rattle.cellmemory.proofs.Ring.{slot-near, slot-far}
 use Rattle.superframe.proofs.Laid.{part-is, part-below, length-mid}
 use Rattle.cellmemory.proofs.Progress.{next-fits, memory-most}
-use Rattle.blockreader.proofs.BlockTurns.{in-places}
+use Rattle.blockreader.proofs.BlockTurns.{in-places, zeros-behind}
 
 -- The slot D - 1 before a position is the one after it.
 slot-next : (D p : ℕ) → p < D → slotBefore D p (D - 1) ≡ (p + 1) % D
@@ -287,27 +287,26 @@ module _ {state : State} {msc : List ℤ} {memory₀ out₀ : List ℕ} (lent : 
       unfolding blocksIn mscBlock slotSize
       frames-blocks = frames-are
 
-      pub frames-lent : {block : Block} → block ≡ mscBlock (state .scheme) → SeveralLent block k cells out₀
-      frames-lent b =
-          let a = lent .fits .allowed in
-          let m = frameBytes (state .scheme .settings) in
-          let long : length out₀ ≡ 3 * m = ap length (lent .zeros) ∙ length-replicate {A = ℕ} (3 * m) 0 in
-          let few : k ≤ 3 = omega (arith, all-rows, w .few) in
-          rw b (record {
-            fits = msc-fits a;
-            few = few;
-            there = unfold mscBlock in omega (arith, mul-le-mul-right (2 * nMux (state .scheme .settings)) few, w .room, a .settings .ranges .muxMost);
-            room = rw (← msc-bytes a, long) (mul-le-mul-right m few);
-          })
+      module _ {block : Block} {zeros : List ℕ} (b : block ≡ mscBlock (state .scheme)) (z : zeros ≡ replicate (length out₀) 0) where
+        pub frames-lent : SeveralLent block k cells zeros
+        frames-lent =
+            let a = lent .fits .allowed in
+            let few : k ≤ 3 = omega (arith, all-rows, w .few) in
+            rw b (record {
+              fits = msc-fits a;
+              few = few;
+              there = unfold mscBlock in omega (arith, mul-le-mul-right (2 * nMux (state .scheme .settings)) few, w .room, a .settings .ranges .muxMost);
+              room = rw (← msc-bytes a, z, length-replicate {A = ℕ} (length out₀) 0, lent .room) (mul-le-mul-right (frameBytes (state .scheme .settings)) few);
+            })
 
-      pub rows-end : {block : Block} {tests : List Bool} {out : List ℕ} → block ≡ mscBlock (state .scheme) → SeveralRead block k cells out₀ tests out
-          → RowsRead state msc memory₀ (record { given = tests; finished = k; after = after }) memory out
-      unfolding rowsOf parts
-      rows-end b S =
-          record {
-            state-is = w .state-is ∙ rw all-rows;
-            held = w .memory-is ∙ rw all-rows;
-            finished-is = w .finished-is ∙ rw all-rows;
-            few = omega (arith, all-rows, w .few);
-            places = rw frames-blocks at (in-places (rw b at S) (msc-bytes (lent .fits .allowed)) (lent .zeros));
-          }
+        pub rows-end : {tests : List Bool} {out : List ℕ} → SeveralRead block k cells zeros tests out
+            → RowsRead state msc memory₀ (record { given = tests; finished = k; after = after }) memory out
+        unfolding rowsOf parts
+        rows-end S =
+            record {
+              state-is = w .state-is ∙ rw all-rows;
+              held = w .memory-is ∙ rw all-rows;
+              finished-is = w .finished-is ∙ rw all-rows;
+              few = omega (arith, all-rows, w .few);
+              places = rw frames-blocks at (in-places (rw b at S) (msc-bytes (lent .fits .allowed)) (zeros-behind (frameBytes (state .scheme .settings)) k (z ∙ rw (lent .room))));
+            }

@@ -2,7 +2,7 @@
 use Prim.Native.Nat.{ℕ, _+_, _*_, _<_, _≤_}
 use mathlib.Core.Path.{_≡_}
 use mathlib.Core.List.{List, _++_}
-use lib.ListN.{length, replicate}
+use lib.ListN.{length}
 use lib.IntN.{ℤ}
 use Rattle.lists.specs.Lists.{table}
 use Rattle.settings.specs.Sizes.{frameBytes}
@@ -29,11 +29,11 @@ pub record FrameLaid (finished : ℕ) (state : State) (memory : List ℕ) (cells
   pub laid : let n = slotSize (state .scheme .settings) in
       table (part n cells′) 0 r ≡ table (part n cells) 0 finished ++ finishedBy (state .scheme .settings) (progressOf state memory) memory
 
--- Three rows, state and memory in order, and room for three frames of zeros.
+-- Three rows, state and memory in order, and room for three frames.
 pub record RowsLent (state : State) (msc : List ℤ) (memory out : List ℕ) : Type 0 where
   pub fits : StateFits state memory
   pub rows : 3 * slotSize (state .scheme .settings) ≤ length msc
-  pub zeros : out ≡ replicate (3 * frameBytes (state .scheme .settings)) 0
+  pub room : length out ≡ 3 * frameBytes (state .scheme .settings)
 
 -- The frames that three rows finish, and state and memory after them.
 pub record RowsRead (state : State) (msc : List ℤ) (memory : List ℕ) (r : Frames) (memory′ out′ : List ℕ) : Type 0 where

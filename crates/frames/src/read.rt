@@ -9,6 +9,7 @@ use cellmemory::rows::row_places;
 use cellmemory::rows::slot_size;
 use cellmemory::rows::take_row;
 use channels::blocks::msc_block;
+use lists::bytes::clear;
 use settings::answers;
 use superframe::State;
 ghost use Rattle.lists.specs.Buffers.{Long};
@@ -58,6 +59,7 @@ pub fn read_rows(state: State, msc: &[i16], memory: &mut [u8], out: &mut [u8]) -
         i += 1;
     }
     let k = msc_block(state.scheme);
+    clear(out);
     let given = read_several(k, finished as usize, &cells, out);
     Frames {
         given,

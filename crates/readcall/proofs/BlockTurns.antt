@@ -55,16 +55,12 @@ module _ (state : State) (memory : List ℕ) (c : ReadCall) (h : BlocksLent stat
   pub fac-lent : {k : Block} → k ≡ facBlock (state .scheme) → SeveralLent k 3 (c .faccells) (c .fac)
   unfolding facBlock facCells bytesFor facBits
   fac-lent e =
-      let long : length (c .fac) ≡ 27 = ap length (h .fac) ∙ length-replicate {A = ℕ} 27 0 in
       rw e (record {
         fits = fac-fits (state .scheme) (h .fits .allowed .table);
         few = omega arith;
         there = rw (h .cells .faclong) (omega arith);
-        room = rw (fac-bits (state .scheme), long) (omega arith);
+        room = rw (fac-bits (state .scheme), h .bytes .faclong) (omega arith);
       })
-
-  sdc-long : length (c .sdc) ≡ sdcBytes (state .scheme .settings)
-  sdc-long = ap length (h .sdc) ∙ length-replicate {A = ℕ} (sdcBytes (state .scheme .settings)) 0
 
   pub sdc-lent : {k : Block} → k ≡ sdcBlock (state .scheme) → SeveralLent k 1 (c .sdccells) (c .sdc)
   unfolding sdcBlock sdcBytes
@@ -73,16 +69,16 @@ module _ (state : State) (memory : List ℕ) (c : ReadCall) (h : BlocksLent stat
         fits = sdc-fits (h .fits .allowed);
         few = omega arith;
         there = rw (h .cells .sdclong) (omega arith);
-        room = rw (sdc-bits (state .scheme), sdc-long) (omega arith);
+        room = rw (sdc-bits (state .scheme), h .bytes .sdclong) (omega arith);
       })
 
   pub rows-lent : RowsLent state (c .msccells) memory (c .msc)
   unfolding slotSize
-  rows-lent = record { fits = h .fits; rows = omega (arith, h .cells .msclong, h .fits .allowed .settings .ranges .threeFrames); zeros = h .msc }
+  rows-lent = record { fits = h .fits; rows = omega (arith, h .cells .msclong, h .fits .allowed .settings .ranges .threeFrames); room = h .bytes .msclong }
 
   fac-read : {f : List Bool} {fac′ : List ℕ} → SeveralRead (facBlock (state .scheme)) 3 (c .faccells) (c .fac) f fac′ → PlacesRead (facBlock (state .scheme)) 9 (parts 130 (c .faccells)) f fac′
   unfolding blocksIn parts facBlock facCells bytesFor facBits
-  fac-read S = in-places S (rw (fac-bits (state .scheme))) (h .fac)
+  fac-read S = in-places S (rw (fac-bits (state .scheme))) (rw (← h .bytes .faclong) (drop-length (c .fac)))
 
   sdc-blocks : blocksIn (sdcBlock (state .scheme)) 1 (c .sdccells) ≡ c .sdccells ∷ []
   unfolding blocksIn sdcBlock table part
@@ -93,7 +89,7 @@ module _ (state : State) (memory : List ℕ) (c : ReadCall) (h : BlocksLent stat
   unfolding placedTests joined sdcBytes
   sdc-read S =
       let n : bytesFor (bitCount (sdcBlock (state .scheme))) ≡ sdcBytes (state .scheme .settings) = rw (sdc-bits (state .scheme)) in
-      let none : drop (sdcBytes (state .scheme .settings) * 1) (c .sdc) ≡ [] = rw (mul-one (sdcBytes (state .scheme .settings)), ← sdc-long) (drop-length (c .sdc)) in
+      let none : drop (sdcBytes (state .scheme .settings) * 1) (c .sdc) ≡ [] = rw (mul-one (sdcBytes (state .scheme .settings)), ← h .bytes .sdclong) (drop-length (c .sdc)) in
       (rw (S .given-are, sdc-blocks), S .bytes-are ∙ rw (sdc-blocks, n, none, append-nil, append-nil))
 
   pub blocks-read : (f d : List Bool) (r : Frames) (memory′ fac′ sdc′ msc′ : List ℕ) → {k l : Block} → k ≡ facBlock (state .scheme) → l ≡ sdcBlock (state .scheme)

@@ -150,17 +150,12 @@ module _ (state : State) (memory : List ℕ) (c : ReadCall) (w : ReadPasses stat
   pub fac-room : length (c .fac) ≡ 27
   fac-room = facts .bytes .faclong
 
-  -- Its cells, a copy of memory and buffers of zeros.
-  pub blocks-lent : (work fac sdc msc : List ℕ) → work ≡ memory → fac ≡ replicate 27 0 → sdc ≡ replicate (length (c .sdc)) 0 → msc ≡ replicate (length (c .msc)) 0
+  -- Its cells, a copy of memory and working buffers.
+  pub blocks-lent : (work fac sdc msc : List ℕ) → work ≡ memory → length fac ≡ 27 → length sdc ≡ length (c .sdc) → length msc ≡ length (c .msc)
       → BlocksLent state work (readCall (c .faccells) (c .sdccells) (c .msccells) fac sdc msc)
   blocks-lent work fac sdc msc e f g h =
-      record {
-        fits = rw e in-order;
-        cells = facts .cells;
-        fac = f;
-        sdc = g ∙ rw (facts .bytes .sdclong);
-        msc = h ∙ rw (facts .bytes .msclong);
-      }
+      let b = facts .bytes in
+      record { fits = rw e in-order; cells = facts .cells; bytes = record { faclong = f; sdclong = g ∙ b .sdclong; msclong = h ∙ b .msclong } }
 
   abbrev tests : List Bool
   tests = givenTests (state .scheme) (progressOf state memory) c
@@ -231,15 +226,7 @@ module _ (state : State) (memory : List ℕ) (c : ReadCall) (w : ReadPasses stat
           )
           (sym (read-accepts state memory c (w .order) (w .points) all-given))
 
--- The front of a working buffer: zeros cut short, and what was written there.
-pub take-zeros : (a b : ℕ) → a ≤ b → take (a - 0) (replicate {A = ℕ} b 0) ≡ replicate a 0
-take-zeros a b h = rw sub-zero (go a b h)
-  where
-    go : (a b : ℕ) → a ≤ b → take a (replicate {A = ℕ} b 0) ≡ replicate a 0
-    go zero b h = refl
-    go (suc a) zero h = absurd (omega arith)
-    go (suc a) (suc b) h = ap (λ (l : List ℕ). 0 ∷ l) (go a b (omega arith))
-
+-- The front of a working buffer: what was written there.
 pub front-in : {A : Type 0} (n : ℕ) (v rest : List A) → length v ≡ n → n ≤ length (v ++ rest)
 front-in n v rest e = rw length-append (omega arith)
 

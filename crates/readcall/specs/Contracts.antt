@@ -3,7 +3,7 @@ use Prim.Native.Nat.{ℕ, _*_}
 use mathlib.Core.Path.{_≡_}
 use mathlib.Core.Bool.{true}
 use mathlib.Core.List.{List, _∷_, _++_}
-use lib.ListN.{length, replicate}
+use lib.ListN.{length}
 use lib.IntN.{ℤ}
 use Rattle.settings.specs.Cells.{facCells}
 use Rattle.settings.specs.Sizes.{frameBytes, sdcBytes}
@@ -15,11 +15,11 @@ use Rattle.channels.specs.Msc.{mscBlock}
 use Rattle.superframe.specs.declared.State.{State}
 use Rattle.superframe.specs.declared.Reading.{Reading}
 use Rattle.superframe.specs.Interleaving.{afterRows, finishedFrames}
-use Rattle.superframe.specs.Call.{parts, facBytes}
+use Rattle.superframe.specs.Call.{parts}
 use Rattle.superframe.specs.Code.{progressOf, stateOf}
 use Rattle.superframe.specs.Read.{ReadCall, ReadYield, rowsOf, pointTests, orderRefusal}
 use Rattle.superframe.specs.Blocks.{keptBytes, placedBytes, placedTests}
-use Rattle.superframe.specs.Contracts.{CellsFit}
+use Rattle.superframe.specs.Contracts.{BytesFit, CellsFit}
 use Rattle.cellmemory.specs.Contracts.{StateFits}
 use Rattle.readcall.specs.declared.Blocks.{Blocks}
 
@@ -31,13 +31,11 @@ readCall faccells sdccells msccells fac sdc msc =
 abbrev pub readYield : Reading → List ℕ → List ℕ → List ℕ → List ℕ → ReadYield
 readYield reading memory fac sdc msc = record { reading = reading; memory = memory; fac = fac; sdc = sdc; msc = msc }
 
--- The cells of a call, state and memory in order, and bytes that are zero.
+-- The cells of a call, state and memory in order, and room for the bytes.
 pub record BlocksLent (state : State) (memory : List ℕ) (c : ReadCall) : Type 0 where
   pub fits : StateFits state memory
   pub cells : CellsFit (state .scheme .settings) (c .faccells) (c .sdccells) (c .msccells)
-  pub fac : c .fac ≡ replicate (3 * facBytes) 0
-  pub sdc : c .sdc ≡ replicate (sdcBytes (state .scheme .settings)) 0
-  pub msc : c .msc ≡ replicate (3 * frameBytes (state .scheme .settings)) 0
+  pub bytes : BytesFit (state .scheme .settings) (c .fac) (c .sdc) (c .msc)
 
 -- The FAC blocks of a call, and the frames that it finishes.
 abbrev pub facsOf : ReadCall → List (List ℤ)

@@ -7,7 +7,7 @@ use frames::read::read_rows;
 use superframe::State;
 ghost use Rattle.readcall.specs.Contracts.{readCall, BlocksLent, BlocksRead};
 
-// Every block of a call that no number up to 12 refuses, into buffers of zeros; memory goes on by three rows.
+// Every block of a call that no number up to 12 refuses, into its place; memory goes on by three rows.
 pub fn read_blocks(
     state: State,
     faccells: &[i16],

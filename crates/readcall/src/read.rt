@@ -15,10 +15,8 @@ use settings::tables::FAC_BYTES;
 use superframe::Answer;
 use superframe::Reading;
 use superframe::State;
-ghost use Prim.Native.Nat.{_*_};
 ghost use mathlib.Core.Path.{_≡_};
-ghost use lib.ListN.{replicate};
-ghost use Rattle.superframe.specs.Call.{facBytes};
+ghost use Rattle.lists.specs.Buffers.{Long};
 ghost use Rattle.superframe.specs.Code.{byteLengths, cellLengths};
 ghost use Rattle.superframe.specs.Read.{orderRefusal, readOf};
 ghost use Rattle.callrefusals.specs.Contracts.{refusalThen};
@@ -81,24 +79,24 @@ fn order_refusal(
 
 // Working buffers for the largest settings, each from a function of its own: proofs then take its length and do not write it out.
 fn fac_buffer() -> [u8; 3 * FAC_BYTES]
-    ensures { λ r. ⌜ r ≡ replicate (3 * facBytes) 0 ⌝ }
+    ensures { λ r. ⌜ Long 27 r ⌝ }
 {
     [0u8; 3 * FAC_BYTES]
 }
 
 fn sdc_buffer() -> [u8; MOST_SDC_BYTES]
-    ensures { λ r. ⌜ r ≡ replicate 210 0 ⌝ }
+    ensures { λ r. ⌜ Long 210 r ⌝ }
 {
     [0u8; MOST_SDC_BYTES]
 }
 
 fn msc_buffer() -> [u8; MOST_MSC_BYTES]
-    ensures { λ r. ⌜ r ≡ replicate 13767 0 ⌝ }
+    ensures { λ r. ⌜ Long 13767 r ⌝ }
 {
     [0u8; MOST_MSC_BYTES]
 }
 
-// A call that no number up to 13 refuses: all blocks are read first, on a copy of memory and into buffers of zeros; then 14, or everything is handed out.
+// A call that no number up to 13 refuses: all blocks are read first, on a copy of memory and into buffers; then 14, or everything is handed out.
 fn read_whole(
     state: State,
     faccells: &[i16],

@@ -5,7 +5,7 @@ use mathlib.Core.Bool.{Bool, true, false, not, _&&_}
 use mathlib.Core.Logic.{_⊎_, inl, inr}
 use mathlib.Core.List.{List, map}
 use native.Mathlib.Omega.{arith}
-use lib.ListN.{length, replicate}
+use lib.ListN.{length}
 use lib.IntN.{ℤ}
 use lib.Dec.{eqb, ltb}
 use borrow.Author.Tests.{eq-eqb, ne-eqb}
@@ -26,7 +26,7 @@ use Rattle.callrefusals.proofs.Chains.{first-own-hold, then-stops, then-goes-on
 use Rattle.readcall.specs.declared.Blocks.{Blocks}
 use Rattle.readcall.specs.Contracts.{readCall, blocksOf, BlocksLent, BlocksRead}
 use Rattle.keptcells.specs.Contracts.{CellsKept, ReadOnFits}
-use Rattle.readoncall.specs.Contracts.{readOnCall, readOnYield, refusalAfter, KeptLent}
+use Rattle.readoncall.specs.Contracts.{readOnCall, readOnYield, refusalAfter}
 
 -- Two tests of one number.
 two-tests : (a b : Bool) (n m : ℕ) → first (not a) n (first (not b) n m) ≡ first (not (a && b)) n m
@@ -69,32 +69,26 @@ kept-long s cells = length-table _ 0 (length cells)
 
 -- What is known of a call that no number refuses.
 module _ (state : State) (memory : List ℕ) (faccells sdccells msccells : List ℤ) (fac sdc msc : List ℕ)
-    (w : KeptLent state memory (readCall faccells sdccells msccells fac sdc msc)) where
+    (w : BlocksLent state memory (readCall faccells sdccells msccells fac sdc msc)) where
   pub cells-most : length msccells ≤ 36712
   cells-most = omega (arith, w .cells .msclong, w .fits .allowed .settings .ranges .fillers, w .fits .allowed .settings .ranges .muxMost)
 
   pub cells-kept : (out : List ℤ) → length out ≡ length msccells → CellsKept (state .scheme) msccells out
   cells-kept out e = record { known = omega (arith, w .fits .allowed .settings .ranges .partA .mscLow); pairs = omega (arith, w .cells .msclong); room = e }
 
-  pub blocks-lent : (kept : List ℤ) (fac′ sdc′ msc′ : List ℕ) → kept ≡ keptCells (state .scheme) msccells
-      → fac′ ≡ replicate (length fac) 0 → sdc′ ≡ replicate (length sdc) 0 → msc′ ≡ replicate (length msc) 0
-      → BlocksLent state memory (readCall faccells sdccells kept fac′ sdc′ msc′)
-  blocks-lent kept fac′ sdc′ msc′ e f d m =
+  pub blocks-lent : (kept : List ℤ) → kept ≡ keptCells (state .scheme) msccells → BlocksLent state memory (readCall faccells sdccells kept fac sdc msc)
+  blocks-lent kept e =
       record {
         fits = w .fits;
         cells = record { faclong = w .cells .faclong; sdclong = w .cells .sdclong; msclong = rw e (kept-long (state .scheme) msccells ∙ w .cells .msclong) };
-        fac = f ∙ rw (w .bytes .faclong);
-        sdc = d ∙ rw (w .bytes .sdclong);
-        msc = m ∙ rw (w .bytes .msclong);
+        bytes = w .bytes;
       }
 
--- What the blocks are does not go by the bytes that were lent, and it goes by the cells that are kept.
-pub blocks-kept : (state : State) (memory : List ℕ) (faccells sdccells kept kept′ : List ℤ) (fac sdc msc fac′ sdc′ msc′ : List ℕ) → kept ≡ kept′
+-- What the blocks are goes by the cells that are kept.
+pub blocks-kept : (state : State) (memory : List ℕ) (faccells sdccells kept kept′ : List ℤ) (fac sdc msc : List ℕ) → kept ≡ kept′
     → (r : Blocks) (memory″ fac″ sdc″ msc″ : List ℕ) → BlocksRead state memory (readCall faccells sdccells kept fac sdc msc) r memory″ fac″ sdc″ msc″
-    → BlocksRead state memory (readCall faccells sdccells kept′ fac′ sdc′ msc′) r memory″ fac″ sdc″ msc″
-unfolding blocksOf
-blocks-kept state memory faccells sdccells kept kept′ fac sdc msc fac′ sdc′ msc′ e r memory″ fac″ sdc″ msc″ B =
-    record { blocks = B .blocks ∙ rw e; held = B .held ∙ rw e; fac = B .fac; sdc = B .sdc; msc = B .msc ∙ rw e }
+    → BlocksRead state memory (readCall faccells sdccells kept′ fac sdc msc) r memory″ fac″ sdc″ msc″
+blocks-kept state memory faccells sdccells kept kept′ fac sdc msc e r memory″ fac″ sdc″ msc″ B = rw e at B
 
 -- An accepted and a refused call, by the number of the lengths and what follows it.
 module _ (state : State) (memory : List ℕ) (faccells sdccells msccells : List ℤ) (fac sdc msc lost : List ℕ) (n : ℕ)
@@ -130,7 +124,7 @@ module _ (state : State) (memory : List ℕ) (faccells sdccells msccells : List 
     pub accepted-seven : length lost ≡ lostBytes
     accepted-seven = fits .seven
 
-    pub accepted-lent : KeptLent state memory (readCall faccells sdccells msccells fac sdc msc)
+    pub accepted-lent : BlocksLent state memory (readCall faccells sdccells msccells fac sdc msc)
     unfolding memoryLength
     accepted-lent =
         record {

@@ -9,10 +9,7 @@ use Rattle.settings.specs.Refusal.{first}
 use Rattle.superframe.specs.declared.State.{State}
 use Rattle.superframe.specs.declared.Reading.{Reading}
 use Rattle.superframe.specs.Call.{inOrder}
-use Rattle.superframe.specs.Read.{ReadCall}
 use Rattle.keptcells.specs.ReadOn.{lostBytes, ReadOnCall, ReadOnYield}
-use Rattle.superframe.specs.Contracts.{BytesFit, CellsFit}
-use Rattle.cellmemory.specs.Contracts.{StateFits}
 use Rattle.readcall.specs.Contracts.{readCall, readYield}
 
 -- What a call that reads on is lent, and what it yields.
@@ -27,9 +24,3 @@ readOnYield reading memory fac sdc msc lost = record { yield = readYield reading
 unfoldable pub refusalAfter : ℕ → State → List ℕ → List ℕ → ℕ
 refusalAfter lengths state memory lost =
     first (ltb 0 lengths) lengths (first (not (eqb (length lost) lostBytes)) 10 (first (not (inOrder true state memory)) 12 0))
-
--- State, memory and buffers of a call that no number refuses.
-pub record KeptLent (state : State) (memory : List ℕ) (c : ReadCall) : Type 0 where
-  pub fits : StateFits state memory
-  pub cells : CellsFit (state .scheme .settings) (c .faccells) (c .sdccells) (c .msccells)
-  pub bytes : BytesFit (state .scheme .settings) (c .fac) (c .sdc) (c .msc)

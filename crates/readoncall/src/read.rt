@@ -3,7 +3,6 @@ use block::buffers::MOST_NUMBERS;
 use callrefusals::refusal::in_order;
 use keptcells::kept::keep_cells;
 use keptcells::kept::mark_lost;
-use lists::bytes::clear;
 use readcall::Blocks;
 use readcall::places::read_blocks;
 use readcall::read::read_lengths;
@@ -14,8 +13,8 @@ ghost use mathlib.Core.Path.{_≡_};
 ghost use Rattle.lists.specs.Buffers.{Long};
 ghost use Rattle.keptcells.specs.ReadOn.{keptCells, readOnOf};
 ghost use Rattle.superframe.specs.Contracts.{Fits};
-ghost use Rattle.readcall.specs.Contracts.{readCall, BlocksRead};
-ghost use Rattle.readoncall.specs.Contracts.{readOnCall, readOnYield, refusalAfter, KeptLent};
+ghost use Rattle.readcall.specs.Contracts.{readCall, BlocksLent, BlocksRead};
+ghost use Rattle.readoncall.specs.Contracts.{readOnCall, readOnYield, refusalAfter};
 
 // A byte for each of three FAC blocks, the SDC block and three frames.
 const LOST_BYTES: usize = 7;
@@ -58,7 +57,7 @@ fn read_kept(
     sdc: &mut [u8],
     msc: &mut [u8],
 ) -> Blocks
-    requires { ⌜ KeptLent state (now memory) (readCall (now faccells) (now sdccells) (now msccells) (now fac) (now sdc) (now msc)) ⌝ }
+    requires { ⌜ BlocksLent state (now memory) (readCall (now faccells) (now sdccells) (now msccells) (now fac) (now sdc) (now msc)) ⌝ }
     ensures { λ r. ⌜ BlocksRead state (now (memory .entry))
         (readCall (now (faccells .entry)) (now (sdccells .entry)) (keptCells (state .scheme) (now (msccells .entry)))
         (now (fac .entry)) (now (sdc .entry)) (now (msc .entry)))
@@ -67,9 +66,6 @@ fn read_kept(
     let mut kept = cell_buffer();
     let n = msccells.len();
     keep_cells(state.scheme, msccells, &mut kept[0..n]);
-    clear(fac);
-    clear(sdc);
-    clear(msc);
     read_blocks(
         state,
         faccells,

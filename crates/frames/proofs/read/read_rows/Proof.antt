@@ -61,14 +61,14 @@ msc-block-requires : tie.Need-msc-block-requires Inv-loop μ-loop
 msc-block-requires c κs = c .before .before .before .before .before .before .before .before .before .before .pre .fits .allowed
 
 read-several-requires : tie.Need-read-several-requires Inv-loop μ-loop
-read-several-requires c κs = let b = c .before .before .before in frames-lent (b .before .before .before .before .before .before .before .before .before .before .pre) (b .before .loop .inv) (b .loop-test .left) (c .before .before .msc-block .ensures)
+read-several-requires c κs = let b = c .before .before .before .before .before .before .before in frames-lent (b .before .before .before .before .before .before .before .before .before .before .pre) (b .before .loop .inv) (b .loop-test .left) (c .before .before .before .before .before .before .msc-block .ensures) (c .before .before .before .before .clear .ensures)
 
 same-length : tie.Need-same-length Inv-loop μ-loop
-same-length c = c .before .before .before .before .before .before .before .loop .inv .same
+same-length c = c .before .before .before .before .before .before .before .before .before .before .before .loop .inv .same
 
 returns : tie.Need-returns Inv-loop μ-loop
-returns c = let b = c .before .before .before .before .before .before in rows-end (b .before .before .before .before .before .before .before .before .before .before .pre) (b .before .loop .inv) (b .loop-test .left) (c .before .before .before .before .before .msc-block .ensures) (c .before .before .read-several .ensures)
+returns c = let b = c .before .before .before .before .before .before .before .before .before .before in rows-end (b .before .before .before .before .before .before .before .before .before .before .pre) (b .before .loop .inv) (b .loop-test .left) (c .before .before .before .before .before .before .before .before .before .msc-block .ensures) (c .before .before .before .before .before .before .before .clear .ensures) (c .before .before .read-several .ensures)
 
 pub read-rows-spec : {M : Type 1} → statement M
 read-rows-spec =
-    tie.close (tie.spec Inv-loop μ-loop slot-size-requires (λ c κs. search needs) (λ c. search needs) row-places-requires (λ c κs. search needs) loop-holds mul-at (λ c. search needs) add-take-row mul-take-row (λ c. search needs) (λ c. search needs) part-take-row-end take-row-requires (λ c. search needs) lay-finished-requires next-state-requires (λ c. search needs) (λ c. search needs) loop-again msc-block-requires (λ c. search needs) (λ c. search needs) read-several-requires same-length (λ c. search needs) returns)
+    tie.close (tie.spec Inv-loop μ-loop slot-size-requires (λ c κs. search needs) (λ c. search needs) row-places-requires (λ c κs. search needs) loop-holds mul-at (λ c. search needs) add-take-row mul-take-row (λ c. search needs) (λ c. search needs) part-take-row-end take-row-requires (λ c. search needs) lay-finished-requires next-state-requires (λ c. search needs) (λ c. search needs) loop-again msc-block-requires (λ c κs. search needs) (λ c. search needs) (λ c. search needs) read-several-requires same-length (λ c. search needs) returns)

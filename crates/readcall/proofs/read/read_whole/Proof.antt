@@ -1,35 +1,35 @@
 -- `read::read_whole` meets its contract. Assumes nothing.
-use Prim.Native.Nat.{ℕ}
 use mathlib.Core.Path.{_≡_, sym, ap, _∙_}
 use native.Mathlib.Omega.{arith}
 use borrow.Author.Needs.{needs}
-use lib.ListN.{length, length-replicate}
+use lib.ListN.{length}
 use Rattle.lists.proofs.Parts.{length-start}
-use Rattle.readcall.proofs.ReadParts.{bytes-most, sdc-most, msc-most, fac-room, blocks-lent, refused-blocks, accepted-blocks, take-zeros, front-in, front-is}
+use Rattle.readcall.proofs.ReadParts.{bytes-most, sdc-most, msc-most, fac-room, blocks-lent, refused-blocks, accepted-blocks, front-in, front-is}
 use Rattle.readcall.proofs.read.read_whole.Statement.{statement}
 use Rattle.readcall.proofs.read.read_whole.Tie as tie
 
 read-blocks-requires : tie.Need-read-blocks-requires
 read-blocks-requires c κs =
     let p = c .before .before .before .before .before .before .before .before .before .before .before .before .before .before .before .before .pre in
-    blocks-lent _ _ _ p _ _ _ _ (front-is _ _ _ (ap length (c .before .before .before .before .before .copy .ensures)) ∙ c .before .before .before .before .before .copy .ensures) (c .before .before .before .before .before .before .before .before .before .before .fac-buffer .ensures)
-    (rw (c .before .before .before .before .before .before .before .before .before .sdc-buffer .ensures) (take-zeros _ 210 (sdc-most _ _ _ p))) (rw (c .before .before .before .before .before .before .before .before .msc-buffer .ensures) (take-zeros _ 13767 (msc-most _ _ _ p)))
+    let e = c .before .before .before .before .before .copy .ensures in
+    blocks-lent _ _ _ p _ _ _ _ (front-is _ _ _ (ap length e) ∙ e) (c .before .before .before .before .before .before .before .before .before .before .fac-buffer .ensures .long) (length-start _ _ (omega (arith, c .before .before .before .before .before .before .before .before .before .sdc-buffer .ensures .long, sdc-most _ _ _ p)))
+    (length-start _ _ (omega (arith, c .before .before .before .before .before .before .before .before .msc-buffer .ensures .long, msc-most _ _ _ p)))
 
 -- What stands in the working buffers is as long as the lent ones.
 work-long : (c : tie.After-read-blocks) → length (c .read-blocks .last .1 .1 .1 .1 .0) ≡ length (c .before .before .before .before .before .before .before .before .before .before .before .before .before .before .before .before .before .args .memory .now)
 work-long c = c .read-blocks .kept .1 .1 .1 .1 .0 ∙ length-start _ _ (front-in _ (c .before .before .before .before .before .before .copy .last .1 .0) _ (ap length (c .before .before .before .before .before .before .copy .ensures)))
 
 fac-long : (c : tie.After-read-blocks) → length (c .read-blocks .last .1 .1 .1 .1 .1 .0) ≡ 27
-fac-long c = c .read-blocks .kept .1 .1 .1 .1 .1 .0 ∙ ap length (c .before .before .before .before .before .before .before .before .before .before .before .fac-buffer .ensures) ∙ length-replicate {A = ℕ} 27 0
+fac-long c = c .read-blocks .kept .1 .1 .1 .1 .1 .0 ∙ c .before .before .before .before .before .before .before .before .before .before .before .fac-buffer .ensures .long
 
 sdc-long : (c : tie.After-read-blocks) → length (c .read-blocks .last .1 .1 .1 .1 .1 .1 .0) ≡ length (c .before .before .before .before .before .before .before .before .before .before .before .before .before .before .before .before .before .args .sdc .now)
 sdc-long c =
-    let l = ap length (c .before .before .before .before .before .before .before .before .before .before .sdc-buffer .ensures) ∙ length-replicate {A = ℕ} 210 0 in
+    let l = c .before .before .before .before .before .before .before .before .before .before .sdc-buffer .ensures .long in
     c .read-blocks .kept .1 .1 .1 .1 .1 .1 .0 ∙ length-start _ _ (omega (arith, l, sdc-most _ _ _ (c .before .before .before .before .before .before .before .before .before .before .before .before .before .before .before .before .before .pre)))
 
 msc-long : (c : tie.After-read-blocks) → length (c .read-blocks .last .1 .1 .1 .1 .1 .1 .1 .0) ≡ length (c .before .before .before .before .before .before .before .before .before .before .before .before .before .before .before .before .before .args .msc .now)
 msc-long c =
-    let l = ap length (c .before .before .before .before .before .before .before .before .before .msc-buffer .ensures) ∙ length-replicate {A = ℕ} 13767 0 in
+    let l = c .before .before .before .before .before .before .before .before .before .msc-buffer .ensures .long in
     c .read-blocks .kept .1 .1 .1 .1 .1 .1 .1 .0 ∙ length-start _ _ (omega (arith, l, msc-most _ _ _ (c .before .before .before .before .before .before .before .before .before .before .before .before .before .before .before .before .before .pre)))
 
 returns : tie.Need-returns

@@ -18,20 +18,14 @@ keep-cells-requires c κs =
     cells-kept _ _ _ _ _ _ _ _ p _ (length-start _ _ (omega (arith, cells-most _ _ _ _ _ _ _ _ p, c .before .cell-buffer .ensures .long)))
 
 part-read-blocks-end : tie.Need-part-read-blocks-end
-part-read-blocks-end c = front-in _ (c .before .before .before .before .before .before .before .before .before .before .before .before .before .before .keep-cells .last .1 .1 .0) _ (ap length (c .before .before .before .before .before .before .before .before .before .before .before .before .before .before .keep-cells .ensures) ∙ kept-long _ _)
+part-read-blocks-end c = let k = c .before .before .keep-cells in front-in _ (k .last .1 .1 .0) _ (ap length (k .ensures) ∙ kept-long _ _)
 
 read-blocks-requires : tie.Need-read-blocks-requires
-read-blocks-requires c κs =
-    blocks-lent _ _ _ _ _ _ _ _ (c .before .before .before .before .before .before .before .before .before .before .before .before .before .before .before .before .before .before .before .before .before .before .before .before .before .before .pre) _ _ _ _ (front-is _ _ _ (ap length (c .before .before .before .before .before .before .before .before .before .before .before .before .before .before .before .before .before .before .before .keep-cells .ensures) ∙ kept-long _ _) ∙ c .before .before .before .before .before .before .before .before .before .before .before .before .before .before .before .before .before .before .before .keep-cells .ensures)
-    (c .before .before .before .before .before .before .before .before .before .before .before .before .before .before .before .before .clear .ensures) (c .before .before .before .before .before .before .before .before .before .before .before .before .clear2 .ensures) (c .before .before .before .before .before .before .before .before .clear3 .ensures)
+read-blocks-requires c κs = let e = c .before .before .before .before .before .before .before .keep-cells .ensures in blocks-lent _ _ _ _ _ _ _ _ (c .before .before .before .before .before .before .before .before .before .before .before .before .before .before .pre) _ (front-is _ _ _ (ap length e ∙ kept-long _ _) ∙ e)
 
 returns : tie.Need-returns
-returns c =
-    blocks-kept _ _ _ _ _ _ _ _ _ _ _ _ (front-is _ _ _ (ap length (c .before .before .before .before .before .before .before .before .before .before .before .before .before .before .before .before .before .before .before .before .before .before .before .before .before .before .before .before .keep-cells .ensures) ∙ kept-long _ _) ∙ c .before .before .before .before .before .before .before .before .before .before .before .before .before .before .before .before .before .before .before .before .before .before .before .before .before .before .before .before .keep-cells .ensures) _ _ _ _ _
-    (c .before .before .before .before .before .before .before .before .read-blocks .ensures)
+returns c = let e = c .before .before .before .before .before .before .before .before .before .before .before .before .before .before .before .before .keep-cells .ensures in blocks-kept _ _ _ _ _ _ _ _ _ (front-is _ _ _ (ap length e ∙ kept-long _ _) ∙ e) _ _ _ _ _ (c .before .before .before .before .before .before .before .before .read-blocks .ensures)
 
 pub read-kept-spec : {M : Type 1} → statement M
 read-kept-spec =
-    tie.close (tie.spec (λ c κs. search needs) (λ c. search needs) (λ c. search needs) part-kept-end keep-cells-requires (λ c κs. search needs)
-    (λ c κs. search needs) (λ c κs. search needs) (λ c. search needs) (λ c. search needs) part-read-blocks-end read-blocks-requires
-    (λ c. search needs) (λ c. search needs) (λ c. search needs) (λ c. search needs) returns)
+    tie.close (tie.spec (λ c κs. search needs) (λ c. search needs) (λ c. search needs) part-kept-end keep-cells-requires (λ c. search needs) (λ c. search needs) part-read-blocks-end read-blocks-requires (λ c. search needs) (λ c. search needs) (λ c. search needs) (λ c. search needs) returns)
