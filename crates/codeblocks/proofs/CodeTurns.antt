@@ -80,7 +80,7 @@ unfolding part
 frame-of {c} h msc i l = rw (cells-are c, bytes-are h) at (each-block (mscBlock c) 3 msc i l)
 
 -- A frame's cells in their slot: memory has it.
-module _ (state : State) (memory : List ℕ) (cells : List ℤ) (h : RowLent state memory cells) where
+module _ {state : State} {memory : List ℕ} {cells : List ℤ} (h : RowLent state memory cells) where
   half : length cells / 2 ≡ nMux (state .scheme .settings)
   unfolding slotSize
   half = omega (arith, h .long)
@@ -97,11 +97,11 @@ module _ (state : State) (memory : List ℕ) (cells : List ℤ) (h : RowLent sta
       ≡ 2 * length (take (state .position * (length cells / 2) + length cells / 2 - state .position * (length cells / 2)) (drop (state .position * (length cells / 2)) memory))
   packs = rw (length-mid (state .position * (length cells / 2)) (length cells / 2) memory slot-within) whole
 
-  pub frame-stored : (last : List ℕ) → last ≡ bytes cells
+  pub frame-stored : {last : List ℕ} → last ≡ bytes cells
       → putMid (state .position * (length cells / 2)) (state .position * (length cells / 2) + length cells / 2 - state .position * (length cells / 2)) memory last
       ≡ stored (slotSize (state .scheme .settings)) memory (state .position) cells
   unfolding stored slotSize
-  frame-stored last e =
+  frame-stored {last} e =
       let m = nMux (state .scheme .settings) in
       let n = length cells / 2 in
       let at : state .position * (2 * m) / 2 ≡ state .position * n = omega (arith, mul-left-comm (state .position) 2 m, ap (λ x. state .position * x) half) in
@@ -109,8 +109,8 @@ module _ (state : State) (memory : List ℕ) (cells : List ℤ) (h : RowLent sta
       put-sets (state .position * n) (state .position * n + n) memory last (omega arith) slot-within (omega arith) ∙ rw (at, e)
 
   -- Then a row can be sent.
-  pub frame-sends : (memory′ : List ℕ) → memory′ ≡ stored (slotSize (state .scheme .settings)) memory (state .position) cells → RowLent state memory′ cells
-  frame-sends memory′ e =
+  pub frame-sends : {memory′ : List ℕ} → memory′ ≡ stored (slotSize (state .scheme .settings)) memory (state .position) cells → RowLent state memory′ cells
+  frame-sends e =
       let w = h .fits in
       record {
         fits = record { allowed = w .allowed; position = w .position; count = w .count; slots = ap length e ∙ length-stored (slotSize (state .scheme .settings)) memory (state .position) cells ∙ w .slots };
@@ -163,15 +163,15 @@ frames-within h e = omega (arith, e, h .numbers, h .fits .allowed .settings .ran
 pub numbers-low : {state : State} {msc memory : List ℕ} {cells : List ℤ} → MscFits state msc memory cells → length cells ≤ 36712
 numbers-low h = let a = h .fits .allowed .settings in omega (arith, h .numbers, a .ranges .muxMost, a .ranges .fillers)
 
-module _ (state : State) (msc : List ℕ) (memory₀ : List ℕ) where
-  pub frames-lent : (cells : List ℤ) (n : ℕ) → MscFits state msc memory₀ cells → n ≡ slotSize (state .scheme .settings) → BlocksLent (mscBlock (state .scheme)) 3 msc (take (3 * n - 0) cells)
-  frames-lent cells n h e = msc-blocks (h .fits .allowed) (h .input) (length-start (3 * n) cells (frames-within h e) ∙ rw e)
+module _ {state : State} {msc : List ℕ} {memory₀ : List ℕ} where
+  pub frames-lent : {cells : List ℤ} {n : ℕ} → MscFits state msc memory₀ cells → n ≡ slotSize (state .scheme .settings) → BlocksLent (mscBlock (state .scheme)) 3 msc (take (3 * n - 0) cells)
+  frames-lent {cells} {n} h e = msc-blocks (h .fits .allowed) (h .input) (length-start (3 * n) cells (frames-within h e) ∙ rw e)
 
-  pub coding-start : (cells : List ℤ) (n : ℕ) (made : List ℤ) → MscFits state msc memory₀ cells → n ≡ slotSize (state .scheme .settings)
+  pub coding-start : {cells : List ℤ} {n : ℕ} {made : List ℤ} → MscFits state msc memory₀ cells → n ≡ slotSize (state .scheme .settings)
       → made ≡ cellsOfEach (mscBlock (state .scheme)) 3 msc
       → Coding state msc memory₀ (made ++ drop (3 * n - 0) cells) n memory₀ (made ++ drop (3 * n - 0) cells) state 0
   unfolding stateOf progressOf afterFrames sentRows table
-  coding-start cells n made h e f =
+  coding-start {cells} {n} {made} h e f =
       record {
         lent = record { fits = h .fits; input = h .input; numbers = length-written cells made (3 * n) (frames-within h e) long-made ∙ h .numbers };
         numbers-are = e;
@@ -190,8 +190,8 @@ module _ (state : State) (msc : List ℕ) (memory₀ : List ℕ) where
       long-made : length made ≡ 3 * n
       long-made = ap length f ∙ three-long (state .scheme) msc ∙ omega (arith, e)
 
-module _ (state : State) (msc : List ℕ) (memory₀ : List ℕ) (cells₀ : List ℤ) (n : ℕ) where
-  module _ (memory : List ℕ) (cells : List ℤ) (after : State) (i : ℕ) (w : Coding state msc memory₀ cells₀ n memory cells after i) where
+module _ {state : State} {msc : List ℕ} {memory₀ : List ℕ} {cells₀ : List ℤ} {n : ℕ} where
+  module _ {memory : List ℕ} {cells : List ℤ} {after : State} {i : ℕ} (w : Coding state msc memory₀ cells₀ n memory cells after i) where
     -- The rows lie within the cells.
     pub rows-within : 3 * n ≤ length cells
     rows-within = omega (arith, w .long, frames-within (w .lent) (w .numbers-are))
@@ -224,11 +224,11 @@ module _ (state : State) (msc : List ℕ) (memory₀ : List ℕ) (cells₀ : Lis
         rw (drop-append-le (n * i) all (w .behind) (omega arith)) (take-append-le n (drop (n * i) all) (w .behind) (rw length-drop (omega arith))) in
         ap (λ x. take x (drop (n * i) cells)) one ∙ ap (take n) (w .rest ∙ ap (drop (n * i)) (w .coded)) ∙ first ∙ rw (w .numbers-are) (frame-of (w .lent .fits .allowed) msc i h)
 
-    pub coding-turn : (memory′ : List ℕ) (row : List ℤ) (after′ : State) → i < 3
+    pub coding-turn : {memory′ : List ℕ} {row : List ℤ} {after′ : State} → i < 3
         → FrameSent after (take (n * i + n - n * i) (drop (n * i) cells)) memory memory′ row → length memory′ ≡ length memory → after′ ≡ nextState after
         → Coding state msc memory₀ cells₀ n memory′ (putMid (n * i) (n * i + n - n * i) cells row) after′ (i + 1)
     unfolding stateOf advanced progressOf
-    coding-turn memory′ row after′ h c l e =
+    coding-turn {memory′} {row} h c l e =
         let b = coding-within h in
         let s = state .scheme in
         let r = framesAfter state memory₀ (frames-to s msc i) in
@@ -265,10 +265,10 @@ module _ (state : State) (msc : List ℕ) (memory₀ : List ℕ) (cells₀ : Lis
         ∙ omega (arith, w .long, w .lent .numbers, w .numbers-are, w .lent .fits .allowed .settings .ranges .threeFrames)
 
     -- After the third frame, with the fillers.
-    pub coding-end : (fill : List ℤ) → 3 ≤ i → fill ≡ take (length (take (length cells - 3 * n) (drop (3 * n) cells))) fillerNumbers
+    pub coding-end : {fill : List ℤ} → 3 ≤ i → fill ≡ take (length (take (length cells - 3 * n) (drop (3 * n) cells))) fillerNumbers
         → MscCoded state msc memory₀ after memory (putMid (3 * n) (length cells - 3 * n) cells fill)
     unfolding frameCells parts fillers
-    coding-end fill h f =
+    coding-end {fill} h f =
         let e : i ≡ 3 = omega (arith, w .upto) in
         let front : take (3 * n) cells ≡ framesSent state memory₀ (frames-to (state .scheme) msc 3) =
         rw (mul-comm 3 n, ← e) (w .sent)

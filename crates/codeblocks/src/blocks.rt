@@ -55,7 +55,8 @@ pub fn code_msc(state: State, msc: &[u8], memory: &mut [u8], cells: &mut [i16]) 
     let mut after = state;
     let mut i = 0;
     while i < 3 {
-        send_frame(after, &rowplaces, memory, &mut cells[n * i..n * i + n]);
+        let at = n * i;
+        send_frame(after, &rowplaces, memory, &mut cells[at..at + n]);
         after = next_state(after);
         i += 1;
     }

@@ -25,7 +25,7 @@ part-code-blocks-end : tie.Need-part-code-blocks-end Inv-loop μ-loop
 part-code-blocks-end c = frames-within (c .before .before .before .before .before .pre) (c .before .slot-size .ensures)
 
 code-blocks-requires : tie.Need-code-blocks-requires Inv-loop μ-loop
-code-blocks-requires c κs = rw (c .before .msc-block .ensures) (frames-lent _ _ _ _ _ (c .before .before .before .before .before .before .pre) (c .before .before .slot-size .ensures))
+code-blocks-requires c κs = rw (c .before .msc-block .ensures) (frames-lent (c .before .before .before .before .before .before .pre) (c .before .before .slot-size .ensures))
 
 row-places-requires : tie.Need-row-places-requires Inv-loop μ-loop
 row-places-requires c κs =
@@ -33,63 +33,47 @@ row-places-requires c κs =
     record { settings = s; room = omega (arith, c .before .row-buffer .ensures .long, s .ranges .muxMost) }
 
 loop-holds : tie.Need-loop-holds Inv-loop μ-loop
-loop-holds c = coding-start _ _ _ _ _ _ (c .before .before .before .before .before .before .before .before .before .before .before .before .pre) (c .before .before .before .before .before .before .before .before .slot-size .ensures) (rw (c .before .before .before .before .before .before .before .msc-block .ensures) at (c .before .before .before .before .before .code-blocks .ensures))
+loop-holds c = coding-start (c .before .before .before .before .before .before .before .before .before .before .before .before .pre) (c .before .before .before .before .before .before .before .before .slot-size .ensures) (rw (c .before .before .before .before .before .before .before .msc-block .ensures) at (c .before .before .before .before .before .code-blocks .ensures))
 
-mul-send-frame : tie.Need-mul-send-frame Inv-loop μ-loop
-mul-send-frame c = let h = coding-within _ _ _ _ _ _ _ _ _ (c .before .before .before .loop .inv) (c .before .before .loop-test .taken) in let k = few-numbers _ _ _ _ _ _ _ _ _ (c .before .before .before .loop .inv) in search (needs, h, k)
-
-mul-send-frame-2 : tie.Need-mul-send-frame-2 Inv-loop μ-loop
-mul-send-frame-2 c = let h = coding-within _ _ _ _ _ _ _ _ _ (c .before .before .before .loop .inv) (c .before .before .loop-test .taken) in let k = few-numbers _ _ _ _ _ _ _ _ _ (c .before .before .before .loop .inv) in search (needs, h, k)
+mul-at : tie.Need-mul-at Inv-loop μ-loop
+mul-at c = let h = coding-within (c .before .loop .inv) (c .loop-test .taken) in let k = few-numbers (c .before .loop .inv) in omega (arith, h, k)
 
 add-send-frame : tie.Need-add-send-frame Inv-loop μ-loop
-add-send-frame c = let h = coding-within _ _ _ _ _ _ _ _ _ (c .before .before .before .loop .inv) (c .before .before .loop-test .taken) in let k = few-numbers _ _ _ _ _ _ _ _ _ (c .before .before .before .loop .inv) in search (needs, h, k)
+add-send-frame c = let h = coding-within (c .before .before .before .loop .inv) (c .before .before .loop-test .taken) in let k = few-numbers (c .before .before .before .loop .inv) in omega (arith, h, k)
 
-mul-send-frame-3 : tie.Need-mul-send-frame-3 Inv-loop μ-loop
-mul-send-frame-3 c = let h = coding-within _ _ _ _ _ _ _ _ _ (c .before .before .before .loop .inv) (c .before .before .loop-test .taken) in let k = few-numbers _ _ _ _ _ _ _ _ _ (c .before .before .before .loop .inv) in search (needs, h, k)
-
-sub-send-frame : tie.Need-sub-send-frame Inv-loop μ-loop
-sub-send-frame c = let h = coding-within _ _ _ _ _ _ _ _ _ (c .before .before .before .loop .inv) (c .before .before .loop-test .taken) in let k = few-numbers _ _ _ _ _ _ _ _ _ (c .before .before .before .loop .inv) in search (needs, h, k)
-
-part-send-frame-start : tie.Need-part-send-frame-start Inv-loop μ-loop
-part-send-frame-start c = let h = coding-within _ _ _ _ _ _ _ _ _ (c .before .before .before .loop .inv) (c .before .before .loop-test .taken) in let k = few-numbers _ _ _ _ _ _ _ _ _ (c .before .before .before .loop .inv) in search (needs, h, k)
+mul-send-frame : tie.Need-mul-send-frame Inv-loop μ-loop
+mul-send-frame c = let h = coding-within (c .before .before .before .loop .inv) (c .before .before .loop-test .taken) in let k = few-numbers (c .before .before .before .loop .inv) in omega (arith, h, k)
 
 part-send-frame-end : tie.Need-part-send-frame-end Inv-loop μ-loop
-part-send-frame-end c = coding-within _ _ _ _ _ _ _ _ _ (c .before .before .before .loop .inv) (c .before .before .loop-test .taken)
+part-send-frame-end c = coding-within (c .before .before .before .loop .inv) (c .before .before .loop-test .taken)
 
 send-frame-requires : tie.Need-send-frame-requires Inv-loop μ-loop
-send-frame-requires c κs =
-    let w = c .before .before .before .before .loop .inv in
-    (coding-fits _ _ _ _ _ _ _ _ _ w (c .before .before .before .loop-test .taken), coding-rows _ _ _ _ _ _ _ _ _ w (c .before .before .before .before .before .before .row-places .ensures .0))
+send-frame-requires c κs = let w = c .before .before .before .before .loop .inv in (coding-fits w (c .before .before .before .loop-test .taken), coding-rows w (c .before .before .before .before .before .before .row-places .ensures .0))
 
 next-state-requires : tie.Need-next-state-requires Inv-loop μ-loop
 next-state-requires c κs = let w = c .before .before .before .before .before .before .before .before .loop .inv .fits in (w .position, w .count)
 
 loop-again : tie.Need-loop-again Inv-loop μ-loop
-loop-again c = coding-turn _ _ _ _ _ _ _ _ _ (c .before .before .before .before .before .before .before .before .before .loop .inv) _ _ _ (c .before .before .before .before .before .before .before .before .loop-test .taken) (c .before .before .before .before .send-frame .ensures) (c .before .before .before .before .send-frame .kept .1 .1 .0) (c .next-state .ensures)
+loop-again c = let f = c .before .before .before .before .send-frame in coding-turn (c .before .before .before .before .before .before .before .before .before .loop .inv) (c .before .before .before .before .before .before .before .before .loop-test .taken) (f .ensures) (f .kept .1 .1 .0) (c .next-state .ensures)
 
 mul-write-fillers : tie.Need-mul-write-fillers Inv-loop μ-loop
-mul-write-fillers c = let h = rows-within _ _ _ _ _ _ _ _ _ (c .before .loop .inv) in let k = few-numbers _ _ _ _ _ _ _ _ _ (c .before .loop .inv) in search (needs, h, k)
+mul-write-fillers c = let h = rows-within (c .before .loop .inv) in let k = few-numbers (c .before .loop .inv) in omega (arith, h, k)
 
 mul-write-fillers-2 : tie.Need-mul-write-fillers-2 Inv-loop μ-loop
-mul-write-fillers-2 c = let h = rows-within _ _ _ _ _ _ _ _ _ (c .before .loop .inv) in let k = few-numbers _ _ _ _ _ _ _ _ _ (c .before .loop .inv) in search (needs, h, k)
+mul-write-fillers-2 c = let h = rows-within (c .before .loop .inv) in let k = few-numbers (c .before .loop .inv) in omega (arith, h, k)
 
 sub-write-fillers : tie.Need-sub-write-fillers Inv-loop μ-loop
-sub-write-fillers c = let h = rows-within _ _ _ _ _ _ _ _ _ (c .before .loop .inv) in search needs
+sub-write-fillers c = let h = rows-within (c .before .loop .inv) in search needs
 
 part-write-fillers-start : tie.Need-part-write-fillers-start Inv-loop μ-loop
-part-write-fillers-start c = let h = rows-within _ _ _ _ _ _ _ _ _ (c .before .loop .inv) in search needs
-
-part-write-fillers-end : tie.Need-part-write-fillers-end Inv-loop μ-loop
-part-write-fillers-end c = search needs
+part-write-fillers-start c = let h = rows-within (c .before .loop .inv) in search needs
 
 write-fillers-requires : tie.Need-write-fillers-requires Inv-loop μ-loop
-write-fillers-requires c κs = let w = c .before .before .loop .inv in omega (arith, rest-long _ _ _ _ _ _ _ _ _ w, w .lent .fits .allowed .settings .ranges .fillers)
-
-same-length : tie.Need-same-length Inv-loop μ-loop
-same-length c = c .before .before .before .before .loop .inv .same
+write-fillers-requires c κs = let w = c .before .before .loop .inv in omega (arith, rest-long w, w .lent .fits .allowed .settings .ranges .fillers)
 
 returns : tie.Need-returns Inv-loop μ-loop
-returns c = coding-end _ _ _ _ _ _ _ _ _ (c .before .before .before .before .loop .inv) _ (c .before .before .before .loop-test .left) (c .before .write-fillers .ensures)
+returns c = coding-end (c .before .before .before .before .loop .inv) (c .before .before .before .loop-test .left) (c .before .write-fillers .ensures)
 
 pub code-msc-spec : {M : Type 1} → statement M
-code-msc-spec = tie.close (tie.spec Inv-loop μ-loop slot-size-requires msc-block-requires mul-code-blocks (λ c. search needs) (λ c. search needs) part-code-blocks-end code-blocks-requires (λ c κs. search needs) (λ c. search needs) row-places-requires loop-holds (λ c. search needs) mul-send-frame mul-send-frame-2 add-send-frame mul-send-frame-3 sub-send-frame part-send-frame-start part-send-frame-end send-frame-requires next-state-requires (λ c. search needs) (λ c. search needs) loop-again mul-write-fillers mul-write-fillers-2 sub-write-fillers part-write-fillers-start part-write-fillers-end write-fillers-requires same-length (λ c. search needs) returns)
+code-msc-spec =
+    tie.close (tie.spec Inv-loop μ-loop slot-size-requires msc-block-requires mul-code-blocks (λ c. search needs) (λ c. search needs) part-code-blocks-end code-blocks-requires (λ c κs. search needs) (λ c. search needs) row-places-requires loop-holds mul-at (λ c. search needs) add-send-frame mul-send-frame (λ c. search needs) (λ c. search needs) part-send-frame-end send-frame-requires next-state-requires (λ c. search needs) (λ c. search needs) loop-again mul-write-fillers mul-write-fillers-2 sub-write-fillers part-write-fillers-start (λ c. search needs) write-fillers-requires (λ c. c .before .before .before .before .loop .inv .same) (λ c. search needs) returns)

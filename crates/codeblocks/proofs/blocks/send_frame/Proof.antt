@@ -6,22 +6,22 @@ use Rattle.codeblocks.proofs.blocks.send_frame.Statement.{statement}
 use Rattle.codeblocks.proofs.blocks.send_frame.Tie as tie
 
 mul-at : tie.Need-mul-at
-mul-at c = let h = slot-within _ _ _ (c .before .before .before .pre .0) in let k = memory-most (c .before .before .before .pre .0 .fits) in search (needs, h, k)
+mul-at c = let h = slot-within (c .before .before .before .pre .0) in let k = memory-most (c .before .before .before .pre .0 .fits) in search (needs, h, k)
 
 add-to-bytes : tie.Need-add-to-bytes
-add-to-bytes c = let h = slot-within _ _ _ (c .before .before .before .before .pre .0) in let k = memory-most (c .before .before .before .before .pre .0 .fits) in search (needs, h, k)
+add-to-bytes c = let h = slot-within (c .before .before .before .before .pre .0) in let k = memory-most (c .before .before .before .before .pre .0 .fits) in search (needs, h, k)
 
 part-to-bytes-end : tie.Need-part-to-bytes-end
-part-to-bytes-end c = slot-within _ _ _ (c .before .before .before .before .pre .0)
+part-to-bytes-end c = slot-within (c .before .before .before .before .pre .0)
 
 to-bytes-requires : tie.Need-to-bytes-requires
-to-bytes-requires c κs = packs _ _ _ (c .before .before .before .before .before .pre .0)
+to-bytes-requires c κs = packs (c .before .before .before .before .before .pre .0)
 
 send-row-requires : tie.Need-send-row-requires
-send-row-requires c κs = (frame-sends _ _ _ (c .before .before .before .before .before .before .before .before .before .before .pre .0) _ (frame-stored _ _ _ (c .before .before .before .before .before .before .before .before .before .before .pre .0) _ (c .before .before .before .before .to-bytes .ensures)), c .before .before .before .before .before .before .before .before .before .before .pre .1)
+send-row-requires c κs = (frame-sends (c .before .before .before .before .before .before .before .before .before .before .pre .0) (frame-stored (c .before .before .before .before .before .before .before .before .before .before .pre .0) (c .before .before .before .before .to-bytes .ensures)), c .before .before .before .before .before .before .before .before .before .before .pre .1)
 
 returns : tie.Need-returns
-returns c = record { held = frame-stored _ _ _ (c .before .before .before .before .before .before .before .before .before .before .before .before .pre .0) _ (c .before .before .before .before .before .before .to-bytes .ensures); sent = c .before .send-row .ensures }
+returns c = record { held = frame-stored (c .before .before .before .before .before .before .before .before .before .before .before .before .pre .0) (c .before .before .before .before .before .before .to-bytes .ensures); sent = c .before .send-row .ensures }
 
 pub send-frame-spec : {M : Type 1} → statement M
 send-frame-spec =
