@@ -1,8 +1,8 @@
 -- The progress of memory from row to row. Assumes nothing.
 use Prim.Native.Nat.{ℕ, _+_, _-_, _*_, _%_, _≤_, _<_, min}
-use mathlib.Core.Path.{_≡_, sym, ap, _∙_}
+use mathlib.Core.Path.{_≡_, _∙_}
 use mathlib.Core.List.{List}
-use native.Mathlib.Nat.{mod-eq-of-lt, mod-lt, mul-le-mul-right}
+use native.Mathlib.Nat.{mod-lt, mul-le-mul-right}
 use native.Mathlib.Omega.{arith}
 use lib.ListN.{length}
 use Rattle.settings.specs.Lengths.{nMux}
@@ -12,26 +12,16 @@ use Rattle.superframe.specs.Memory.{slotSize}
 use Rattle.superframe.specs.Interleaving.{advanced}
 use Rattle.superframe.proofs.Coding.{depth-high}
 use Rattle.superframe.specs.Code.{progressOf, stateOf}
-use Rattle.cellmemory.specs.Contracts.{StateFits, nextState, later}
-use Rattle.cellmemory.proofs.Ring.{later-mod}
+use Rattle.cellmemory.specs.Contracts.{StateFits, nextState}
 
 pub positive : {a b : ℕ} → a < b → 0 < b
 positive h = omega arith
 
--- The position after a frame, and that it stays below the depth.
-pub later-is : (D d p : ℕ) → d < D → p ≡ later D d → p ≡ (d + 1) % D
-later-is D d p h e =
-    let g : d % D ≡ d = mod-eq-of-lt h in
-    e ∙ ap (later D) (sym g) ∙ later-mod D d (omega arith)
-
-pub later-low : (D d p : ℕ) → d < D → p ≡ later D d → p < D
-later-low D d p h e = rw (later-is D d p h e) (mod-lt (d + 1) (positive h))
-
 -- The state after a frame, from the next position and count.
-pub next-state-is : (state : State) (D p c : ℕ) → D ≡ depth (state .scheme .settings) → state .position < D → p ≡ later D (state .position)
+pub next-state-is : (state : State) (D p c : ℕ) → D ≡ depth (state .scheme .settings) → p ≡ (state .position + 1) % D
     → c ≡ min (state .count + 1) (D - 1) → record { scheme = state .scheme; position = p; count = c } ≡ nextState state
 unfolding stateOf advanced progressOf
-next-state-is state D p c d h e f = rw (later-is D (state .position) p h e, f, d)
+next-state-is state D p c d e f = rw (e, f, d)
 
 -- It is in order too, with memory of the same length.
 pub next-fits : (state : State) (memory memory′ : List ℕ) → StateFits state memory → length memory′ ≡ length memory → StateFits (nextState state) memory′

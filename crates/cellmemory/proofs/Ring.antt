@@ -1,14 +1,14 @@
 -- Slots stand in a ring: from cell to cell the delay goes up by one and starts anew, and the slot goes down by one and starts anew. Assumes nothing.
-use mathlib.Core.Path.{_≡_, sym, ap, _∙_}
+use mathlib.Core.Path.{_≡_, _∙_}
 use mathlib.Core.Logic.{_⊎_, inl, inr}
 use Prim.Native.Nat.{ℕ, suc, _+_, _-_, _*_, _/_, _%_, _≤_, _<_}
-use native.Mathlib.Nat.{mod-lt, mod-eq-of-lt, add-mod-right, mod-self, mod-add-mod, mul-le-mul-right, add-zero, zero-mul, suc-mul}
+use native.Mathlib.Nat.{mod-lt, mod-eq-of-lt, add-mod-right, mod-self, mul-le-mul-right, add-zero, zero-mul, suc-mul}
 use native.Mathlib.Omega.{arith}
-use borrow.Author.Tests.{eq-eqb, ne-eqb, lt-ltb, le-ltb}
+use borrow.Author.Tests.{lt-ltb, le-ltb}
 use Rattle.lists.proofs.Counting.{below-or}
 use Rattle.superframe.specs.Interleaving.{slotBefore, delay, sentPlace}
 use Rattle.interleaver.specs.Interleaving.{place}
-use Rattle.cellmemory.specs.Contracts.{previous, later}
+use Rattle.cellmemory.specs.Contracts.{previous}
 
 -- The slot d before position p, without a remainder.
 pub slot-near : (D p d : ℕ) → d ≤ p → p < D → slotBefore D p d ≡ p - d
@@ -41,55 +41,37 @@ previous-more n last (suc x) h =
     let f : suc x - 1 ≡ x = omega arith in
     rw (le-ltb (suc x * n) n (omega arith), f) (omega arith)
 
-pub later-last : (D d : ℕ) → d + 1 ≡ D → later D d ≡ 0
-unfolding later
-later-last D d e = rw (eq-eqb (d + 1) D e)
-
-pub later-more : (D d : ℕ) → d + 1 < D → later D d ≡ d + 1
-unfolding later
-later-more D d h = rw (ne-eqb (d + 1) D (λ e. omega arith))
-
--- The delay of the next cell.
-pub later-mod : (D i : ℕ) → 0 < D → later D (i % D) ≡ (i + 1) % D
-later-mod D i h = go (below-or (i % D + 1) D)
-  where
-    l : i % D < D
-    l = mod-lt i h
-
-    go : (i % D + 1 < D) ⊎ (D ≤ i % D + 1) → later D (i % D) ≡ (i + 1) % D
-    go (inl g) = later-more D (i % D) g ∙ sym (mod-eq-of-lt g) ∙ mod-add-mod i D 1
-    go (inr g) =
-        let e : i % D + 1 ≡ D = omega (arith, l) in
-        later-last D (i % D) e ∙ sym (mod-self D) ∙ ap (λ (x : ℕ). x % D) (sym e) ∙ mod-add-mod i D 1
-
 -- The slot of the next cell.
-pub previous-later : (D n p d : ℕ) → 0 < n → p < D → d < D → previous n ((D - 1) * n) (slotBefore D p d * n) ≡ slotBefore D p (later D d) * n
+pub previous-later : (D n p d : ℕ) → 0 < n → p < D → d < D → previous n ((D - 1) * n) (slotBefore D p d * n) ≡ slotBefore D p ((d + 1) % D) * n
 previous-later D n p d z hp hd = go (below-or (d + 1) D) (below-or d (p + 1))
   where
+    last-is : d + 1 ≡ D → (d + 1) % D ≡ 0
+    last-is e = rw e (mod-self D)
+
     first : (x y : ℕ) → x ≡ 0 → D - 1 ≡ y → previous n ((D - 1) * n) (x * n) ≡ y * n
     first x y e f = previous-zero n ((D - 1) * n) x z e ∙ rw f
 
     other : (x y : ℕ) → 1 ≤ x → x - 1 ≡ y → previous n ((D - 1) * n) (x * n) ≡ y * n
     other x y h f = previous-more n ((D - 1) * n) x h ∙ rw f
 
-    go : (d + 1 < D) ⊎ (D ≤ d + 1) → (d < p + 1) ⊎ (p + 1 ≤ d) → previous n ((D - 1) * n) (slotBefore D p d * n) ≡ slotBefore D p (later D d) * n
+    go : (d + 1 < D) ⊎ (D ≤ d + 1) → (d < p + 1) ⊎ (p + 1 ≤ d) → previous n ((D - 1) * n) (slotBefore D p d * n) ≡ slotBefore D p ((d + 1) % D) * n
     go (inl a) (inl b) = near (below-or d p)
       where
-        near : (d < p) ⊎ (p ≤ d) → previous n ((D - 1) * n) (slotBefore D p d * n) ≡ slotBefore D p (later D d) * n
+        near : (d < p) ⊎ (p ≤ d) → previous n ((D - 1) * n) (slotBefore D p d * n) ≡ slotBefore D p ((d + 1) % D) * n
         near (inl g) =
-            rw (slot-near D p d (omega arith) hp, later-more D d a, slot-near D p (d + 1) (omega arith) hp)
+            rw (slot-near D p d (omega arith) hp, mod-eq-of-lt a, slot-near D p (d + 1) (omega arith) hp)
             (other (p - d) (p - (d + 1)) (omega arith) (omega arith))
         near (inr g) =
-            rw (slot-near D p d (omega arith) hp, later-more D d a, slot-far D p (d + 1) (omega arith) (omega arith))
+            rw (slot-near D p d (omega arith) hp, mod-eq-of-lt a, slot-far D p (d + 1) (omega arith) (omega arith))
             (first (p - d) (p + D - (d + 1)) (omega arith) (omega arith))
     go (inl a) (inr b) =
-        rw (slot-far D p d (omega arith) (omega arith), later-more D d a, slot-far D p (d + 1) (omega arith) (omega arith))
+        rw (slot-far D p d (omega arith) (omega arith), mod-eq-of-lt a, slot-far D p (d + 1) (omega arith) (omega arith))
         (other (p + D - d) (p + D - (d + 1)) (omega arith) (omega arith))
     go (inr a) (inl b) =
-        rw (slot-near D p d (omega arith) hp, later-last D d (omega arith), slot-near D p 0 (omega arith) hp)
+        rw (slot-near D p d (omega arith) hp, last-is (omega arith), slot-near D p 0 (omega arith) hp)
         (first (p - d) (p - 0) (omega arith) (omega arith))
     go (inr a) (inr b) =
-        rw (slot-far D p d (omega arith) (omega arith), later-last D d (omega arith), slot-near D p 0 (omega arith) hp)
+        rw (slot-far D p d (omega arith) (omega arith), last-is (omega arith), slot-near D p 0 (omega arith) hp)
         (other (p + D - d) (p - 0) (omega arith) (omega arith))
 
 -- A slot stands within memory.

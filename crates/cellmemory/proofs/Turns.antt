@@ -2,14 +2,16 @@
 use mathlib.Core.Path.{_≡_, refl, sym, ap, _∙_}
 use mathlib.Core.Bool.{Bool, cond, true, false}
 use mathlib.Core.List.{List, [], _∷_, _++_, append-assoc}
-use Prim.Native.Nat.{ℕ, zero, suc, _+_, _-_, _*_, _/_, _%_, _≤_, _<_}
-use native.Mathlib.Nat.{add-assoc, mul-left-comm, sub-zero, zero-mod, mod-lt}
+use Prim.Native.Nat.{ℕ, suc, _+_, _-_, _*_, _/_, _%_, _≤_, _<_}
+use native.Mathlib.Nat.{add-assoc, suc-mul, mul-left-comm, mul-div-cancel, sub-zero, zero-mod, mod-lt, mod-add-mod}
 use native.Mathlib.Numerals.{add-one}
 use native.Mathlib.Omega.{arith}
 use lib.ListN.{length, getD, set, take, drop, length-set, length-append}
 use lib.IntN.{ℤ, pos}
 use lib.Seq.{getD-set-same, getD-take, set-set, take-at}
 use lib.Dec.{leb}
+use mir.Syntax.{w64}
+use mir.Val.{Fits}
 use Rattle.cellbytes.specs.CellBytes.{signed, fourBits, cellByte, realOf, imaginaryOf, numberAt, numbers}
 use Rattle.cellbytes.proofs.CellBytes.{four-low, four-signed, real-cell, real-at, imaginary-at, number-real, number-imaginary, by-cells}
 use Rattle.interleaver.specs.Interleaving.{place}
@@ -26,8 +28,9 @@ use Rattle.settings.specs.Sizes.{depth}
 use Rattle.superframe.specs.declared.State.{State}
 use Rattle.superframe.specs.Memory.{slotSize, numberIn, withNumber, replaced}
 use Rattle.superframe.specs.Interleaving.{slotBefore, delay, sentPlace, sentRow, takenFrom}
-use Rattle.cellmemory.specs.Contracts.{previous, later, sentBytes, withCell, CellFits, StateFits, BytesLent, RowLent, RowRoom, RowOrder, rowOver}
-use Rattle.cellmemory.proofs.Ring.{slot-zero, slot-below, later-mod, previous-later, slot-within, delay-even, delay-odd, place-even, place-odd}
+use Rattle.cellmemory.specs.Contracts.{previous, sentBytes, bytesFrom, withCell, CellFits, RowLent, RowRoom, RowOrder, rowOver, ByPlaces, RowFits, Goes}
+use Rattle.cellmemory.proofs.Progress.{memory-most}
+use Rattle.cellmemory.proofs.Ring.{slot-zero, slot-below, previous-later, slot-within, delay-even, delay-odd, place-even, place-odd}
 
 -- In turn i the slot of cell i begins at a place of memory.
 pub record InRing (D n position at i : ℕ) : Type 0 where
@@ -43,7 +46,7 @@ module _ (D n position : ℕ) where
       let p : 0 < D = omega (arith, w .within) in
       record {
         within = w .within;
-        at-is = rw (e, l, w .at-is, previous-later D n position (i % D) h (w .within) (mod-lt i p), later-mod D i p);
+        at-is = rw (e, l, w .at-is, previous-later D n position (i % D) h (w .within) (mod-lt i p), mod-add-mod i D 1);
       }
 
   pub ring-low : (at i len : ℕ) → InRing D n position at i → len ≡ D * n → at + n ≤ len
@@ -58,42 +61,33 @@ pub record Delayed (D d i : ℕ) : Type 0 where
 pub delay-start : (D : ℕ) → 0 < D → Delayed D 0 0
 delay-start D h = record { delay-is = sym (zero-mod D); delay-low = h }
 
-pub delay-turn : (D d i r : ℕ) → Delayed D d i → r ≡ later D d → Delayed D r (i + 1)
+pub delay-turn : (D d i r : ℕ) → Delayed D d i → r ≡ (d + 1) % D → Delayed D r (i + 1)
 delay-turn D d i r w e =
-    let z : 0 < D = omega (arith, w .delay-low) in
-    let g : r ≡ (i + 1) % D = rw (e, w .delay-is) (later-mod D i z) in
-    record { delay-is = g; delay-low = rw g (mod-lt (i + 1) z) }
+    let g : r ≡ (i + 1) % D = e ∙ rw (w .delay-is) (mod-add-mod i D 1) in
+    record { delay-is = g; delay-low = rw g (mod-lt (i + 1) (omega (arith, w .delay-low))) }
 
--- What sending and taking a row require of memory, over the depth and N_MUX.
-pub record RowFits (D n position : ℕ) (memory : List ℕ) : Type 0 where
-  pub low : 5 ≤ n
-  pub high : n ≤ 16384
-  pub within : position < D
-  pub slots : length memory ≡ D * n
+-- Small numbers fit.
+fits-64 : {x : ℕ} → x < 65536 → Fits w64 x
+fits-64 h = record { fits = omega arith }
 
-pub row-fits : (state : State) (D n : ℕ) (memory : List ℕ) → StateFits state memory → D ≡ depth (state .scheme .settings) → n ≡ nMux (state .scheme .settings)
-    → RowFits D n (state .position) memory
-row-fits state D n memory h e f =
-    let b = h .allowed .settings .ranges in
-    record {
-      low = omega (arith, f, b .muxLeast);
-      high = omega (arith, f, b .muxMost);
-      within = omega (arith, e, h .position);
-      slots = h .slots ∙ rw (e, f);
-    }
+-- The slot of the position stands within memory.
+slot-fits : {D n position : ℕ} {memory : List ℕ} → RowFits D n position memory → position * n + n ≤ length memory
+slot-fits {D} {n} {position} {memory} h = slot-within D n position (length memory) (h .within) (h .slots)
 
--- A row has two numbers for each cell.
-pub row-numbers : (state : State) (n : ℕ) (memory : List ℕ) (row : List ℤ) → RowLent state memory row → n ≡ nMux (state .scheme .settings) → length row ≡ 2 * n
-unfolding slotSize
-row-numbers state n memory row h f = h .long ∙ rw f
+pub slot-room : {D n position : ℕ} {memory : List ℕ} → RowFits D n position memory → n ≤ length memory
+slot-room h = omega (arith, slot-fits h)
 
--- The slot of the position and the last one begin within memory.
-pub slots-fit : {D n position : ℕ} {memory : List ℕ} → RowFits D n position memory → (1 ≤ D) × ((D - 1) * n ≤ length memory) × (position * n ≤ length memory)
-slots-fit {D} {n} {position} {memory} h = (
-  omega (arith, h .within),
-  omega (arith, slot-within D n (D - 1) (length memory) (omega (arith, h .within)) (h .slots)),
-  omega (arith, slot-within D n position (length memory) (h .within) (h .slots)),
-)
+pub start-fits : {D n position : ℕ} {memory : List ℕ} → RowFits D n position memory → Fits w64 (position * n)
+start-fits h = fits-64 (omega (arith, slot-fits h, h .most))
+
+-- The depth by the lengths, and where the last slot begins.
+pub depth-is : {D n position : ℕ} {memory : List ℕ} → RowFits D n position memory → length memory / n ≡ D
+depth-is {D} {n} h = rw (h .slots) (mul-div-cancel D (omega (arith, h .low)))
+
+last-is : {D n position : ℕ} {memory : List ℕ} → RowFits D n position memory → length memory - n ≡ (D - 1) * n
+last-is {D} {n} {position} {memory} h =
+    let e : suc (D - 1) ≡ D = omega (arith, h .within) in
+    omega (arith, h .slots, rw e at (suc-mul (D - 1) n))
 
 -- The byte of sent cell i.
 abbrev pub sent-byte : ℕ → ℕ → List ℕ → ℕ → ℕ → ℕ
@@ -159,11 +153,7 @@ module _ (D n position at p i : ℕ) (w : InRing D n position at i) (e : p ≡ p
       rw (w .at-is) (take-slot D n position (slotBefore D position (i % D)) p i refl e s u v d count m row memory (rw (w .at-is) at l) g)
 
 -- The table of places that a row goes by.
-pub record ByPlaces (n : ℕ) (order : List ℕ) : Type 0 where
-  pub room : n ≤ length order
-  pub place-is : (i : ℕ) → i < n → getD order i 0 ≡ place 5 n i
-
-pub by-places : (s : Settings) (n : ℕ) (order : List ℕ) → n ≡ nMux s → RowOrder s order → ByPlaces n order
+by-places : (s : Settings) (n : ℕ) (order : List ℕ) → n ≡ nMux s → RowOrder s order → ByPlaces n order
 unfolding places
 by-places s n order e h =
     record {
@@ -172,6 +162,34 @@ by-places s n order e h =
           let m = nMux s in
           sym (getD-take m order i 0 (omega (arith, e, l, h .room))) ∙ ap (λ (x : List ℕ). getD x i 0) (h .order-is) ∙ getD-table 0 (place 5 m) m i (omega (arith, e, l)) ∙ rw e;
     }
+
+-- What is lent with a state, over the depth and N_MUX.
+module _ {state : State} {memory : List ℕ} {row : List ℤ} (h : RowLent state memory row) where
+  row-numbers : length row ≡ 2 * nMux (state .scheme .settings)
+  unfolding slotSize
+  row-numbers = h .long
+
+  pub half-row : length row / 2 ≡ nMux (state .scheme .settings)
+  half-row = omega (arith, row-numbers)
+
+  pub row-pairs : length row ≡ 2 * (length row / 2)
+  row-pairs = omega (arith, row-numbers)
+
+  row-fits : RowFits (depth (state .scheme .settings)) (length row / 2) (state .position) memory
+  row-fits =
+      let b = h .fits .allowed .settings .ranges in
+      record {
+        low = omega (arith, half-row, b .muxLeast);
+        most = memory-most (h .fits);
+        within = h .fits .position;
+        slots = h .fits .slots ∙ rw half-row;
+      }
+
+  pub row-depth : length memory / (length row / 2) ≡ depth (state .scheme .settings)
+  row-depth = depth-is row-fits
+
+  pub row-goes : {order : List ℕ} → RowOrder (state .scheme .settings) order → Goes (length row / 2) (state .position) order memory
+  row-goes {order} o = record { fits = rw row-depth row-fits; order-is = by-places (state .scheme .settings) (length row / 2) order half-row o }
 
 -- Such a table can be made, and is one then.
 module _ (s : Settings) (n : ℕ) (out : List ℕ) (h : RowRoom s out) (e : n ≡ nMux s) where
@@ -197,45 +215,53 @@ module _ (s : Settings) (n : ℕ) (out : List ℕ) (h : RowRoom s out) (e : n �
   row-over made f = rw (← e, from-start (n + 1)) (ap (λ m. m ++ drop (n + 1) out) f)
 
 -- What a loop over the cells of a row holds in turn i: the slot of cell i begins at a place of memory.
-pub record Stepping (D n position last : ℕ) (order memory : List ℕ) (at i : ℕ) : Type 0 where
-  pub fits : RowFits D n position memory
-  pub order-is : ByPlaces n order
-  pub last-is : last ≡ (D - 1) * n
+pub record Stepping (n position : ℕ) (order memory : List ℕ) (at i : ℕ) : Type 0 where
+  pub goes : Goes n position order memory
   pub upto : i ≤ n
-  pub ring : InRing D n position at i
+  pub ring : InRing (length memory / n) n position at i
 
 -- Cell i of a row stands within memory.
 pub record CellThere (n : ℕ) (order memory : List ℕ) (at i : ℕ) : Type 0 where
   pub listed : i < length order
   pub place-is : getD order i 0 ≡ place 5 n i
   pub cell-in : at + getD order i 0 < length memory
+  pub index-fits : Fits w64 (i * 2)
+  pub place-fits : Fits w64 (getD order i 0)
+  pub sum-fits : Fits w64 (at + getD order i 0)
+  pub next-fits : Fits w64 (i + 1)
 
-module _ {D n position last : ℕ} {order memory : List ℕ} where
-  pub stepping-start : RowFits D n position memory → ByPlaces n order → last ≡ (D - 1) * n → Stepping D n position last order memory (position * n) 0
-  stepping-start h o l = record { fits = h; order-is = o; last-is = l; upto = omega arith; ring = ring-start D n position (h .within) }
+module _ {n position : ℕ} {order memory : List ℕ} where
+  pub stepping-start : Goes n position order memory → Stepping n position order memory (position * n) 0
+  stepping-start h = record { goes = h; upto = omega arith; ring = ring-start (length memory / n) n position (h .fits .within) }
 
-  module _ {at i : ℕ} (w : Stepping D n position last order memory at i) (h : i < n) where
+  module _ {at i : ℕ} (w : Stepping n position order memory at i) (h : i < n) where
     pub cell-there : CellThere n order memory at i
     cell-there =
-        let e = w .order-is .place-is i h in
-        let c : Cycles 5 n = record { low = w .fits .low; factor = refl } in
+        let g = w .goes in
+        let e = g .order-is .place-is i h in
+        let c : Cycles 5 n = record { low = g .fits .low; factor = refl } in
+        let j : at + getD order i 0 < length memory =
+        omega (arith, e, place-low 5 n c i, ring-low (length memory / n) n position at i (length memory) (w .ring) (g .fits .slots)) in
+        let m : n < 32768 = omega (arith, slot-room (g .fits), g .fits .most) in
         record {
-          listed = omega (arith, h, w .order-is .room);
+          listed = omega (arith, h, g .order-is .room);
           place-is = e;
-          cell-in = omega (arith, e, place-low 5 n c i, ring-low D n position at i (length memory) (w .ring) (w .fits .slots));
+          cell-in = j;
+          index-fits = fits-64 (omega (arith, h, m));
+          place-fits = fits-64 (omega (arith, j, g .fits .most));
+          sum-fits = fits-64 (omega (arith, j, g .fits .most));
+          next-fits = fits-64 (omega (arith, h, m));
         }
 
     pub cell-fits : {row : List ℤ} {now : List ℕ} → length row ≡ 2 * n → length now ≡ length memory → CellFits row (2 * i) now (at + getD order i 0)
     cell-fits f e = record { whence = omega (arith, h, f); room = omega (arith, e, cell-there .cell-in) }
 
-    pub stepping-turn : (r : ℕ) → r ≡ previous n last at → Stepping D n position last order memory r (i + 1)
+    pub stepping-turn : (r : ℕ) → r ≡ previous n (length memory - n) at → Stepping n position order memory r (i + 1)
     stepping-turn r e =
         record {
-          fits = w .fits;
-          order-is = w .order-is;
-          last-is = w .last-is;
+          goes = w .goes;
           upto = omega arith;
-          ring = ring-turn D n position last at i r (omega arith) (w .last-is) (w .ring) e;
+          ring = ring-turn (length memory / n) n position (length memory - n) at i r (omega arith) (last-is (w .goes .fits)) (w .ring) e;
         }
 
 -- Bytes that are gathered up to their end are the whole row's.
@@ -282,71 +308,61 @@ bytes-sent s memory position =
             ∙ sym (imaginary-at memory (slotBefore D position (i % D) * n + place 5 n i)))
 
 -- A row sent through a buffer of its bytes.
-module _ {state : State} {memory : List ℕ} {row : List ℤ} {cells : List ℕ} (h : RowLent state memory row) (l : Long 6118 cells) where
-  pub half-row : length row / 2 ≡ nMux (state .scheme .settings)
-  half-row = let e = row-numbers state (nMux (state .scheme .settings)) memory row h refl in omega (arith, e)
-
+module _ {state : State} {memory cells : List ℕ} {row : List ℤ} (h : RowLent state memory row) (l : Long 6118 cells) where
   pub bytes-room : length row / 2 ≤ length cells
-  bytes-room = omega (arith, half-row, l .long, h .fits .allowed .settings .ranges .muxMost)
+  bytes-room = omega (arith, l .long, half-row h, h .fits .allowed .settings .ranges .muxMost)
 
-  pub bytes-lent : BytesLent state memory (take (length row / 2 - 0) cells)
-  bytes-lent = record { fits = h .fits; long = length-start (length row / 2) cells bytes-room ∙ half-row }
+  pub bytes-go : {order : List ℕ} → RowOrder (state .scheme .settings) order → Goes (length (take (length row / 2 - 0) cells)) (state .position) order memory
+  bytes-go o = rw (length-start (length row / 2) cells bytes-room) (row-goes h o)
 
-  module _ {made : List ℕ} (e : made ≡ sentBytes (depth (state .scheme .settings)) (nMux (state .scheme .settings)) memory (state .position)) where
+  module _ {made : List ℕ} (e : made ≡ bytesFrom memory (state .position) (length (take (length row / 2 - 0) cells))) where
+    made-is : made ≡ bytesFrom memory (state .position) (length row / 2)
+    made-is = e ∙ rw (length-start (length row / 2) cells bytes-room)
+
     made-long : length made ≡ length row / 2
     unfolding sentBytes
-    made-long = rw e (length-table _ 0 (nMux (state .scheme .settings))) ∙ sym half-row
+    made-long = rw made-is (length-table _ 0 (length row / 2))
 
     pub made-room : length row / 2 ≤ length (made ++ drop (length row / 2 - 0) cells)
     made-room = rw (length-written cells made (length row / 2) bytes-room made-long) bytes-room
 
-    pub made-again : take (length row / 2 - 0) (made ++ drop (length row / 2 - 0) cells) ≡ made
+    made-again : take (length row / 2 - 0) (made ++ drop (length row / 2 - 0) cells) ≡ made
     made-again = written-front made cells (length row / 2) made-long
 
     pub two-numbers : length row ≡ 2 * length (take (length row / 2 - 0) (made ++ drop (length row / 2 - 0) cells))
-    two-numbers = let n = row-numbers state (nMux (state .scheme .settings)) memory row h refl in rw made-again (omega (arith, n, made-long))
+    two-numbers = rw made-again (omega (arith, row-pairs h, made-long))
 
     pub row-sent : numbers (take (length row / 2 - 0) (made ++ drop (length row / 2 - 0) cells)) ≡ sentRow (state .scheme .settings) memory (state .position)
-    row-sent = rw (made-again, e) (bytes-sent (state .scheme .settings) memory (state .position))
+    row-sent = rw (made-again, made-is, row-depth h, half-row h) (bytes-sent (state .scheme .settings) memory (state .position))
 
--- Of the settings, a row that is taken depends on the depth and N_MUX only.
-taken-same : (s t : Settings) → depth s ≡ depth t → nMux s ≡ nMux t → (position count : ℕ) (row : List ℤ) (k m : ℕ) (memory : List ℕ)
-    → takenFrom s position count row k m memory ≡ takenFrom t position count row k m memory
-unfolding takenFrom slotSize
-taken-same s t e f position count row k zero memory = refl
-taken-same s t e f position count row k (suc m) memory = rw (e, f) (taken-same s t e f position count row (suc k) m _)
-
--- What is left of a row from cell i on leads to what the whole leads to, for some settings of this depth and N_MUX.
+-- What is left of a row from cell i on leads to what the whole leads to, for settings of this depth and N_MUX.
 pub record Leading (D n position count : ℕ) (row : List ℤ) (whole : List ℕ) (d i : ℕ) (memory : List ℕ) : Type 0 where
-  pub of : Settings
-  pub depth-is : D ≡ depth of
-  pub cells-are : n ≡ nMux of
   pub long : length memory ≡ length whole
   pub delayed : Delayed D d i
-  pub leads : takenFrom of position count row (2 * i) (2 * n - 2 * i) memory ≡ takenFrom of position count row 0 (2 * n) whole
+  pub leads : (s : Settings) → D ≡ depth s → n ≡ nMux s
+      → takenFrom s position count row (2 * i) (2 * n - 2 * i) memory ≡ takenFrom s position count row 0 (2 * n) whole
 
 module _ (D n position count : ℕ) (row : List ℤ) (whole : List ℕ) where
-  pub leading-start : (s : Settings) → D ≡ depth s → n ≡ nMux s → position < D → Leading D n position count row whole 0 0 whole
-  leading-start s u v h =
-      record { of = s; depth-is = u; cells-are = v; long = refl; delayed = delay-start D (omega arith); leads = rw sub-zero }
+  pub leading-start : position < D → Leading D n position count row whole 0 0 whole
+  leading-start h = record { long = refl; delayed = delay-start D (omega arith); leads = λ s u v. rw sub-zero }
 
   pub leading-turn : (p at i d d′ : ℕ) (memory m : List ℕ) → at + p < length whole → InRing D n position at i → p ≡ place 5 n i → i < n
       → Leading D n position count row whole d i memory → m ≡ withCell d count row (2 * i) memory (at + p)
-      → d′ ≡ later D d → Leading D n position count row whole d′ (i + 1) m
+      → d′ ≡ (d + 1) % D → Leading D n position count row whole d′ (i + 1) m
   leading-turn p at i d d′ memory m b w e h l g f =
       let a : 2 * n - 2 * i ≡ suc (suc (2 * n - 2 * (i + 1))) = omega arith in
+      let k : at + p < length memory = omega (arith, b, l .long) in
       record {
-        of = l .of;
-        depth-is = l .depth-is;
-        cells-are = l .cells-are;
         long = ap length g ∙ length-cell d count row (2 * i) memory (at + p) ∙ l .long;
         delayed = delay-turn D d i d′ (l .delayed) f;
-        leads = rw g (sym (rw a (take-turn D n position at p i w e (l .of) (l .depth-is) (l .cells-are) d count (2 * n - 2 * (i + 1)) row memory (omega (arith, b, l .long)) (l .delayed .delay-is))) ∙ l .leads);
+        leads = λ s u v.
+            let one = take-turn D n position at p i w e s u v d count (2 * n - 2 * (i + 1)) row memory k (l .delayed .delay-is) in
+            rw g (sym (rw a one) ∙ l .leads s u v);
       }
 
-  pub leading-end : (s : Settings) (d i : ℕ) (memory : List ℕ) → D ≡ depth s → n ≡ nMux s → i ≤ n → n ≤ i → Leading D n position count row whole d i memory
-      → memory ≡ takenFrom s position count row 0 (slotSize s) whole
+  pub leading-end : (d i : ℕ) (memory : List ℕ) → i ≤ n → n ≤ i → Leading D n position count row whole d i memory
+      → (s : Settings) → D ≡ depth s → n ≡ nMux s → memory ≡ takenFrom s position count row 0 (slotSize s) whole
   unfolding takenFrom slotSize
-  leading-end s d i memory u v h k l =
+  leading-end d i memory h k l s u v =
       let a : 2 * n - 2 * i ≡ 0 = omega arith in
-      (rw (a) at (l .leads)) ∙ rw v (taken-same (l .of) s (sym (l .depth-is) ∙ u) (sym (l .cells-are) ∙ v) position count row 0 (2 * nMux s) whole)
+      rw (a, v) at (l .leads s u v)

@@ -1,11 +1,11 @@
 -- What the functions of this crate require and promise: nothing of 01 is stated here.
-use Prim.Native.Nat.{ℕ, _+_, _-_, _*_, _%_, _≤_, _<_}
+use Prim.Native.Nat.{ℕ, _+_, _-_, _*_, _/_, _%_, _≤_, _<_}
 use mathlib.Core.Path.{_≡_}
 use mathlib.Core.Bool.{cond}
 use mathlib.Core.List.{List, [], _∷_, _++_}
 use lib.ListN.{length, getD, set, take, drop}
 use lib.IntN.{ℤ, pos, negsuc}
-use lib.Dec.{eqb, leb, ltb}
+use lib.Dec.{leb, ltb}
 use Rattle.settings.specs.declared.Settings.{Settings}
 use Rattle.settings.specs.Accepted.{Accepted}
 use Rattle.settings.specs.Lengths.{nMux}
@@ -32,11 +32,6 @@ pub record RowLent (state : State) (memory : List ℕ) (row : List ℤ) : Type 0
   pub fits : StateFits state memory
   pub long : length row ≡ slotSize (state .scheme .settings)
 
--- The same with the bytes of a row's cells.
-pub record BytesLent (state : State) (memory row : List ℕ) : Type 0 where
-  pub fits : StateFits state memory
-  pub long : length row ≡ nMux (state .scheme .settings)
-
 -- Room for the places of a row's cells, and one number more.
 pub record RowRoom (s : Settings) (out : List ℕ) : Type 0 where
   pub settings : Accepted s
@@ -59,13 +54,30 @@ nextState state = stateOf (state .scheme) (advanced (depth (state .scheme .setti
 unfoldable pub previous : ℕ → ℕ → ℕ → ℕ
 previous n last at = cond (ltb at n) last (at - n)
 
--- The delay after a delay.
-unfoldable pub later : ℕ → ℕ → ℕ
-later D d = cond (eqb (d + 1) D) 0 (d + 1)
+-- The table of places that n cells of a row go by.
+pub record ByPlaces (n : ℕ) (order : List ℕ) : Type 0 where
+  pub room : n ≤ length order
+  pub place-is : (i : ℕ) → i < n → getD order i 0 ≡ place 5 n i
+
+-- What sending and taking a row of n cells require of memory, with the depth D.
+pub record RowFits (D n position : ℕ) (memory : List ℕ) : Type 0 where
+  pub low : 5 ≤ n
+  pub most : length memory ≤ 30590
+  pub within : position < D
+  pub slots : length memory ≡ D * n
+
+-- Both, with the depth by the lengths.
+pub record Goes (n position : ℕ) (order memory : List ℕ) : Type 0 where
+  pub fits : RowFits (length memory / n) n position memory
+  pub order-is : ByPlaces n order
 
 -- The bytes of the sent cells: cell i is cell P(i) of the slot that so many slots before the position is written as the cell is delayed.
 unfoldable pub sentBytes : ℕ → ℕ → List ℕ → ℕ → List ℕ
 sentBytes D n memory position = table (λ i. getD memory (slotBefore D position (i % D) * n + place 5 n i) 0) 0 n
+
+-- The same with the depth by the lengths.
+abbrev pub bytesFrom : List ℕ → ℕ → ℕ → List ℕ
+bytesFrom memory position n = sentBytes (length memory / n) n memory position
 
 -- Memory with the cell from number k of a row at a place, or as it was where the cell is ignored.
 unfoldable pub withCell : ℕ → ℕ → List ℤ → ℕ → List ℕ → ℕ → List ℕ

@@ -3,19 +3,20 @@ use crate::buffers::cell_row;
 use cellbytes::cells::cell_byte;
 use cellbytes::cells::to_numbers;
 use interleaver::table::make_places;
+use pointtests::tests::next_modulo;
 use settings::Settings;
 use settings::answers;
 use settings::tables;
 use superframe::State;
 ghost use mathlib.Core.Path.{_≡_};
 ghost use Prim.Native.Nat.{_+_, _-_, _<_, min};
+ghost use lib.ListN.{length};
 ghost use Rattle.settings.specs.Accepted.{Accepted};
-ghost use Rattle.settings.specs.Lengths.{nMux};
 ghost use Rattle.settings.specs.Sizes.{depth};
 ghost use Rattle.superframe.specs.Memory.{slotSize};
 ghost use Rattle.superframe.specs.Interleaving.{sentRow, taken};
 ghost use Rattle.superframe.specs.Code.{progressOf};
-ghost use Rattle.cellmemory.specs.Contracts.{RowLent, BytesLent, RowRoom, RowOrder, rowOver, CellFits, nextState, previous, later, sentBytes, withCell};
+ghost use Rattle.cellmemory.specs.Contracts.{RowLent, RowRoom, RowOrder, rowOver, Goes, bytesFrom, CellFits, nextState, previous, withCell};
 
 // The multiplication of the cell interleaver: t = 5.
 const T: usize = 5;
@@ -36,17 +37,6 @@ fn slot_before(n: usize, last: usize, at: usize) -> usize
         return last;
     }
     at - n
-}
-
-// One more, 0 after the last: the delay of the next cell, the slot of the next frame.
-pub fn next_modulo(depth: usize, delay: usize) -> usize
-    requires { ⌜ delay < depth ⌝ }
-    ensures { λ r. ⌜ r ≡ later depth delay ⌝ }
-{
-    if delay + 1 == depth {
-        return 0;
-    }
-    delay + 1
 }
 
 // The count after a frame.
@@ -87,15 +77,12 @@ pub fn row_places(s: Settings, out: &mut [u16])
 }
 
 // The bytes of a row's cells, each from the slot that its delay leads back to.
-fn gather_row(state: State, places: &[u16], memory: &[u8], out: &mut [u8])
-    requires { ⌜ BytesLent state (now memory) (now out) × RowOrder (state .scheme .settings) (now places) ⌝ }
-    ensures { λ r. ⌜ now (out .exit) ≡ sentBytes (depth (state .scheme .settings)) (nMux (state .scheme .settings)) (now (memory .entry)) (state .position) ⌝ }
+fn gather_row(position: usize, places: &[u16], memory: &[u8], out: &mut [u8])
+    requires { ⌜ Goes (length (now out)) position (now places) (now memory) ⌝ }
+    ensures { λ r. ⌜ now (out .exit) ≡ bytesFrom (now (memory .entry)) position (length (now (out .entry))) ⌝ }
 {
-    let settings = state.scheme.settings;
-    let depth = answers::depth(settings);
-    let n = tables::n_mux(settings.mode, settings.occupancy);
-    let position = state.position as usize;
-    let last = (depth - 1) * n;
+    let n = out.len();
+    let last = memory.len() - n;
     let mut at = position * n;
     let mut i = 0;
     while i < n {
@@ -113,7 +100,7 @@ pub fn send_row(state: State, places: &[u16], memory: &[u8], out: &mut [i16])
 {
     let mut cells = cell_row();
     let n = out.len() / 2;
-    gather_row(state, places, memory, &mut cells[0..n]);
+    gather_row(state.position as usize, places, memory, &mut cells[0..n]);
     to_numbers(&cells[0..n], out);
 }
 
@@ -128,17 +115,16 @@ fn take_cell(delay: usize, count: usize, row: &[i16], k: usize, memory: &mut [u8
     memory[at] = cell_byte(row[k], row[k + 1]);
 }
 
-// The numbers of a row put where the coder took them.
+// The numbers of a row put where the coder took them. Memory has as many slots as the depth.
 pub fn take_row(state: State, places: &[u16], row: &[i16], memory: &mut [u8])
     requires { ⌜ RowLent state (now memory) (now row) × RowOrder (state .scheme .settings) (now places) ⌝ }
     ensures { λ r. ⌜ now (memory .exit) ≡ taken (state .scheme .settings) (progressOf state (now (memory .entry))) (now (row .entry)) ⌝ }
 {
-    let settings = state.scheme.settings;
-    let depth = answers::depth(settings);
-    let n = tables::n_mux(settings.mode, settings.occupancy);
+    let n = row.len() / 2;
+    let depth = memory.len() / n;
+    let last = memory.len() - n;
     let count = state.count as usize;
     let position = state.position as usize;
-    let last = (depth - 1) * n;
     let mut at = position * n;
     let mut delay = 0;
     let mut i = 0;

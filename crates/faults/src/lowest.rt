@@ -7,6 +7,7 @@ use channels::Scheme;
 use channels::blocks::msc_constellation;
 use channels::blocks::sdc_constellation;
 use pointtests::PointTest;
+use pointtests::tests::all_pass;
 use pointtests::tests::points_pass;
 use settings::answers;
 use settings::tables::FAC_NUMBERS;
@@ -17,7 +18,6 @@ ghost use Rattle.lists.specs.Lists.{table};
 ghost use Rattle.settings.specs.Accepted.{Accepted};
 ghost use Rattle.settings.specs.Sizes.{depth};
 ghost use Rattle.lists.specs.Same.{sameNumbers};
-ghost use Rattle.pointtests.specs.PointTests.{pointsPass, pointsOnly};
 ghost use Rattle.superframe.specs.Memory.{slotSize};
 ghost use Rattle.superframe.specs.Call.{part};
 ghost use Rattle.cellmemory.specs.Contracts.{fillerNumbers};
@@ -66,29 +66,20 @@ fn row_test(s: Scheme, count: usize, msc: &[i16], i: usize) -> bool
     points_pass(test, &msc[n * i..n * i + n])
 }
 
-// Every cell is a point of a constellation.
-fn points_only(constellation: u8, cells: &[i16]) -> bool
-    ensures { λ b. ⌜ b ≡ pointsPass (pointsOnly constellation) (now (cells .entry)) ⌝ }
-{
-    let test = PointTest {
-        constellation,
-        depth: 1,
-        count: 0,
-        blank: false,
-    };
-    points_pass(test, cells)
-}
-
 // The test of block i: 0 to 2 FAC, 3 SDC, 4 to 6 the sent rows, 7 the fillers.
 fn point_test(s: Scheme, count: usize, fac: &[i16], sdc: &[i16], msc: &[i16], i: usize) -> bool
     requires { ⌜ CellsLent s count (now fac) (now sdc) (now msc) × (i < 8) ⌝ }
     ensures { λ b. ⌜ b ≡ pointTest s count (now (fac .entry)) (now (sdc .entry)) (now (msc .entry)) i ⌝ }
 {
     if i < 3 {
-        return points_only(QAM4, &fac[FAC_NUMBERS * i..FAC_NUMBERS * i + FAC_NUMBERS]);
+        return all_pass(
+            QAM4,
+            false,
+            &fac[FAC_NUMBERS * i..FAC_NUMBERS * i + FAC_NUMBERS],
+        );
     }
     if i == 3 {
-        return points_only(sdc_constellation(s.settings.sdc), sdc);
+        return all_pass(sdc_constellation(s.settings.sdc), false, sdc);
     }
     if i < 7 {
         return row_test(s, count, msc, i - 4);

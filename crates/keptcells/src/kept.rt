@@ -1,29 +1,14 @@
 // What is kept of received cells, and what is told of blocks. 02, S-13.
 use channels::Scheme;
 use channels::blocks::msc_constellation;
-use pointtests::PointTest;
-use pointtests::tests::points_pass;
+use pointtests::tests::all_pass;
 ghost use mathlib.Core.Path.{_≡_};
 ghost use mathlib.Core.Bool.{cond};
 ghost use mathlib.Core.List.{map};
 ghost use lib.IntN.{pos};
 ghost use lib.ListN.{length};
-ghost use Rattle.pointtests.specs.PointTests.{pointsPass, pointsOnly};
 ghost use Rattle.keptcells.specs.ReadOn.{keptCells, lostMark};
 ghost use Rattle.keptcells.specs.Contracts.{CellsKept};
-
-// A cell is a point of a constellation.
-fn is_point(constellation: u8, cell: &[i16]) -> bool
-    ensures { λ b. ⌜ b ≡ pointsPass (pointsOnly constellation) (now (cell .entry)) ⌝ }
-{
-    let test = PointTest {
-        constellation,
-        depth: 1,
-        count: 0,
-        blank: false,
-    };
-    points_pass(test, cell)
-}
 
 // A cell that is no point is kept as (0, 0).
 const EMPTY: i16 = 0;
@@ -47,7 +32,7 @@ pub fn keep_cells(s: Scheme, cells: &[i16], out: &mut [i16])
     let n = cells.len() / 2;
     let mut i = 0;
     while i < n {
-        let point = is_point(constellation, &cells[2 * i..2 * i + 2]);
+        let point = all_pass(constellation, false, &cells[2 * i..2 * i + 2]);
         out[2 * i] = kept_number(point, cells[2 * i]);
         out[2 * i + 1] = kept_number(point, cells[2 * i + 1]);
         i += 1;

@@ -44,23 +44,27 @@ near [] = true
 near (w ∷ ws) = ltb (mag w) 8 && near ws
 
 -- so no other number is one
+apart : (a n : ℕ) → T (ltb a 8) → 8 ≤ n → eqb a n ≡ false
+apart a n t h = ne-eqb a n (omega (arith, ltb→lt a 8 t))
+
 far-above : (l : List ℤ) → T (near l) → (n : ℕ) → 8 ≤ n → onAxis l (pos n) ≡ false
 unfolding onAxis sameNumber near
 far-above [] t n h = refl
-far-above (pos a ∷ l) t n h = rw (ne-eqb a n (omega (arith, ltb→lt a 8 (both-left (ltb a 8) (near l) t)))) (far-above l (both-right (ltb a 8) (near l) t) n h)
+far-above (pos a ∷ l) t n h = rw (apart a n (both-left (ltb a 8) (near l) t) h) (far-above l (both-right (ltb a 8) (near l) t) n h)
 far-above (negsuc a ∷ l) t n h = far-above l (both-right (ltb a 8) (near l) t) n h
 
 far-below : (l : List ℤ) → T (near l) → (n : ℕ) → 8 ≤ n → onAxis l (negsuc n) ≡ false
 unfolding onAxis sameNumber near
 far-below [] t n h = refl
 far-below (pos a ∷ l) t n h = far-below l (both-right (ltb a 8) (near l) t) n h
-far-below (negsuc a ∷ l) t n h = rw (ne-eqb a n (omega (arith, ltb→lt a 8 (both-left (ltb a 8) (near l) t)))) (far-below l (both-right (ltb a 8) (near l) t) n h)
+far-below (negsuc a ∷ l) t n h = rw (apart a n (both-left (ltb a 8) (near l) t) h) (far-below l (both-right (ltb a 8) (near l) t) n h)
 
 -- and in the places of a mask from -8 to -1 it has neither 1 nor all that is there
 far-mask : (m r : ℕ) → r < 8 → 8 ≤ m → m < 65528 → eqb (bitAnd m (65528 + r)) 1 || eqb (bitAnd m (65528 + r)) (65528 + r) ≡ false
 far-mask m r s h l =
     let e : m ≡ m / 8 * 2 ^ 3 + m % 8 = omega arith in
-    let f : bitAnd m (65528 + r) ≡ bitAnd (m / 8) 8191 * 8 + bitAnd (m % 8) r = ap (λ m. bitAnd m (65528 + r)) e ∙ and-block 3 (m / 8) 8191 (m % 8) r (omega arith) s in
+    let b = and-block 3 (m / 8) 8191 (m % 8) r (omega arith) s in
+    let f : bitAnd m (65528 + r) ≡ bitAnd (m / 8) 8191 * 8 + bitAnd (m % 8) r = ap (λ m. bitAnd m (65528 + r)) e ∙ b in
     let g : bitAnd (m / 8) 8191 ≡ m / 8 = omega (arith, and-mask (m / 8) 13) in
     let k = and-le-r (m % 8) r in
     rw (ne-eqb (bitAnd m (65528 + r)) 1 (λ p. omega (arith, p, f, g)), ne-eqb (bitAnd m (65528 + r)) (65528 + r) (λ p. omega (arith, p, f, g, k)))
@@ -164,7 +168,8 @@ pub delay-next : (D i delay r : ℕ) → delay ≡ i % D → r ≡ (delay + 1) %
 delay-next D i delay r e f = f ∙ rw e (mod-add-mod i D 1)
 
 -- the test that every cell is a point of a constellation
-only-cell : (c : ℕ) (cells : List ℤ) (i : ℕ) → cellPasses (pointsOnly c) cells i ≡ isPoint (constellation c) (getD cells (2 * i) (pos 0)) (getD cells (2 * i + 1) (pos 0))
+only-cell : (c : ℕ) (cells : List ℤ) (i : ℕ)
+    → cellPasses (pointsOnly c) cells i ≡ isPoint (constellation c) (getD cells (2 * i) (pos 0)) (getD cells (2 * i + 1) (pos 0))
 unfolding cellPasses
 only-cell c cells i = rw (mod-one i)
 
@@ -173,8 +178,9 @@ unfolding pointsPass arePoints isPoint axis
 points-only c cells h =
     let n : length cells ≡ 2 * (length cells / 2) = omega arith in
     let K = constellation c in
+    let f : ℕ → Bool = λ j. onAxis (axis K j) (getD cells j (pos 0)) in
     ap every
-    (table-ext (cellPasses (pointsOnly c) cells) (λ i. onAxis (axis K (2 * i)) (getD cells (2 * i) (pos 0)) && onAxis (axis K (2 * i + 1)) (getD cells (2 * i + 1) (pos 0))) 0 (length cells / 2)
+    (table-ext (cellPasses (pointsOnly c) cells) (λ i. f (2 * i) && f (2 * i + 1)) 0 (length cells / 2)
     (λ i a b. only-cell c cells i ∙ rw (eq-eqb (2 * i % 2) 0 (omega arith), ne-eqb ((2 * i + 1) % 2) 0 (omega arith))))
-    ∙ sym (every-pairs (λ j. onAxis (axis K j) (getD cells j (pos 0))) 0 (length cells / 2))
-    ∙ ap (λ m. every (table (λ j. onAxis (axis K j) (getD cells j (pos 0))) 0 m)) (sym n)
+    ∙ sym (every-pairs f 0 (length cells / 2))
+    ∙ ap (λ m. every (table f 0 m)) (sym n)

@@ -26,7 +26,8 @@ pub record Masks (c : ℕ) (mask : ℤ) : Type 0 where
 -- What is found of cell i by a mask: for a constellation whose coordinates the mask tells, that the cell is a point, or (0, 0) where such cells pass.
 pub record Finds (mask : ℤ) (blank : Bool) (cells : List ℤ) (i : ℕ) (r : Bool) : Type 0 where
   pub found : (c : ℕ) → Masks c mask
-      → r ≡ (blank && isEmpty (getD cells (2 * i) (pos 0)) (getD cells (2 * i + 1) (pos 0))) || isPoint (constellation c) (getD cells (2 * i) (pos 0)) (getD cells (2 * i + 1) (pos 0))
+      → r ≡ (blank && isEmpty (getD cells (2 * i) (pos 0)) (getD cells (2 * i + 1) (pos 0)))
+      || isPoint (constellation c) (getD cells (2 * i) (pos 0)) (getD cells (2 * i + 1) (pos 0))
 
 -- Four bits are a coordinate where the largest one is top: with that added they are even and at most twice top.
 abbrev pub halfPasses : ℕ → ℕ → Bool

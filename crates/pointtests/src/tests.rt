@@ -37,8 +37,8 @@ fn cell_passes(mask: i16, blank: bool, cells: &[i16], i: usize) -> bool
     (blank & ((re == 0) & (im == 0))) | (is_coordinate(mask, re) & is_coordinate(mask, im))
 }
 
-// The delay of the next cell.
-fn next_delay(depth: usize, delay: usize) -> usize
+// One more, 0 after the last: the delay of the next cell, the slot of the next frame.
+pub fn next_modulo(depth: usize, delay: usize) -> usize
     requires { ⌜ delay < depth ⌝ }
     ensures { λ r. ⌜ r ≡ (delay + 1) % depth ⌝ }
 {
@@ -49,7 +49,7 @@ fn next_delay(depth: usize, delay: usize) -> usize
 }
 
 // Every cell passes, and none is ignored. All are looked at, whatever came before.
-fn all_pass(c: u8, blank: bool, cells: &[i16]) -> bool
+pub fn all_pass(c: u8, blank: bool, cells: &[i16]) -> bool
     ensures { λ r. ⌜ r ≡ pointsPass (allCells c blank) (now (cells .entry)) ⌝ }
 {
     let mask = mask_of(c);
@@ -75,7 +75,7 @@ fn some_pass(test: PointTest, cells: &[i16]) -> bool
     let mut i = 0;
     while i < n {
         passed = passed & ((test.count < delay) | cell_passes(mask, test.blank, cells, i));
-        delay = next_delay(test.depth, delay);
+        delay = next_modulo(test.depth, delay);
         i += 1;
     }
     passed

@@ -10,12 +10,12 @@ use Rattle.faults.proofs.lowest.point_test.Statement.{statement}
 use Rattle.faults.proofs.lowest.point_test.Tie as tie
 
 returns : tie.Need-returns
-returns c = test-fac _ _ _ _ _ _ _ (c .before .before .if1 .taken) (c .before .before .before .pre .0 .faclong) (c .points-only .ensures)
+returns c = test-fac _ _ _ _ _ _ _ (c .before .before .if1 .taken) (c .before .before .before .pre .0 .faclong) (c .all-pass .ensures)
 
 returns-2 : tie.Need-returns-2
 returns-2 c =
     let b = c .before .before in
-    test-sdc _ _ _ _ _ _ _ _ (b .if2 .taken) (omega (arith, b .before .before .pre .0 .sdclong)) (c .before .sdc-constellation .ensures) (c .points-only2 .ensures)
+    test-sdc _ _ _ _ _ _ _ _ (b .if2 .taken) (omega (arith, b .before .before .pre .0 .sdclong)) (c .before .sdc-constellation .ensures) (c .all-pass2 .ensures)
 
 row-test-requires : tie.Need-row-test-requires
 row-test-requires c κs =

@@ -24,8 +24,8 @@ loop-again c =
     let p = b .before .before .pre in
     let cells = b .before .before .args .cells .now in
     let low : 2 * b .loop .i + 2 ≤ length (b .before .before .args .cells .now) = omega (arith, c .before .before .before .before .before .before .loop-test .taken) in
-    let point = c .before .before .before .before .is-point .result in
-    let test = c .before .before .before .before .is-point .ensures in
+    let point = c .before .before .before .before .all-pass .result in
+    let test = c .before .before .before .before .all-pass .ensures in
     let re = toZ-ofZ {w = w16} (sfits-of {w = w16} (c .before .before .kept-number .ok)) ∙ c .before .before .kept-number .ensures in
     let im = toZ-ofZ {w = w16} (sfits-of {w = w16} (c .kept-number2 .ok)) ∙ c .kept-number2 .ensures in (
       omega arith,

@@ -22,7 +22,7 @@ loop-again c =
       passed-turn _ _ _ _ _ (search needs)
           (cell-read (start .args .test) _ (l .loop .i) _ _ _ (l .before .mask-of .ensures) (l .loop .inv .1) (c .before .cell-passes .ensures))
           (l .loop .inv .0),
-      delay-next _ _ _ _ (l .loop .inv .1) (c .next-delay .ensures),
+      delay-next _ _ _ _ (l .loop .inv .1) (c .next-modulo .ensures),
     )
 
 returns : tie.Need-returns Inv-loop μ-loop
