@@ -1,25 +1,21 @@
 -- The lowest block at fault: loops that stop at the first test that fails, and the tests of refusal 13. Assumes nothing.
 use mathlib.Core.Path.{_≡_, refl, sym, ap, ap₂, _∙_}
-use mathlib.Core.Bool.{Bool, true, false, not, _&&_, true≢false}
+use mathlib.Core.Bool.{Bool, true, false, not, true≢false}
 use mathlib.Core.List.{List, _∷_}
-use Prim.Native.Nat.{ℕ, suc, _+_, _-_, _*_, _≤_, _<_, _^_, _%_, min}
+use Prim.Native.Nat.{ℕ, suc, _+_, _-_, _*_, _≤_, _<_, _%_, min}
 use native.Mathlib.Nat.{sub-zero, zero-add, add-zero}
 use native.Mathlib.Numerals.{add-one}
 use native.Mathlib.Omega.{arith}
 use borrow.Author.Tests.{ne-eqb, lt-ltb, le-ltb, not-true, not-false}
-use lib.ListN.{length, getD, take, drop, drop-of-length-le, length-drop}
-use lib.IntN.{ℤ, pos}
-use mir.Syntax.{w16}
-use mir.Val.{toZ, ofZ}
-use mir.Facts.{toZ-ofZ}
+use lib.ListN.{length, take, drop, length-drop}
+use lib.IntN.{ℤ}
 use Rattle.lists.specs.Lists.{table}
 use Rattle.channels.specs.declared.Scheme.{Scheme}
 use Rattle.settings.specs.Lengths.{nMux, nSfa}
 use Rattle.settings.specs.Cells.{facCells}
 use Rattle.settings.specs.Sizes.{depth}
-use Rattle.lists.specs.Same.{sameNumber, sameNumbers}
+use Rattle.lists.specs.Same.{sameNumbers}
 use Rattle.lists.specs.Bools.{every, firstFault}
-use Rattle.lists.proofs.Same.{sameNumber-refl, sameNumber-true}
 use Rattle.channels.specs.Sdc.{sdcConstellation}
 use Rattle.superframe.specs.Memory.{slotSize}
 use Rattle.superframe.specs.Interleaving.{fillers}
@@ -33,10 +29,7 @@ use Rattle.faults.specs.declared.Fault.the-variants.{Nowhere, At}
 use Rattle.cellmemory.specs.Contracts.{fillerNumbers}
 use Rattle.cellmemory.proofs.Points.{rowTest, row-points, sdc-points, fac-points}
 use Rattle.superframe.proofs.Laid.{part-is, length-mid}
-use Rattle.cellmemory.proofs.FillerTurns.{filler-fits}
-use lib.Seq.{drop-cons, getD-take, length-take-le, take-all}
-use lib.Signed.{mag}
-use borrow.Author.Needs.{sfits-of}
+use lib.Seq.{length-take-le, take-all}
 
 -- Not a fault, or the place of one.
 isAt : Fault → Bool
@@ -96,50 +89,6 @@ module _ (f : ℕ → Bool) (n : ℕ) where
   faultless-end i h w =
       let e : n - i ≡ 0 = omega arith in
       sym (rw (w .tests, e))
-
--- Two lists of numbers agree before turn k: the rest decides.
-pub record Agrees (l m : List ℤ) (k : ℕ) : Type 0 where
-  pub upto : k ≤ length l
-  pub rest : sameNumbers l m ≡ sameNumbers (drop k l) (drop k m)
-
-module _ (l m : List ℤ) (e : length m ≡ length l) where
-  pub agrees-start : Agrees l m 0
-  agrees-start = record { upto = omega arith; rest = refl }
-
-  number-more : (k : ℕ) → k < length l → sameNumbers (drop k l) (drop k m)
-      ≡ sameNumber (getD l k (pos 0)) (getD m k (pos 0)) && sameNumbers (drop (k + 1) l) (drop (k + 1) m)
-  unfolding sameNumbers
-  number-more k h =
-      let g : k < length m = omega arith in
-      rw (drop-cons l k (pos 0) h, drop-cons m k (pos 0) g, add-one)
-
-  pub agrees-turn : (k : ℕ) → k < length l → getD l k (pos 0) ≡ getD m k (pos 0) → Agrees l m k → Agrees l m (k + 1)
-  agrees-turn k h g w = record { upto = omega arith; rest = w .rest ∙ number-more k h ∙ rw (g, sameNumber-refl (getD m k (pos 0))) }
-
-  pub agrees-stop : (k : ℕ) → k < length l → (ofZ w16 (getD l k (pos 0)) ≡ ofZ w16 (getD m k (pos 0)) → ⊥) → Agrees l m k → false ≡ sameNumbers l m
-  agrees-stop k h g w =
-      sym (w .rest ∙ number-more k h ∙ ap (λ (b : Bool). b && sameNumbers (drop (k + 1) l) (drop (k + 1) m)) (go (sameNumber (getD l k (pos 0)) (getD m k (pos 0))) refl))
-    where
-      go : (b : Bool) → sameNumber (getD l k (pos 0)) (getD m k (pos 0)) ≡ b → b ≡ false
-      go true i = absurd (g (ap (ofZ w16) (sameNumber-true (getD l k (pos 0)) (getD m k (pos 0)) i)))
-      go false i = refl
-
-  pub agrees-end : (k : ℕ) → length l ≤ k → Agrees l m k → true ≡ sameNumbers l m
-  unfolding sameNumbers
-  agrees-end k h w = sym (w .rest ∙ rw (drop-of-length-le l {i = k} h, drop-of-length-le m {i = k} (omega arith)))
-
--- The fillers as the code holds them.
-pub fillers-long : (cells : List ℤ) → length cells ≤ 4 → length (take (length cells) fillerNumbers) ≡ length cells
-fillers-long cells h = length-take-le (length cells) fillerNumbers h
-
-pub filler-same : (cells : List ℤ) (k : ℕ) → k < length cells → mag (getD cells k (pos 0)) < 2 ^ 15
-    → ofZ w16 (getD cells k (pos 0)) ≡ ofZ w16 (getD fillerNumbers k (pos 0)) → getD cells k (pos 0) ≡ getD (take (length cells) fillerNumbers) k (pos 0)
-filler-same cells k h f e =
-    sym (toZ-ofZ {w = w16} (sfits-of {w = w16} f)) ∙ ap (toZ w16) e ∙ filler-fits k ∙ sym (getD-take (length cells) fillerNumbers k (pos 0) h)
-
-pub filler-differs : (cells : List ℤ) (k : ℕ) → k < length cells → (ofZ w16 (getD cells k (pos 0)) ≡ ofZ w16 (getD fillerNumbers k (pos 0)) → ⊥)
-    → ofZ w16 (getD cells k (pos 0)) ≡ ofZ w16 (getD (take (length cells) fillerNumbers) k (pos 0)) → ⊥
-filler-differs cells k h g e = g (e ∙ ap (ofZ w16) (getD-take (length cells) fillerNumbers k (pos 0) h))
 
 -- A row's test from its parts.
 pub row-test-is : (s : Scheme) (k D n seen count i : ℕ) (msc : List ℤ) (b : Bool) → k ≡ mscConstellation (s .settings .msc) → D ≡ depth (s .settings) → n ≡ slotSize (s .settings)

@@ -1,11 +1,12 @@
 // Refusals 13 and 14: the lowest block at fault. 01 "Operations".
 use crate::Fault;
 use block::QAM4;
-use cellmemory::fillers::FILLERS;
+use cellmemory::fillers::write_fillers;
 use cellmemory::rows::slot_size;
 use channels::Scheme;
 use channels::blocks::msc_constellation;
 use channels::blocks::sdc_constellation;
+use lists::numbers::same;
 use pointtests::PointTest;
 use pointtests::tests::all_pass;
 use pointtests::tests::points_pass;
@@ -29,14 +30,10 @@ fn fillers_right(cells: &[i16]) -> bool
     requires { ⌜ length (now cells) ≤ 4 ⌝ }
     ensures { λ b. ⌜ b ≡ sameNumbers (now (cells .entry)) (take (length (now (cells .entry))) fillerNumbers) ⌝ }
 {
-    let mut k = 0;
-    while k < cells.len() {
-        if cells[k] != FILLERS[k] {
-            return false;
-        }
-        k += 1;
-    }
-    true
+    let n = cells.len();
+    let mut fillers = [0i16; 4];
+    write_fillers(&mut fillers[0..n]);
+    same(cells, &fillers[0..n])
 }
 
 // The frames seen before row i of a call begun at a count.
