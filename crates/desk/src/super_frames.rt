@@ -1,5 +1,7 @@
 // Jobs on super frames.
 use console::Job;
+use endings::Lost;
+use endings::marks::lost_after;
 use holdpipes::files::begin_from;
 use holdpipes::files::store_at;
 use jobs::buffers;
@@ -14,9 +16,7 @@ use pipes::output::say_run;
 use settings::Settings;
 use superframe::State;
 use turns::End;
-use turns::Lost;
 use turns::Next;
-use turns::marks::lost_after;
 use turns::turn;
 use words::Counted;
 

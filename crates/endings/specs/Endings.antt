@@ -4,7 +4,7 @@ use mathlib.Core.Bool.{cond}
 use mathlib.Core.List.{List, [], _++_}
 use Rattle.line.specs.Written.{decimal}
 use Rattle.turns.specs.declared.End.{End}
-use Rattle.turns.specs.declared.Lost.{Lost}
+use Rattle.endings.specs.declared.Lost.{Lost}
 use Rattle.console.specs.Text.{bytesIn}
 use Rattle.words.specs.Report.{why, failed}
 

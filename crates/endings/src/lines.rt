@@ -1,6 +1,6 @@
 // What is said beside a run's report: what was lost, and what is wrong with a hold file.
+use crate::Lost;
 use turns::End;
-use turns::Lost;
 use words::report::failed;
 use words::report::put;
 use words::report::put_decimal;

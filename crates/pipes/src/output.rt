@@ -1,8 +1,8 @@
 // What goes out: the front of a buffer, and what is said on standard error.
+use endings::Lost;
 use endings::lines;
 use libc::STDERR_FILENO;
 use turns::End;
-use turns::Lost;
 use words::Counted;
 use words::report;
 use words::report::USAGE_BYTES;

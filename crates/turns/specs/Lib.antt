@@ -1,4 +1,3 @@
 pub mod Line
-pub mod Lost
 pub mod Turn
 pub mod Yield

@@ -1,7 +1,6 @@
 // What follows from a read and a write of the desk's program.
 pub mod answers;
 pub mod input;
-pub mod marks;
 pub mod turn;
 
 // How a super frame or a line went: through, refused with the number and the block, or no line of the job.
@@ -39,13 +38,6 @@ pub enum Seen {
     Feed,
     Ended,
     Failed,
-}
-
-// What a run that reads on has lost, by kind: FAC blocks, SDC blocks, multiplex frames.
-pub struct Lost {
-    pub fac: u64,
-    pub sdc: u64,
-    pub frames: u64,
 }
 
 // What follows: the run goes on, or it is over.

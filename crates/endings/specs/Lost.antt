@@ -4,7 +4,7 @@ use mathlib.Core.Bool.{cond}
 use mathlib.Core.List.{List}
 use lib.ListN.{length, getD}
 use lib.Dec.{ltb}
-use Rattle.turns.specs.declared.Lost.{Lost}
+use Rattle.endings.specs.declared.Lost.{Lost}
 
 -- Numbers stop at the largest of 64 bits.
 unfoldable pub added : ℕ → ℕ → ℕ

@@ -2,7 +2,7 @@
 use crate::Lost;
 ghost use mathlib.Core.Path.{_≡_};
 ghost use Prim.Native.Nat.{_+_};
-ghost use Rattle.turns.specs.Lost.{added, lostAfter};
+ghost use Rattle.endings.specs.Lost.{added, lostAfter};
 
 // A byte for each of three FAC blocks, the SDC block and three frames.
 const MARKS: usize = 7;

@@ -1,7 +1,7 @@
 use borrow.Author.Needs.{needs}
-use Rattle.turns.specs.Lost.{added}
-use Rattle.turns.proofs.marks.added.Statement.{statement}
-use Rattle.turns.proofs.marks.added.Tie as tie
+use Rattle.endings.specs.Lost.{added}
+use Rattle.endings.proofs.marks.added.Statement.{statement}
+use Rattle.endings.proofs.marks.added.Tie as tie
 
 returns : tie.Need-returns
 unfolding added

@@ -1,9 +1,9 @@
 use borrow.Author.Needs.{needs}
 use native.Mathlib.Nat.{add-zero}
 use borrow.Author.Tests.{lt-ltb, le-ltb}
-use Rattle.turns.specs.Lost.{lostAfter}
-use Rattle.turns.proofs.marks.lost_after.Statement.{statement}
-use Rattle.turns.proofs.marks.lost_after.Tie as tie
+use Rattle.endings.specs.Lost.{lostAfter}
+use Rattle.endings.proofs.marks.lost_after.Statement.{statement}
+use Rattle.endings.proofs.marks.lost_after.Tie as tie
 
 returns : tie.Need-returns
 unfolding lostAfter
