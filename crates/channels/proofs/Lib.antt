@@ -6,4 +6,3 @@ pub mod Msc
 pub mod Made
 pub mod Lent
 pub mod Schemes
-pub mod EveryTable

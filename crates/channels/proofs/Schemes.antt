@@ -41,12 +41,3 @@ scheme-accepted s e = go (ltb 0 (refusal (s .settings))) (passes (s .table)) ref
 pub standard-accepted : {s : Settings} → Accepted s → SchemeAccepted (standardScheme s)
 unfolding standardScheme
 standard-accepted A = record { settings = A; table = standard-passes }
-
--- with the standard's table the number is that of the settings
-pub standard-refusal : (s : Settings) → schemeRefusal (standardScheme s) ≡ refusal s
-unfolding schemeRefusal standardScheme first
-standard-refusal s = go (ltb 0 (refusal s)) refl
-  where
-    go : (a : Bool) → ltb 0 (refusal s) ≡ a → first a (refusal s) (first (not (passes (standardScheme s .table))) 23 0) ≡ refusal s
-    go true p = refl
-    go false p = rw (standard-passes .passed) (omega (arith, ltb-false 0 (refusal s) p))

@@ -5,4 +5,3 @@ pub mod Sdc
 pub mod Msc
 pub mod Contracts
 pub mod Cases
-pub mod EveryTable

@@ -8,7 +8,6 @@ use settings::refusals::refusal;
 ghost use mathlib.Core.Path.{_≡_};
 ghost use lib.ListN.{length};
 ghost use Rattle.channels.specs.Scheme.{schemeOf, schemeRefusal, standardScheme};
-ghost use Rattle.channels.specs.EveryTable.{EveryTable};
 
 // 1 to 7, then 23, which a lent table of another length has too.
 pub fn refusal_with(s: Settings, table: &[u8]) -> u8
@@ -54,8 +53,3 @@ pub fn standard_scheme(s: Settings) -> Scheme
         table: patterns::table::standard_table(),
     }
 }
-
-// S-11's theorem about blocks; the function is empty and promises it.
-pub fn every_table()
-    ensures { λ _. ⌜ EveryTable ⌝ }
-{}

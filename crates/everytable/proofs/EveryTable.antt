@@ -1,8 +1,10 @@
 -- S-11's theorem about blocks: the coded bits of every table that passes. Assumes nothing.
 use Prim.Native.Nat.{ℕ, _<_}
-use mathlib.Core.Path.{_≡_}
-use mathlib.Core.Bool.{true}
-use lib.Dec.{lit<}
+use mathlib.Core.Path.{_≡_, refl}
+use mathlib.Core.Bool.{Bool, true, false, not}
+use native.Mathlib.Omega.{arith}
+use borrow.Author.Tests.{ltb-false}
+use lib.Dec.{ltb, lit<}
 use mathlib.Core.List.{List}
 use lib.ListN.{length-append}
 use Rattle.patterns.specs.Patterns.{RX, RY, numerators, denominators, R3/5}
@@ -14,9 +16,11 @@ use Rattle.component.proofs.Lengths.{rate-length}
 use Rattle.settings.specs.Cells.{facCells}
 use Rattle.settings.specs.Formulas.{facBits}
 use Rattle.settings.specs.Rates.{facRate}
-use Rattle.channels.specs.EveryTable.{CodedBits, EveryTable}
+use Rattle.settings.specs.Refusal.{first, refusal}
+use Rattle.settings.specs.declared.Settings.{Settings}
+use Rattle.channels.specs.Scheme.{schemeRefusal, standardScheme}
+use Rattle.everytable.specs.EveryTable.{CodedBits, EveryTable}
 use Rattle.channels.proofs.Coded.{sizeA-is, sizeB-is, tail-fits}
-use Rattle.channels.proofs.Schemes.{standard-refusal}
 
 coded : (kept : List ℕ) → passes kept ≡ true → (rate w n : ℕ) → rate < 13 → CodedBits kept rate w n
 coded kept passed rate w n h =
@@ -27,6 +31,15 @@ coded kept passed rate w n h =
       partA = λ whole r bits e. rw (length-encode S r 0 bits (S .some), e) (sizeA-is A w n rate h whole);
       partB = λ room r after bits e. rw (length-encode S r 0 bits (S .some), e, length-encode T after 0 _ (T .some), length-tail) (sizeB-is A w n rate h room);
     }
+
+-- With the standard's table the number is that of the settings.
+standard-refusal : (s : Settings) → schemeRefusal (standardScheme s) ≡ refusal s
+unfolding schemeRefusal standardScheme first
+standard-refusal s = go (ltb 0 (refusal s)) refl
+  where
+    go : (a : Bool) → ltb 0 (refusal s) ≡ a → first a (refusal s) (first (not (passes (standardScheme s .table))) 23 0) ≡ refusal s
+    go true p = refl
+    go false p = rw (standard-passes .passed) (omega (arith, ltb-false 0 (refusal s) p))
 
 pub every-table : EveryTable
 unfolding facRate facBits facCells RX RY numerators denominators
