@@ -46,7 +46,7 @@ set-after : {A : Type 0} (l r : List A) (i : ℕ) (x y : A) → i ≡ length l �
 set-after [] r i x y e = rw e
 set-after (a ∷ l) r i x y e = rw e (ap (λ (m : List _). a ∷ m) (set-after l r (length l) x y refl))
 
--- A kind of block, recovered from n bytes, and blocks in their places over zeros; the next block is read.
+-- A kind of block, recovered from n bytes, and blocks in their places, each over what stood there; the next block is read.
 module _ (k : Block) (n : ℕ) (R : Recovers k n) where
   kept-long : (cells : List ℤ) → length (keptBytes k n cells) ≡ n
   unfolding keptBytes

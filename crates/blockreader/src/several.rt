@@ -54,7 +54,7 @@ fn read_each(
     given
 }
 
-// The same, with places and buffers for small blocks: to clear those of the largest takes longer than to read an FAC block.
+// The same, with a table of places and buffers for small blocks: to clear those of the largest takes longer than to read an FAC block.
 fn read_small(k: Block, many: usize, cells: &[i16], bytes: &mut [u8]) -> [bool; 3]
     requires { ⌜ SeveralLent k many (now cells) (now bytes) × (k .cells ≤ 846) ⌝ }
     ensures { λ r. ⌜ SeveralRead k many (now (cells .entry)) (now (bytes .entry)) r (now (bytes .exit)) ⌝ }
