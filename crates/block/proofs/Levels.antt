@@ -17,7 +17,7 @@ use Rattle.interleaver.specs.Deinterleaving.{deinterleaved}
 use Rattle.component.proofs.Bits.{bits-nil, bits-append, bits-drop}
 use Rattle.component.proofs.Register.{after-low}
 use Rattle.component.proofs.Codeword.{length-encode, codeword-bits, codeword-one, codeword-two, length-tail}
-use Rattle.component.proofs.Decoding.{length-decode, decode-bits, decode-encode}
+use Rattle.component.proofs.Decoding.{length-decode, decode-encode}
 use Rattle.interleaver.proofs.Interleaving.{interleaved-length, interleaved-all, deinterleaved-interleaved, interleaved-none, deinterleaved-none}
 use Rattle.patterns.specs.Contracts.{patternOf}
 use Rattle.block.specs.declared.Level.{Level}
@@ -166,13 +166,3 @@ pub length-inputsB : (ls : List Level) (ys : List (List ℕ)) → length (inputs
 unfolding inputsB totalB inputB
 length-inputsB [] ys = refl
 length-inputsB (l ∷ ls) ys = rw (length-append, length-decode, length-inputsB ls (drop 1 ys))
-
-pub bits-inputsA : (ls : List Level) (ys : List (List ℕ)) → Bits (inputsA ls ys)
-unfolding inputsA inputA
-bits-inputsA [] ys = bits-nil
-bits-inputsA (l ∷ ls) ys = bits-append (decode-bits (patternOf (l .patterna)) 0 0 (l .bitsa) _) (bits-inputsA ls (drop 1 ys))
-
-pub bits-inputsB : (ls : List Level) (ys : List (List ℕ)) → Bits (inputsB ls ys)
-unfolding inputsB inputB
-bits-inputsB [] ys = bits-nil
-bits-inputsB (l ∷ ls) ys = bits-append (decode-bits (patternOf (l .patternb)) _ 0 (l .bitsb) _) (bits-inputsB ls (drop 1 ys))

@@ -124,9 +124,6 @@ module _ (s : Scheme) (memory : List ℕ) (nine ten : Bool) (n : ℕ) (g : n ≡
   pub then-nine : n ≡ 0 → nine ≡ true
   then-nine h = not-false nine (then-passes h .1)
 
-  pub then-ten : n ≡ 0 → ten ≡ true
-  then-ten h = not-false ten (then-passes h .2)
-
   pub then-goes-on : (m : ℕ) → n ≡ 0 → refusalThen s memory nine ten m ≡ m
   unfolding refusalThen first
   then-goes-on m h = rw (then-scheme h, then-passes h .0, then-passes h .1, then-passes h .2)

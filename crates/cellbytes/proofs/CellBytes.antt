@@ -1,6 +1,6 @@
 -- Numbers and the bytes of their cells give each other back; parts of both. Assumes nothing.
 use Prim.Native.Nat.{ℕ, _+_, _*_, _/_, _%_, _≤_, _<_, min}
-use mathlib.Core.Path.{_≡_, refl, sym, ap, ap₂, subst, _∙_}
+use mathlib.Core.Path.{_≡_, refl, sym, ap, subst, _∙_}
 use mathlib.Core.Logic.{inl, inr}
 use mathlib.Core.Bool.{Bool, true, false, cond}
 use mathlib.Core.List.{List}
@@ -12,7 +12,7 @@ use lib.IntN.{ℤ, pos, negsuc}
 use lib.Dec.{eqb}
 use Rattle.lists.specs.Lists.{table}
 use Rattle.lists.proofs.Counting.{below-or}
-use Rattle.lists.proofs.Tables.{length-table, getD-table, table-is, table-ext}
+use Rattle.lists.proofs.Tables.{length-table, getD-table, table-is}
 use Rattle.cellbytes.specs.TwosComplement.{twosComplement}
 use Rattle.cellbytes.specs.CellBytes.{signed, fourBits, cellByte, realOf, imaginaryOf, numberAt, numbers, bytes}
 use Rattle.cellbytes.specs.Contracts.{Small, AllSmall, AllBytes}
@@ -45,14 +45,6 @@ small-pos n h = record { back = twos-pos 16 n h }
 pub small-neg : (n : ℕ) → n < 8 → Small (negsuc n)
 unfolding fourBits signed
 small-neg n h = record { back = twos-neg 16 n h }
-
-pub real-small : (b : ℕ) → b < 256 → Small (realOf b)
-unfolding realOf
-real-small b h = signed-small (b / 16) (omega arith)
-
-pub imaginary-small : (b : ℕ) → b < 256 → Small (imaginaryOf b)
-unfolding imaginaryOf
-imaginary-small b h = signed-small (b % 16) (omega arith)
 
 -- a cell is that of its byte
 high-half : (a b : ℕ) → b < 16 → (16 * a + b) / 16 ≡ a
@@ -159,23 +151,6 @@ numbers-bytes vs e s =
     (by-cells (λ k. k < 2 * length (bytes vs) → numberAt (bytes vs) k ≡ getD vs k (pos 0))
     (λ i h. number-real (bytes vs) i ∙ rw (byte-at vs i (omega (arith, length-bytes vs))) (real-cell _ _ ∙ s .small (2 * i) .back))
     (λ i h. number-imaginary (bytes vs) i ∙ rw (byte-at vs i (omega (arith, length-bytes vs))) (imaginary-cell _ _ ∙ s .small (2 * i + 1) .back)))
-
--- numbers of bytes are small
-pub numbers-small : (bs : List ℕ) → AllBytes bs → AllSmall (numbers bs)
-numbers-small bs b =
-    record {
-      small = by-cells (λ k. Small (getD (numbers bs) k (pos 0)))
-          (λ i. rw (real-at bs i) (real-small (getD bs i 0) (b .low i)))
-          (λ i. rw (imaginary-at bs i) (imaginary-small (getD bs i 0) (b .low i)));
-    }
-
--- the bytes of numbers by their places
-pub bytes-table : (f : ℕ → ℤ) (n : ℕ) → bytes (table f 0 (2 * n)) ≡ table (λ i. cellByte (f (2 * i)) (f (2 * i + 1))) 0 n
-unfolding bytes
-bytes-table f n =
-    let h : length (table f 0 (2 * n)) / 2 ≡ n = rw length-table (omega arith) in
-    rw h
-    (table-ext _ _ 0 n (λ i a b. ap₂ cellByte (getD-table (pos 0) f (2 * n) (2 * i) (omega arith)) (getD-table (pos 0) f (2 * n) (2 * i + 1) (omega arith))))
 
 -- parts of both: numbers of equal bytes are equal
 pub number-same : (cs bs : List ℕ) (j k : ℕ) → getD cs (j / 2) 0 ≡ getD bs (k / 2) 0 → j % 2 ≡ k % 2 → getD (numbers cs) j (pos 0) ≡ getD (numbers bs) k (pos 0)

@@ -3,7 +3,7 @@ use Prim.Native.Nat.{ℕ, zero, suc, _+_, _-_, _*_, _/_, _%_, _≤_, _<_}
 use mathlib.Core.Path.{_≡_, refl, sym, ap, ap₂, _∙_}
 use mathlib.Core.Bool.{true, false}
 use mathlib.Core.List.{List, [], _∷_, _++_}
-use native.Mathlib.Nat.{mul-zero, zero-div, zero-mod, mod-lt, div-add-mod'}
+use native.Mathlib.Nat.{zero-mod, mod-lt, div-add-mod'}
 use native.Mathlib.Omega.{arith}
 use lib.Arith.{digits-div, digits-mod}
 use lib.Dec.{T, ltb, ltb→lt}
@@ -71,11 +71,6 @@ pub made : (kept : List ℕ) (codedA codedB rateA rateB t a b y : ℕ) (p q w : 
     → _≡_ {A = Level} (record { bitsa = a; bitsb = b; patterna = p; patternb = q; tail = w; t = t }) (levelBy kept codedA codedB rateA rateB t)
 unfolding levelBy
 made kept codedA codedB rateA rateB t a b y p q w ea eb ep eq ey ew = rw (ea, eb, ep, eq, ew, ey)
-
--- No bits for no coded bits.
-pub share-none : (rate : ℕ) → share 0 rate ≡ 0
-unfolding share
-share-none rate = rw (zero-div, mul-zero)
 
 -- part A's bits are whole rounds where the rate's denominator divides N
 pub bitsA-share : (w n rate : ℕ) → n % RY rate ≡ 0 → share (w * n) rate ≡ bitsA w n rate

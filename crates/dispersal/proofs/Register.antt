@@ -64,11 +64,6 @@ pub register-bit : (n : ℕ) → bitOf (registerAt n) ≡ p n
 unfolding bitOf
 register-bit n = same-bit (registerAt n) (value (sequence n)) (register-is n) ∙ sym (next-bit n)
 
-pub register-low : (n : ℕ) → registerAt n < 512
-unfolding registerAt shifted
-register-low zero = omega arith
-register-low (suc n) = omega arith
-
 -- one computed test: after 511 bits the register holds nine ones again
 whole-period : registerAt 511 ≡ 511
 unfolding registerAt shifted bitOf

@@ -16,7 +16,7 @@ use Rattle.superframe.specs.declared.State.{State}
 use Rattle.superframe.specs.Call.{memoryLength, inOrder}
 use Rattle.superframe.specs.Reset.{resetRefusal}
 use Rattle.superframe.specs.Contracts.{Fits, Ordered}
-use Rattle.superframe.proofs.Calls.{first-own, first-zero, ordered, in-order}
+use Rattle.superframe.proofs.Calls.{first-own, first-zero, ordered}
 use Rattle.callrefusals.specs.Contracts.{refusalThen}
 use Rattle.callrefusals.proofs.Chains.{then-stops, then-fits, then-goes-on}
 use Rattle.holdlines.specs.declared.Form.{Form}
@@ -90,10 +90,6 @@ module _ (form : Form) (state : State) (memory file : List ℕ) where
         room = eqb-true _ _ (not-false _ (d .0));
         order = ordered false state memory (not-false _ (f .0));
       }
-
-  pub fits-store : StoreFits → storeRefusal form state memory file ≡ 0
-  unfolding storeRefusal first
-  fits-store h = rw (h .fits .scheme, eq-eqb _ _ (h .fits .long), eq-eqb _ _ (h .room), in-order false state memory (h .order))
 
   -- What an accepted and what a refused call yields.
   pub store-accepts : storeRefusal form state memory file ≡ 0 → storeOf form state memory file ≡ convertYield 0 (fileOf form (state .scheme .settings) (heldOf state memory))

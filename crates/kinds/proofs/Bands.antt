@@ -104,7 +104,3 @@ offset-is (suc (suc (suc (suc m)))) s h = absurd (omega arith)
 pub band-end : (m o : ℕ) → Pairing m o → lower m o + carriers m o ≤ 471
 unfolding carriers
 band-end m o p = let b = band m o p in omega arith
-
-pub some-carriers : (m o : ℕ) → Pairing m o → 1 ≤ carriers m o
-unfolding carriers
-some-carriers m o p = let b = band m o p in omega arith

@@ -34,10 +34,6 @@ module _ (c : List ℕ → ℕ) (x y : List ℕ) where
   unfolding better
   better-first h = rw (le-leb (c x) (c y) h)
 
-  pub better-second : c y < c x → better c x y ≡ y
-  unfolding better
-  better-second h = rw (lt-leb (c x) (c y) h)
-
   -- the better one costs no more than either
   pub better-low : (c (better c x y) ≤ c x) × (c (better c x y) ≤ c y)
   unfolding better

@@ -6,7 +6,6 @@ use native.Mathlib.Omega.{arith}
 use lib.Dec.{T, leb, leb→le, lit<, lit≤}
 use lib.Arith.{digits-div, digits-mod}
 use lib.ListN.{length, getD, List·getD-eq-default}
-use native.Mathlib.Nat.{le-trans}
 use Rattle.settings.specs.Places.{placeIn}
 use Rattle.settings.specs.Rates.{rates, table67, table68, table69, table71, commonDenominator, vsppRate, sdcRates}
 use Rattle.settings.specs.Cells.{entry}
@@ -65,15 +64,3 @@ no-vspp level h = List·getD-eq-default (4 ∷ 5 ∷ 6 ∷ 7 ∷ []) 0 h
 pub no-sdc : (sdc : ℕ) → 2 ≤ sdc → sdcRates sdc ≡ []
 unfolding sdcRates
 no-sdc sdc h = List·getD-eq-default ((2 ∷ 7 ∷ []) ∷ (4 ∷ []) ∷ []) [] h
-
-pub sdc-rates-beside : (sdc k : ℕ) → 2 ≤ k → getD (sdcRates sdc) k 0 ≡ 0
-unfolding sdcRates
-sdc-rates-beside sdc k h =
-    List·getD-eq-default (sdcRates sdc) 0
-    (le-trans (leb→le _ 2 (all-at (λ r. leb (length r) 2) ((2 ∷ 7 ∷ []) ∷ (4 ∷ []) ∷ []) [] tt tt sdc)) h)
-
-pub sdc-rate-at : (sdc k : ℕ) → sdc < 2 → k < 2
-    → getD (values (λ i. getD (sdcRates (i / 2)) (i % 2) 0) 4) (sdc * 2 + k) 0 ≡ getD (sdcRates sdc) k 0
-sdc-rate-at sdc k h l =
-    value-at (λ i. getD (sdcRates (i / 2)) (i % 2) 0) 4 (sdc * 2 + k) (omega arith)
-    ∙ ap₂ (λ i j. getD (sdcRates i) j 0) (digits-div sdc l) (digits-mod sdc l)

@@ -77,12 +77,8 @@ module _ (w d c : ℕ) where
       (exact-times rs (both-right (eqb (d % RY r) 0) (divide d rs) t))
       ∙ sym (mul-add c _ _)
 
--- Facts of every protection level, each one computed test: the common denominator is 1 to 165, every rate's denominator divides
+-- Facts of every protection level, each one computed test: the common denominator is at most 165, every rate's denominator divides
 -- it, as many cells of part A as it says hold some bits, and a cell holds at most six coded bits.
-pub common-positive : (msc level : ℕ) → Level msc level → 1 ≤ commonDenominator msc level
-unfolding commonDenominator topLevel
-common-positive msc level l = leb→le 1 _ (level-at (λ m l. leb 1 (commonDenominator m l)) tt msc level l)
-
 pub common-low : (msc level : ℕ) → Level msc level → commonDenominator msc level ≤ 165
 unfolding commonDenominator topLevel
 common-low msc level l = leb→le _ 165 (level-at (λ m l. leb (commonDenominator m l) 165) tt msc level l)
@@ -183,14 +179,6 @@ rounds-of msc level n k w h =
     e ∙ times-denominator (n / commonDenominator msc level) (commonDenominator msc level) (getD (rates msc level) k 0) divides
 
 module _ (msc level n k : ℕ) (m : Whole msc level n) (h : k < length (rates msc level)) where
-  -- The coded bits of part A, w for each cell, are whole rounds of each level's pattern.
-  pub whole-rounds : (w : ℕ) → w * n % RY (getD (rates msc level) k 0) ≡ 0
-  whole-rounds w =
-      let q : ℕ = n / commonDenominator msc level * (commonDenominator msc level / RY (getD (rates msc level) k 0)) in
-      ap (λ t. w * t % RY (getD (rates msc level) k 0)) (rounds-of msc level n k m h)
-      ∙ ap (λ t. t % RY (getD (rates msc level) k 0)) (sym (mul-assoc w q (RY (getD (rates msc level) k 0))))
-      ∙ mul-mod-left (w * q) (RY (getD (rates msc level) k 0))
-
   -- A level's bits in part A are the share of its coded bits.
   pub bitsA-share : (w : ℕ) → bitsA w n (getD (rates msc level) k 0) ≡ share (w * n) (getD (rates msc level) k 0)
   bitsA-share w =

@@ -13,11 +13,7 @@ pub differs-unknown : (bit : ℕ) → differs 2 bit ≡ 0
 unfolding differs
 differs-unknown bit = refl
 
--- missing values count nothing, and neither do missing bits
-pub none-disagrees : (bits : List ℕ) → disagreement [] bits ≡ 0
-unfolding disagreement
-none-disagrees bits = refl
-
+-- missing bits count nothing
 pub none-disagreed : (values : List ℕ) → disagreement values [] ≡ 0
 unfolding disagreement
 none-disagreed [] = refl
