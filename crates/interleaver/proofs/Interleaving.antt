@@ -1,47 +1,19 @@
--- Interleaving and its inverse: loops that step the place along, and laws for lists of any elements. Assumes nothing.
+-- Interleaving and its inverse: laws for lists of any elements. Assumes nothing.
 use mathlib.Core.Path.{_≡_, refl, sym, _∙_}
 use mathlib.Core.Logic.{_⊎_, inl, inr}
 use mathlib.Core.List.{List, [], _∷_}
-use Prim.Native.Nat.{ℕ, suc, _+_, _-_, _/_, _≤_, _<_}
+use Prim.Native.Nat.{ℕ, suc, _+_, _≤_, _<_}
 use native.Mathlib.Nat.{add-zero, zero-add, add-suc, suc-add, eq-or-lt-of-le, le-of-suc-le-suc, le-antisymm}
 use native.Mathlib.Numerals.{add-one}
 use native.Mathlib.Omega.{arith}
 use lib.ListN.{length, getD, set, length-set, replicate, length-replicate, List·getD-eq-default}
 use lib.Seq.{ext-getD, getD-set-same, getD-set-other}
-use Rattle.interleaver.specs.Interleaving.{size, offset, nextPlace, place, interleaved}
-use Rattle.interleaver.specs.Deinterleaving.{Cycles, Interleaves, Steps, putBack, deinterleaved}
+use Rattle.interleaver.specs.Interleaving.{place, interleaved}
+use Rattle.interleaver.specs.Deinterleaving.{Cycles, putBack, deinterleaved}
 use Rattle.lists.specs.Lists.{table}
 use Rattle.lists.proofs.Counting.{below-or}
 use Rattle.interleaver.proofs.Places.{place-low, place-cover, place-once}
 use Rattle.lists.proofs.Tables.{length-table, getD-table}
-
--- A loop that steps the place along: in turn i, p is P(i), and s and q are those of n.
-pub record Along (t n s q p i : ℕ) : Type 0 where
-  pub steps : Steps t n s q p
-  pub place-is : p ≡ place t n i
-
--- The first place is 0.
-pub along-start : (t n s q : ℕ) → Interleaves t n → s ≡ size n → q ≡ s / 4 - 1 → Along t n s q 0 0
-unfolding offset place
-along-start t n s q h e f = record {
-  steps = record { fits = h; size-is = e; offset-is = rw (f, e); low = omega (arith, h .cycles) };
-  place-is = refl;
-}
-
--- The next place is the one of the next turn.
-pub along-turn : (t n s q p i r : ℕ) → Along t n s q p i → r ≡ nextPlace t n p → Along t n s q r (i + 1)
-unfolding place
-along-turn t n s q p i r h e =
-    let g : r ≡ place t n (i + 1) = rw (e, h .place-is, add-one) in
-    record {
-      steps = record {
-        fits = h .steps .fits;
-        size-is = h .steps .size-is;
-        offset-is = h .steps .offset-is;
-        low = rw g (place-low t n (h .steps .fits .cycles) (i + 1));
-      };
-      place-is = g;
-    }
 
 -- Inputs 0 .. i - 1 of v stand at their places P(0) .. P(i - 1) of out.
 pub record Returned {A : Type 0} (z : A) (t n : ℕ) (v out : List A) (i : ℕ) : Type 0 where

@@ -1,15 +1,12 @@
 -- The places P(0) .. P(n - 1) of the interleaver are the numbers below n, each once, for every n from 5. Assumes nothing.
 use mathlib.Core.Path.{_≡_, refl, sym, ap, _∙_}
 use mathlib.Core.Logic.{_⊎_, inl, inr}
-use mathlib.Core.Bool.{true, false}
-use Prim.Native.Nat.{ℕ, zero, suc, _+_, _-_, _*_, _^_, _≤_, _<_}
-use native.Mathlib.Nat.{add-zero, add-suc, suc-add, mod-lt, mul-le-mul}
+use Prim.Native.Nat.{ℕ, zero, suc, _+_, _-_, _^_, _≤_, _<_}
+use native.Mathlib.Nat.{add-zero, add-suc, suc-add, mod-lt}
 use native.Mathlib.Omega.{arith}
-use lib.Bits.{bitAnd, and-mask}
-use lib.Dec.{ltb}
 use borrow.Author.Tests.{lt-ltb, le-ltb}
 use Rattle.interleaver.specs.Interleaving.{size, offset, step, again, nextPlace, place}
-use Rattle.interleaver.specs.Deinterleaving.{Cycles, Steps}
+use Rattle.interleaver.specs.Deinterleaving.{Cycles}
 use Rattle.lists.proofs.Counting.{Among, below-or, count, count-in, count-out, count-more, count-cover, cover-once}
 use Rattle.interleaver.specs.Cycle.{walk}
 use Rattle.interleaver.proofs.Cycle.{cycle, cycle-closed}
@@ -27,11 +24,6 @@ pub visit-zero : (t n : ℕ) → visit t n 0 ≡ 0
 unfolding visit walk
 visit-zero t n = refl
 
--- How many times a place is stepped again.
-unfoldable pub turns : ℕ → ℕ → ℕ → ℕ → ℕ
-turns t n zero x = 0
-turns t n (suc f) x = elim (ltb x n) [ true ↦ 0 | false ↦ suc (turns t n f (step t n x)) ]
-
 module _ (t n : ℕ) where
   -- A place below n stays; any other is stepped.
   pub again-here : (f x : ℕ) → x < n → again t n f x ≡ x
@@ -43,15 +35,6 @@ module _ (t n : ℕ) where
   unfolding again
   again-more f x h = rw (le-ltb x n h, again)
 
-  turns-here : (f x : ℕ) → x < n → turns t n f x ≡ 0
-  unfolding turns
-  turns-here zero x h = refl
-  turns-here (suc f) x h = rw (lt-ltb x n h, turns)
-
-  turns-more : (f x : ℕ) → n ≤ x → turns t n (suc f) x ≡ suc (turns t n f (step t n x))
-  unfolding turns
-  turns-more f x h = rw (le-ltb x n h, turns)
-
   -- Once a place is below n, more steps change nothing.
   again-fuel : (f x : ℕ) → again t n f x < n → again t n (suc f) x ≡ again t n f x
   unfolding again
@@ -62,27 +45,11 @@ module _ (t n : ℕ) where
       go (inl d) ih = again-here (suc (suc f)) x d ∙ sym (again-here (suc f) x d)
       go (inr d) ih = again-more (suc f) x d ∙ ih (rw (again-more f x d) at h) ∙ sym (again-more f x d)
 
-  -- The same of the count.
-  turns-fuel : (f x : ℕ) → again t n f x < n → turns t n (suc f) x ≡ turns t n f x
-  unfolding again turns
-  turns-fuel zero x h = turns-here 1 x h
-  turns-fuel (suc f) x h = go (below-or x n) (turns-fuel f (step t n x))
-    where
-      go : (x < n) ⊎ (n ≤ x) → (again t n f (step t n x) < n → turns t n (suc f) (step t n x) ≡ turns t n f (step t n x)) → turns t n (suc (suc f)) x ≡ turns t n (suc f) x
-      go (inl d) ih = turns-here (suc (suc f)) x d ∙ sym (turns-here (suc f) x d)
-      go (inr d) ih = turns-more (suc f) x d ∙ ap suc (ih (rw (again-more f x d) at h)) ∙ sym (turns-more f x d)
-
   -- A place of n or more may be stepped before it is stepped again.
   pub again-step : (f x : ℕ) → n ≤ x → again t n f x < n → again t n f x ≡ again t n f (step t n x)
   unfolding again
   again-step zero x d h = absurd (omega arith)
   again-step (suc f) x d h = again-more f x d ∙ sym (again-fuel f (step t n x) (rw (again-more f x d) at h))
-
-  -- A step leaves fewer to do.
-  pub turns-step : (f x : ℕ) → n ≤ x → again t n f x < n → turns t n f (step t n x) < turns t n f x
-  unfolding again
-  turns-step zero x d h = absurd (omega arith)
-  turns-step (suc f) x d h = rw (turns-more f x d, turns-fuel f (step t n x) (rw (again-more f x d) at h)) (omega arith)
 
   -- A place is below n if the walk comes below n in so many steps.
   again-walk : (i f j : ℕ) → i ≤ f → visit t n (j + i) < n → again t n f (visit t n j) < n
@@ -176,23 +143,3 @@ module _ (t n : ℕ) (c : Cycles t n) where
   -- P(0) .. P(n - 1) differ.
   pub place-once : (i j : ℕ) → i < n → j < n → place t n i ≡ place t n j → i ≡ j
   place-once i j h k e = cover-once (place t n) n place-cover i j (place-low i) h k e
-
-module _ (t n s q p : ℕ) (h : Steps t n s q p) where
-  -- As s is a power of two, a mask takes the remainder.
-  pub step-mask : (x : ℕ) → bitAnd (t * x + q) (s - 1) ≡ step t n x
-  unfolding step
-  step-mask x =
-      let z = sized t n (h .fits .cycles) in
-      rw (h .size-is, h .offset-is, z .power) (and-mask (t * x + offset n) (z .digits))
-
-  -- s is above 0, and t × x + q is far from wrapping.
-  pub step-fits : (x : ℕ) → x < size n → (1 ≤ s) × (t * x + q < 2 ^ 22)
-  unfolding offset
-  step-fits x l =
-      let z = sized t n (h .fits .cycles) in
-      let m : t * x ≤ 63 * 32767 = mul-le-mul {n₂ = 63} {m₂ = 32767} (omega arith) (omega (arith, z .least)) in
-      (omega (arith, h .size-is, z .enough), omega (arith, h .offset-is, z .least))
-
-  -- The place itself is below s.
-  pub place-below : p < size n
-  place-below = omega (arith, h .low, sized t n (h .fits .cycles) .enough)

@@ -3,7 +3,7 @@ use mathlib.Core.Path.{_≡_}
 use mathlib.Core.List.{List, [], _∷_}
 use Prim.Native.Nat.{ℕ, suc, _%_, _≤_, _<_}
 use lib.ListN.{length, set, replicate}
-use Rattle.interleaver.specs.Interleaving.{size, offset, place}
+use Rattle.interleaver.specs.Interleaving.{place}
 
 -- Input i, i + 1, .. go back to places P(i), P(i + 1), ..
 unfoldable pub putBack : {A : Type 0} → ℕ → ℕ → ℕ → List A → List A → List A
@@ -29,15 +29,3 @@ pub record Interleaves (t n : ℕ) : Type 0 where
   pub cycles : Cycles t n
   pub high : n ≤ 16384
   pub small : t < 64
-
--- What a step from a place requires: s and q are those of n.
-pub record Steps (t n s q p : ℕ) : Type 0 where
-  pub fits : Interleaves t n
-  pub size-is : s ≡ size n
-  pub offset-is : q ≡ offset n
-  pub low : p < n
-
--- What interleaving and its inverse require of the lent bits and of the output.
-pub record Lends (t : ℕ) (bits out : List ℕ) : Type 0 where
-  pub fits : Interleaves t (length bits)
-  pub same : length out ≡ length bits

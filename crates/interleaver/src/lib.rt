@@ -1,4 +1,4 @@
-// The interleaver of clause 7.3.3: places P(0), P(1), .., and bits put in their order and back.
+// The interleaver of clause 7.3.3: its places P(0), P(1), ..
 pub mod order;
 pub mod table;
 pub mod theorems;

@@ -1,14 +1,14 @@
 -- The FAC block as an instance of the search. Assumes nothing.
 use Prim.Native.Nat.{ℕ, zero, suc, _<_}
 use mathlib.Core.Path.{_≡_, refl, sym, ap, ap₂, _∙_}
-use mathlib.Core.List.{List, _∷_}
+use mathlib.Core.List.{List, [], _∷_, _++_}
 use native.Mathlib.Omega.{arith}
-use lib.ListN.{length, replicate}
+use lib.ListN.{length, getD, replicate, List·getD-append}
 use lib.Dec.{lit<}
 use Rattle.lists.specs.Bytes.{bytesFor}
 use Rattle.packing.specs.Contracts.{Packs}
 use Rattle.lists.specs.Lists.{table}
-use Rattle.lists.proofs.Tables.{length-table}
+use Rattle.lists.proofs.Tables.{length-table, getD-table}
 use Rattle.component.specs.Bits.{Bits}
 use Rattle.patterns.specs.declared.Pattern.{Pattern}
 use Rattle.patterns.specs.Patterns.{table65, pattern, R3/5}
@@ -17,7 +17,10 @@ use Rattle.patterns.specs.Contracts.{patternOf, patternFrom}
 use Rattle.patterns.proofs.Loaded.{pattern-sound}
 use Rattle.patterns.proofs.Patterns.{standard-passes, pattern-from, held}
 use Rattle.component.proofs.Lengths.{fac-codeword}
-use Rattle.interleaver.specs.Deinterleaving.{Cycles, Lends, deinterleaved}
+use Rattle.interleaver.specs.Interleaving.{place}
+use Rattle.interleaver.specs.Deinterleaving.{Cycles, deinterleaved}
+use Rattle.interleaver.specs.Tables.{places, Tabulates}
+use Rattle.interleaver.proofs.Places.{place-low}
 use Rattle.settings.specs.Formulas.{facBits}
 use Rattle.block.specs.Packing.{packed}
 use Rattle.block.specs.Dispersal.{p, dispersed}
@@ -52,7 +55,7 @@ length-coded bits e = fac-codeword standard-passes 0 (added facFlips bits) (leng
 
 -- the values in the coder's order find the block and its disagreement
 module _ (received : List ℕ) (l : length received ≡ 130) where
-  cycles : Cycles 21 (length received)
+  pub cycles : Cycles 21 (length received)
   cycles = record { low = omega arith; factor = refl }
 
   pub same-disagreement : (bits : List ℕ) → length bits ≡ 72 → disagreement received (facSent bits) ≡ disagreement (deinterleaved 0 21 received) (facCoded bits)
@@ -120,10 +123,20 @@ packs {received} R N =
 pub nearby : {received bits block′ : List ℕ} {count : ℕ} → NearbyBits received bits count → block′ ≡ packed bits → Nearby received block′ count
 nearby N e = record { bytes = e ∙ ap packed (N .block); counted = N .counted }
 
--- what putting the values back requires
-pub lends : {received values : List ℕ} → length received ≡ 130 → Long 130 values → Lends 21 received values
-lends {received} l B =
+-- the table of places that putting the values back needs
+pub tabulates : {places : List ℕ} (received : List ℕ) → length received ≡ 130 → Long 131 places → Tabulates 21 (length received) places
+tabulates received l B =
     record {
       fits = record { cycles = cycles received l; high = omega arith; small = omega arith };
-      same = B .long ∙ sym l;
+      room = B .long ∙ omega arith;
     }
+
+-- its place i is P(i), which is below n
+module _ {made : List ℕ} (t n i : ℕ) (c : Cycles t n) (e : made ≡ places t n ++ (0 ∷ [])) (h : i < n) where
+  pub place-there : getD made i 0 ≡ place t n i
+  unfolding places
+  place-there =
+      rw e (List·getD-append (places t n) (0 ∷ []) 0 i (omega (arith, length-table (place t n) 0 n)) ∙ getD-table 0 (place t n) n i h)
+
+  pub place-few : getD made i 0 < n
+  place-few = rw place-there (place-low t n c i)

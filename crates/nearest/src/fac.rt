@@ -1,7 +1,7 @@
 // The nearest FAC block. 02, S-9.
 use crate::search::search_with;
 use dispersal::bits::disperse;
-use interleaver::order::deinterleave;
+use interleaver::table::make_places;
 use packing::bits::pack;
 use patterns::table::pattern;
 use patterns::table::standard_table;
@@ -11,6 +11,7 @@ use settings::tables::R3_5;
 ghost use mathlib.Core.Path.{_≡_};
 ghost use lib.ListN.{length};
 ghost use Rattle.patterns.specs.Patterns.{table65, pattern, R3/5};
+ghost use Rattle.interleaver.specs.Deinterleaving.{deinterleaved};
 ghost use Rattle.nearest.specs.Coded.{facFlips};
 ghost use Rattle.nearest.specs.Fac.{allValues, nearestRefusalBy, nearestYield, nearestOf};
 ghost use Rattle.nearest.specs.Contracts.{Found, Long, Receives, Nearby, NearbyBits};
@@ -85,13 +86,35 @@ fn bit_buffer() -> [u8; FAC_BITS]
     [0u8; FAC_BITS]
 }
 
+fn place_buffer() -> [u16; FAC_NUMBERS + 1]
+    ensures { λ r. ⌜ Long 131 r ⌝ }
+{
+    [0u16; FAC_NUMBERS + 1]
+}
+
+// Received values, which are no bits where they are unknown, back in the coder's order: value i goes to place P(i).
+fn put_back(received: &[u8], values: &mut [u8])
+    requires { ⌜ (length (now received) ≡ 130) × Long 130 (now values) ⌝ }
+    ensures { λ r. ⌜ now (values .exit) ≡ deinterleaved 0 21 (now (received .entry)) ⌝ }
+{
+    let n = received.len();
+    let mut places = place_buffer();
+    make_places(FAC_STEP, n, &mut places);
+    let mut i = 0;
+    while i < n {
+        let p = places[i] as usize;
+        values[p] = received[i];
+        i += 1;
+    }
+}
+
 // The nearest block's bits: the values are put back to the coder's order first.
 fn nearest_bits(received: &[u8], bits: &mut [u8]) -> u16
     requires { ⌜ (length (now received) ≡ 130) × (length (now bits) ≡ 72) ⌝ }
     ensures { λ r. ⌜ NearbyBits (now (received .entry)) (now (bits .exit)) r ⌝ }
 {
     let mut values = value_buffer();
-    deinterleave(FAC_STEP, received, &mut values);
+    put_back(received, &mut values);
     search_block(&values, bits)
 }
 
