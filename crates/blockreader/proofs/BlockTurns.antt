@@ -10,7 +10,6 @@ use lib.ListN.{length, getD, length-append, length-map, length-replicate, take, 
 use lib.Seq.{take-at, take-all, drop-at, drop-drop, drop-length}
 use lib.IntN.{ℤ}
 use Rattle.lists.specs.Lists.{table}
-use Rattle.lists.specs.Buffers.{Long}
 use Rattle.lists.specs.Bytes.{bytesFor}
 use Rattle.lists.proofs.Parts.{length-inside}
 use Rattle.lists.proofs.Tables.{length-table, table-add}
@@ -18,13 +17,12 @@ use Rattle.block.specs.declared.Block.{Block}
 use Rattle.block.specs.Block.{bitCount}
 use Rattle.block.specs.Reading.{given, bytesRead}
 use Rattle.block.specs.Fits.{BlockLent}
-use Rattle.blockreader.specs.declared.Found.the-variants.{Given, NoBits}
 use Rattle.superframe.specs.Call.{part, joined}
 use Rattle.superframe.specs.Blocks.{keptBytes, placedBytes, placedTests}
 use Rattle.superframe.proofs.Coding.{Recovers}
 use Rattle.superframe.proofs.Accepted.{recovers}
 use Rattle.superframe.proofs.Laid.{part-is, part-below, length-mid}
-use Rattle.blockreader.specs.Contracts.{LentRead, BlockRead, foundOf, blocksIn, SeveralLent, SeveralRead, PlacesRead}
+use Rattle.blockreader.specs.Contracts.{LentRead, blocksIn, SeveralLent, SeveralRead, PlacesRead}
 
 -- Lists put together.
 joined-map : {A : Type 0} (g : List ℤ → List A) (fs gs : List (List ℤ)) → joined (map g (fs ++ gs)) ≡ joined (map g fs) ++ joined (map g gs)
@@ -151,32 +149,16 @@ zeros-behind n many z =
 
 -- One block read alone.
 module _ {k : Block} {cells : List ℤ} {bytes : List ℕ} (R : BlockLent k bytes cells) where
-  pub work-room : {work : List ℕ} → Long 4589 work → length bytes ≤ length work
-  unfolding bytesFor
-  work-room l = omega (arith, l .long, R .long, R .fits .short)
+  pub one-lent : SeveralLent k 1 cells bytes
+  one-lent = record { fits = R .fits; few = omega arith; there = omega (arith, R .cells); room = omega (arith, R .long) }
 
-  pub one-lent : {work : List ℕ} → length work ≡ length bytes → SeveralLent k 1 cells work
-  one-lent e = record { fits = R .fits; few = omega arith; there = omega (arith, R .cells); room = omega (arith, e, R .long) }
+  alone : blocksIn k 1 cells ≡ cells ∷ []
+  unfolding blocksIn table part
+  alone = rw mul-zero (ap (λ (l : List ℤ). l ∷ []) (take-all (2 * k .cells) cells (omega (arith, R .cells))))
 
-  module _ {work work′ : List ℕ} {tests : List Bool} (e : length work ≡ length bytes) (S : SeveralRead k 1 cells work tests work′) where
-    alone : blocksIn k 1 cells ≡ cells ∷ []
-    unfolding blocksIn table part
-    alone = rw mul-zero (ap (λ (l : List ℤ). l ∷ []) (take-all (2 * k .cells) cells (omega (arith, R .cells))))
-
-    test-is : getD tests 0 false ≡ given k cells
-    unfolding placedTests
-    test-is = rw (S .given-are, alone)
-
-    kept-is : work′ ≡ keptBytes k (bytesFor (bitCount k)) cells
-    unfolding joined
-    kept-is =
-        let none : drop (bytesFor (bitCount k) * 1) work ≡ [] = rw (mul-one, ← R .long, ← e) (drop-length work) in
-        S .bytes-are ∙ rw (alone, none, append-nil, append-nil)
-
-    pub none-given : getD tests 0 false ≡ false → BlockRead k cells bytes NoBits bytes
-    unfolding foundOf
-    none-given f = let g : given k cells ≡ false = sym test-is ∙ f in record { answered = rw g; written = rw g }
-
-    pub some-given : getD tests 0 false ≡ true → {bytes′ : List ℕ} → bytes′ ≡ work′ → BlockRead k cells bytes Given bytes′
-    unfolding foundOf keptBytes
-    some-given f h = let g : given k cells ≡ true = sym test-is ∙ f in record { answered = rw g; written = h ∙ kept-is ∙ rw g }
+  pub one-read : {tests : List Bool} {bytes′ : List ℕ} → SeveralRead k 1 cells bytes tests bytes′
+      → (getD tests 0 false ≡ given k cells) × (bytes′ ≡ keptBytes k (length bytes) cells)
+  unfolding placedTests joined
+  one-read S =
+      let none : drop (bytesFor (bitCount k) * 1) bytes ≡ [] = rw (mul-one, ← R .long) (drop-length bytes) in
+      (rw (S .given-are, alone), S .bytes-are ∙ rw (alone, none, append-nil, append-nil, R .long))

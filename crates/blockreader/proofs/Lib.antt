@@ -1,3 +1,2 @@
-mod CellsRead
 mod Reading
 pub mod BlockTurns

@@ -7,7 +7,7 @@ use mathlib.Core.List.{List}
 use native.Mathlib.Nat.{mul-assoc, div-mul-le-self}
 use native.Mathlib.Omega.{arith}
 use borrow.Author.Tests.{eq-eqb, not-true}
-use lib.ListN.{length, getD, set, length-set, List·getD-eq-default}
+use lib.ListN.{length, getD, set, replicate, length-set, List·getD-eq-default}
 use lib.Seq.{getD-set-same, getD-set-other}
 use lib.Pow.{pow-add, shl-shr}
 use lib.IntN.{ℤ}
@@ -19,11 +19,11 @@ use Rattle.lists.specs.Bytes.{bytesFor}
 use Rattle.block.specs.declared.Block.{Block}
 use Rattle.block.specs.Block.{bitCount, cellsFrom}
 use Rattle.block.specs.Reading.{given, bytesRead}
-use Rattle.block.specs.Fits.{BlockFits, BlockBytes}
+use Rattle.block.specs.Fits.{BlockLent, BlockBytes}
 use Rattle.block.proofs.Reader.{reads-bytes}
-use Rattle.blockreader.specs.declared.Found.{Found}
-use Rattle.blockreader.specs.declared.Found.the-variants.{Given}
-use Rattle.blockreader.specs.Contracts.{BlockRead, foundOf}
+use Rattle.superframe.specs.Blocks.{keptBytes}
+use Rattle.blockreader.specs.Contracts.{SeveralLent, SeveralRead}
+use Rattle.blockreader.proofs.BlockTurns.{one-lent, one-read}
 use Rattle.vectors.specs.Digest.{cellsTaken}
 use Rattle.vectors.specs.Draws.{byteOf, state, bytesFrom, spareBits, cleared, drawnBlock}
 use Rattle.check_blocks.specs.Kinds.{bytesDrawn, drawnFrom}
@@ -111,19 +111,28 @@ drawn-bytes k x =
       spare = cleared-spare t l long;
     }
 
+-- cells written in place of others can be read back
+again-lent : {k : Block} {back : List ℕ} {old cells : List ℤ} → BlockLent k back old → length cells ≡ length old → BlockLent k back cells
+again-lent L same = record { fits = L .fits; long = L .long; cells = same ∙ L .cells }
+
+pub read-again : {k : Block} {back : List ℕ} {old cells : List ℤ} → BlockLent k back old → length cells ≡ length old → SeveralLent k 1 cells back
+read-again L same = one-lent (again-lent L same)
+
 -- A block is drawn, coded and read back: it comes back, so that the digest is that of its cells.
-pub came-back : {k : Block} → BlockFits k → (x : ℕ) {bits n y digest : ℕ} {bytes back back' : List ℕ} {cells : List ℤ} {found : Found}
-    → bits ≡ bitCount k → n ≡ bytesFor (bitCount k) → y ≡ state x n → bytes ≡ drawnBlock x bits n → cells ≡ cellsFrom k bytes
-    → BlockRead k cells back found back' → (found ≡ Given → bytes ≡ back' → digest ≡ cellsTaken 0 cells)
+pub came-back : {k : Block} (x : ℕ) {bits n y digest : ℕ} {bytes back back′ : List ℕ} {old cells : List ℤ} {tests : List Bool}
+    → BlockLent k back old → bits ≡ bitCount k → n ≡ bytesFor (bitCount k) → y ≡ state x n → bytes ≡ drawnBlock x bits n → length cells ≡ length old → cells ≡ cellsFrom k bytes
+    → SeveralRead k 1 cells back tests back′ → (getD tests 0 false ≡ true → bytes ≡ back′ → digest ≡ cellsTaken 0 cells)
     → record { x = y; digest = digest } ≡ drawnFrom k x
-unfolding drawnFrom bytesDrawn foundOf
-came-back {k} F x {back = back} {cells = cells} e f s b c R D =
+unfolding drawnFrom bytesDrawn keptBytes
+came-back {k} x {back = back} {cells = cells} L e f s b same c S D =
+    let F = L .fits in
+    let R = one-read (again-lent L same) S in
     let w = drawnBlock x (bitCount k) (bytesFor (bitCount k)) in
     let drawn : BlockBytes k w = drawn-bytes k x in
     let bytes-are = b ∙ ap₂ (drawnBlock x) e f in
     let cells-are = c ∙ ap (cellsFrom k) bytes-are in
     let found : given k cells ≡ true = ap (given k) cells-are ∙ reads-bytes F .accepts w drawn in
-    let handed = R .written ∙ ap (λ z. cond z (bytesRead k cells) back) found ∙ ap (bytesRead k) cells-are ∙ reads-bytes F .back w drawn in
+    let handed = R .1 ∙ ap (λ z. cond z (bytesRead k cells) (replicate (length back) 0)) found ∙ ap (bytesRead k) cells-are ∙ reads-bytes F .back w drawn in
     ap₂ (λ a d. record { x = a; digest = d })
     (s ∙ ap (state x) f)
-    (D (R .answered ∙ ap foundOf found) (bytes-are ∙ sym handed) ∙ ap (cellsTaken 0) cells-are)
+    (D (R .0 ∙ found) (bytes-are ∙ sym handed) ∙ ap (cellsTaken 0) cells-are)

@@ -3,8 +3,7 @@ use block::Block;
 use block::buffers::byte_buffer;
 use block::buffers::coordinate_buffer;
 use blockcoder::code::code_block;
-use blockreader::Found;
-use blockreader::read::read_block;
+use blockreader::several::read_several;
 use channels::blocks::fac_block;
 use channels::blocks::msc_block;
 use channels::blocks::sdc_block;
@@ -15,10 +14,10 @@ use settings::refusals;
 use vectors::digests;
 use vectors::draws;
 ghost use mathlib.Core.Path.{_≡_};
+ghost use mathlib.Core.Bool.{true};
 ghost use Rattle.settings.specs.Accepted.{Accepted};
 ghost use Rattle.block.specs.Fits.{BlockFits};
 ghost use Rattle.channels.specs.Scheme.{standardScheme};
-ghost use Rattle.blockreader.specs.declared.Found.the-variants.{Given};
 ghost use Rattle.vectors.specs.Digest.{cellsTaken};
 ghost use Rattle.check_blocks.specs.Kinds.{blockOf, drawnFrom, drawnOf};
 ghost use Rattle.check_blocks.specs.Buffers.{LentBoth, Largest};
@@ -52,18 +51,16 @@ fn block_of(kind: u8, s: Settings) -> Block
 }
 
 // The digest of the cells, or 0 where the block did not come back.
-fn digest_of(bytes: &[u8], cells: &[i16], found: Found, back: &[u8]) -> u64
-    ensures { λ r. ⌜ (found ≡ Given → now (bytes .entry) ≡ now (back .entry) → r ≡ cellsTaken 0 (now (cells .entry))) ⌝ }
+fn digest_of(bytes: &[u8], cells: &[i16], given: bool, back: &[u8]) -> u64
+    ensures { λ r. ⌜ (given ≡ true → now (bytes .entry) ≡ now (back .entry) → r ≡ cellsTaken 0 (now (cells .entry))) ⌝ }
 {
-    match found {
-        Found::NoBits => 0,
-        Found::Given => {
-            if !check::same(bytes, back) {
-                return 0;
-            }
-            digests::of_cells(0, cells)
-        }
+    if !given {
+        return 0;
     }
+    if !check::same(bytes, back) {
+        return 0;
+    }
+    digests::of_cells(0, cells)
 }
 
 // A block in buffers of its lengths. It is proved to come back, so that the digest is that of its cells.
@@ -80,8 +77,8 @@ fn block_in(
 {
     let x = draws::block(x, bits, bytes);
     code_block(k, bytes, cells);
-    let found = read_block(k, cells, back);
-    let digest = digest_of(bytes, cells, found, back);
+    let given = read_several(k, 1, cells, back);
+    let digest = digest_of(bytes, cells, given[0], back);
     Drawn { x, digest }
 }
 
