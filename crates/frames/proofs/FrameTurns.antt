@@ -8,7 +8,7 @@ use native.Mathlib.Nat.{mul-left-comm, mul-comm, mul-le-mul-right, zero-add, mod
 use native.Mathlib.Omega.{arith}
 use borrow.Author.Tests.{eq-eqb, ne-eqb}
 use borrow.Rule.Slice.PartMut.{putMid}
-use lib.ListN.{length, length-append, length-drop, length-replicate, take, drop, replicate, take-append-drop}
+use lib.ListN.{length, length-append, length-drop, take, drop, replicate, take-append-drop}
 use lib.Seq.{take-at, drop-at, length-take-le, take-append-le, drop-append-le}
 use lib.IntN.{ℤ}
 use lib.Dec.{eqb}
@@ -287,22 +287,22 @@ module _ {state : State} {msc : List ℤ} {memory₀ out₀ : List ℕ} (lent : 
       unfolding blocksIn mscBlock slotSize
       frames-blocks = frames-are
 
-      module _ {block : Block} {zeros : List ℕ} (b : block ≡ mscBlock (state .scheme)) (z : zeros ≡ replicate (length out₀) 0) where
-        pub frames-lent : SeveralLent block k cells zeros
-        frames-lent =
+      module _ {block : Block} {zeros : List ℕ} (b : block ≡ mscBlock (state .scheme)) where
+        pub frames-lent : length zeros ≡ length out₀ → SeveralLent block k cells zeros
+        frames-lent e =
             let a = lent .fits .allowed in
             let few : k ≤ 3 = omega (arith, all-rows, w .few) in
             rw b (record {
               fits = msc-fits a;
               few = few;
               there = unfold mscBlock in omega (arith, mul-le-mul-right (2 * nMux (state .scheme .settings)) few, w .room, a .settings .ranges .muxMost);
-              room = rw (← msc-bytes a, z, length-replicate {A = ℕ} (length out₀) 0, lent .room) (mul-le-mul-right (frameBytes (state .scheme .settings)) few);
+              room = rw (← msc-bytes a, e, lent .room) (mul-le-mul-right (frameBytes (state .scheme .settings)) few);
             })
 
-        pub rows-end : {tests : List Bool} {out : List ℕ} → SeveralRead block k cells zeros tests out
+        pub rows-end : zeros ≡ replicate (length out₀) 0 → {tests : List Bool} {out : List ℕ} → SeveralRead block k cells zeros tests out
             → RowsRead state msc memory₀ (record { given = tests; finished = k; after = after }) memory out
         unfolding rowsOf parts
-        rows-end S =
+        rows-end z S =
             record {
               state-is = w .state-is ∙ rw all-rows;
               held = w .memory-is ∙ rw all-rows;

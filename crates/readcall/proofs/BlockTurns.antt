@@ -1,27 +1,25 @@
 -- Every block of a call in its own place, from the kinds of blocks. Assumes nothing.
 use mathlib.Core.Path.{_≡_, refl, ap, ap₂, _∙_}
 use mathlib.Core.Bool.{Bool, false}
-use mathlib.Core.List.{List, [], _∷_, _++_, append-nil}
-use Prim.Native.Nat.{ℕ, _*_, _≤_}
-use native.Mathlib.Nat.{mul-zero, mul-one}
+use mathlib.Core.List.{List, [], _∷_, _++_}
+use Prim.Native.Nat.{ℕ, _≤_}
 use native.Mathlib.Omega.{arith}
-use lib.ListN.{length, getD, length-append, length-map, length-replicate, drop}
-use lib.Seq.{take-all, drop-length}
+use lib.ListN.{length, getD, length-append, length-map, length-replicate}
+use lib.Seq.{drop-length}
 use lib.IntN.{ℤ}
 use Rattle.lists.specs.Lists.{table}
 use Rattle.lists.proofs.Tables.{length-table}
-use Rattle.settings.specs.Lengths.{nSdc}
 use Rattle.settings.specs.Sizes.{sdcBytes}
 use Rattle.block.specs.declared.Block.{Block}
-use Rattle.block.specs.Block.{bitCount}
 use Rattle.block.specs.Reading.{given}
+use Rattle.block.specs.Fits.{BlockLent}
 use Rattle.frames.specs.Contracts.{RowsLent, RowsRead}
 use Rattle.blockreader.specs.Contracts.{blocksIn, SeveralLent, SeveralRead, PlacesRead}
 use Rattle.channels.specs.Sdc.{sdcBlock}
 use Rattle.settings.specs.Cells.{facCells}
 use Rattle.superframe.specs.declared.State.{State}
 use Rattle.superframe.specs.Memory.{slotSize}
-use Rattle.superframe.specs.Call.{part, parts, joined}
+use Rattle.superframe.specs.Call.{part, parts}
 use Rattle.superframe.specs.Read.{ReadCall}
 use Rattle.superframe.specs.Blocks.{keptBytes, placedTests}
 use Rattle.channels.proofs.Fac.{fac-bits, fac-fits}
@@ -32,7 +30,7 @@ use Rattle.settings.specs.Formulas.{facBits}
 use Rattle.frames.specs.declared.Frames.{Frames}
 use Rattle.readcall.specs.Contracts.{BlocksLent, BlocksRead, blocksOf}
 use Rattle.readcall.specs.declared.Blocks.{Blocks}
-use Rattle.blockreader.proofs.BlockTurns.{in-places}
+use Rattle.blockreader.proofs.BlockTurns.{in-places, one-lent, one-read}
 
 -- All blocks of a call, from their kinds.
 three : (l : List Bool) → length l ≡ 3 → getD l 0 false ∷ (getD l 1 false ∷ (getD l 2 false ∷ [])) ≡ l
@@ -62,15 +60,12 @@ module _ (state : State) (memory : List ℕ) (c : ReadCall) (h : BlocksLent stat
         room = rw (fac-bits (state .scheme), h .bytes .faclong) (omega arith);
       })
 
-  pub sdc-lent : {k : Block} → k ≡ sdcBlock (state .scheme) → SeveralLent k 1 (c .sdccells) (c .sdc)
+  sdc-block : BlockLent (sdcBlock (state .scheme)) (c .sdc) (c .sdccells)
   unfolding sdcBlock sdcBytes
-  sdc-lent e =
-      rw e (record {
-        fits = sdc-fits (h .fits .allowed);
-        few = omega arith;
-        there = rw (h .cells .sdclong) (omega arith);
-        room = rw (sdc-bits (state .scheme), h .bytes .sdclong) (omega arith);
-      })
+  sdc-block = record { fits = sdc-fits (h .fits .allowed); long = rw (sdc-bits (state .scheme)) (h .bytes .sdclong); cells = h .cells .sdclong }
+
+  pub sdc-lent : {k : Block} → k ≡ sdcBlock (state .scheme) → SeveralLent k 1 (c .sdccells) (c .sdc)
+  sdc-lent e = rw e (one-lent sdc-block)
 
   pub rows-lent : RowsLent state (c .msccells) memory (c .msc)
   unfolding slotSize
@@ -80,17 +75,9 @@ module _ (state : State) (memory : List ℕ) (c : ReadCall) (h : BlocksLent stat
   unfolding blocksIn parts facBlock facCells bytesFor facBits
   fac-read S = in-places S (rw (fac-bits (state .scheme))) (rw (← h .bytes .faclong) (drop-length (c .fac)))
 
-  sdc-blocks : blocksIn (sdcBlock (state .scheme)) 1 (c .sdccells) ≡ c .sdccells ∷ []
-  unfolding blocksIn sdcBlock table part
-  sdc-blocks = rw mul-zero (ap (λ (l : List ℤ). l ∷ []) (take-all (2 * nSdc (state .scheme .settings)) (c .sdccells) (omega (arith, h .cells .sdclong))))
-
   sdc-read : {d : List Bool} {sdc′ : List ℕ} → SeveralRead (sdcBlock (state .scheme)) 1 (c .sdccells) (c .sdc) d sdc′
       → (getD d 0 false ≡ given (sdcBlock (state .scheme)) (c .sdccells)) × (sdc′ ≡ keptBytes (sdcBlock (state .scheme)) (sdcBytes (state .scheme .settings)) (c .sdccells))
-  unfolding placedTests joined sdcBytes
-  sdc-read S =
-      let n : bytesFor (bitCount (sdcBlock (state .scheme))) ≡ sdcBytes (state .scheme .settings) = rw (sdc-bits (state .scheme)) in
-      let none : drop (sdcBytes (state .scheme .settings) * 1) (c .sdc) ≡ [] = rw (mul-one (sdcBytes (state .scheme .settings)), ← h .bytes .sdclong) (drop-length (c .sdc)) in
-      (rw (S .given-are, sdc-blocks), S .bytes-are ∙ rw (sdc-blocks, n, none, append-nil, append-nil))
+  sdc-read S = rw (h .bytes .sdclong) at (one-read sdc-block S)
 
   pub blocks-read : (f d : List Bool) (r : Frames) (memory′ fac′ sdc′ msc′ : List ℕ) → {k l : Block} → k ≡ facBlock (state .scheme) → l ≡ sdcBlock (state .scheme)
       → SeveralRead k 3 (c .faccells) (c .fac) f fac′ → SeveralRead l 1 (c .sdccells) (c .sdc) d sdc′ → RowsRead state (c .msccells) memory r memory′ msc′

@@ -29,6 +29,18 @@ keep-same-requires c κs =
     let u = c .before .before .before .before .before .before .before .before .before .before .code-lent in
     length-start _ _ (part-room (s .args .again .now) (u .last .1 .1 .1 .1 .1 .1 .0) _ (cells-in (s .pre .0 .0) (s .args .again .now) (s .pre .0 .2)) (u .kept .1 .1 .1 .1 .1 .1 .0))
 
+same-length : tie.Need-same-length
+same-length c = c .before .before .before .before .before .before .before .before .before .before .before .before .before .code-lent .kept .1 .1 .1 .0 ∙ c .before .before .before .before .before .before .before .before .before .before .before .before .before .before .before .before .before .before .before .before .before .before .before .before .before .before .before .read-packed .kept .1 .1 .1 .0
+
+same-length-2 : tie.Need-same-length-2
+same-length-2 c = c .before .before .before .before .before .before .before .before .before .before .before .before .before .code-lent .kept .1 .1 .1 .1 .0 ∙ c .before .before .before .before .before .before .before .before .before .before .before .before .before .before .before .before .before .before .before .before .before .before .before .before .before .before .before .read-packed .kept .1 .1 .1 .1 .0
+
+same-length-3 : tie.Need-same-length-3
+same-length-3 c = c .before .before .before .before .before .before .before .before .before .before .before .before .before .code-lent .kept .1 .1 .1 .1 .1 .0 ∙ c .before .before .before .before .before .before .before .before .before .before .before .before .before .before .before .before .before .before .before .before .before .before .before .before .before .before .before .read-packed .kept .1 .1 .1 .1 .1 .0
+
+same-length-5 : tie.Need-same-length-5
+same-length-5 c = c .before .before .keep-same .kept .1 .1 .0 ∙ c .before .before .before .before .before .before .before .before .before .before .before .before .before .before .before .before .before .before .before .before .before .before .before .before .before .before .before .read-packed .kept .1 .1 .1 .1 .1 .1 .0
+
 returns : tie.Need-returns
 returns c =
     let b = c .before .before .before .before .before .before .before .before .before .before .before .before .before .before .before .before .before .before .before .before .before .before .before .before .before .before .before in
@@ -40,4 +52,4 @@ returns c =
 
 pub read-lent-spec : {M : Type 1} → statement M
 read-lent-spec =
-    tie.close (tie.spec read-packed-requires (λ c. search needs) (λ c. search needs) (λ c. let s = c .before .before .before .before .before .before .before .before .before .before .before .before .before .before .before .before .before .before .before .before .before .before in cells-in (s .pre .0 .0) (s .args .again .now) (s .pre .0 .2)) code-lent-requires (λ c. search needs) (λ c. search needs) part-keep-same-end keep-same-requires (λ c. search needs) (λ c. search needs) (λ c. search needs) (λ c. search needs) (λ c. search needs) returns)
+    tie.close (tie.spec read-packed-requires (λ c. search needs) (λ c. search needs) (λ c. let s = c .before .before .before .before .before .before .before .before .before .before .before .before .before .before .before .before .before .before .before .before .before .before in cells-in (s .pre .0 .0) (s .args .again .now) (s .pre .0 .2)) code-lent-requires (λ c. search needs) (λ c. search needs) part-keep-same-end keep-same-requires same-length same-length-2 same-length-3 (λ c. search needs) same-length-5 returns)

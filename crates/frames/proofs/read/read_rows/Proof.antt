@@ -61,7 +61,7 @@ msc-block-requires : tie.Need-msc-block-requires Inv-loop μ-loop
 msc-block-requires c κs = c .before .before .before .before .before .before .before .before .before .before .pre .fits .allowed
 
 read-several-requires : tie.Need-read-several-requires Inv-loop μ-loop
-read-several-requires c κs = let b = c .before .before .before .before .before .before .before in frames-lent (b .before .before .before .before .before .before .before .before .before .before .pre) (b .before .loop .inv) (b .loop-test .left) (c .before .before .before .before .before .before .msc-block .ensures) (c .before .before .before .before .clear .ensures)
+read-several-requires c κs = let b = c .before .before .before .before .before .before .before in frames-lent (b .before .before .before .before .before .before .before .before .before .before .pre) (b .before .loop .inv) (b .loop-test .left) (c .before .before .before .before .before .before .msc-block .ensures) (c .before .before .before .before .clear .kept .0)
 
 same-length : tie.Need-same-length Inv-loop μ-loop
 same-length c = c .before .before .before .before .before .before .before .before .before .before .before .loop .inv .same
