@@ -21,7 +21,7 @@ use Rattle.keptcells.specs.ReadOn.{readOnOf}
 use Rattle.grid.specs.Calls.{gridSizes, placeOf, takeOf}
 use Rattle.placing.specs.Contracts.{cellsFrom}
 use Rattle.codecall.specs.Contracts.{codeCall}
-use Rattle.readcall.specs.Contracts.{readCall}
+use Rattle.superframe.specs.Lent.{readCall}
 use Rattle.settings.specs.Refusal.{first, refusal}
 use Rattle.settings.proofs.Buffers.{sizes-accepts}
 use Rattle.superframe.proofs.Calls.{first-zero, first-own}

@@ -11,7 +11,7 @@ use Rattle.settings.specs.Sizes.{sizesOf}
 use Rattle.superframe.specs.declared.State.{State}
 use Rattle.superframe.specs.Read.{ReadCall, readOf}
 use Rattle.keptcells.specs.ReadOn.{lostBytes, readOnOf}
-use Rattle.readcall.specs.Contracts.{readCall}
+use Rattle.superframe.specs.Lent.{readCall}
 use Rattle.console.specs.declared.Job.{Job}
 use Rattle.console.specs.declared.Job.the-variants.{Read, ReadOn}
 use Rattle.jobs.specs.declared.sizes.Space.{Space}

@@ -30,7 +30,7 @@ ghost use mathlib.Core.List.{List};
 ghost use lib.ListN.{length, take, drop};
 ghost use Rattle.superframe.specs.Code.{codeOf};
 ghost use Rattle.codecall.specs.Contracts.{codeCall};
-ghost use Rattle.readcall.specs.Contracts.{readYield};
+ghost use Rattle.superframe.specs.Lent.{readYield};
 ghost use Rattle.jobs.specs.Contracts.{CodeRoom, ReadRoom, Lent, readJob, lostOf, mscStart, readAt, readBy};
 ghost use Rattle.jobs.specs.SuperFrame.{facLength, jobYield, answered, refused as SuperFrame·refused, codeWritten, readWritten, jobCall, jobOf};
 ghost use Rattle.jobs.specs.Output.{cellOutput};

@@ -1,2 +1,1 @@
-pub mod BlockTurns
 pub mod ReadParts

@@ -36,11 +36,13 @@ use Rattle.cellmemory.specs.Contracts.{StateFits}
 use Rattle.callrefusals.specs.Contracts.{refusalThen}
 use Rattle.callrefusals.proofs.Chains.{then-stops, then-goes-on}
 use Rattle.cellmemory.proofs.Progress.{memory-most}
-use Rattle.readcall.specs.declared.Blocks.{Blocks}
+use Rattle.readblocks.specs.declared.Blocks.{Blocks}
 use Rattle.faults.specs.declared.Fault.{Fault}
 use Rattle.faults.specs.declared.Fault.the-variants.{Nowhere, At}
 use Rattle.faults.specs.Contracts.{faultOf, pointTest, CellsLent}
-use Rattle.readcall.specs.Contracts.{readCall, readYield, facsOf, framesOf, blocksOf, BlocksLent, BlocksRead, ReadPasses}
+use Rattle.superframe.specs.Lent.{readCall, readYield}
+use Rattle.readblocks.specs.Contracts.{facsOf, framesOf, blocksOf, BlocksLent, BlocksRead}
+use Rattle.readcall.specs.Contracts.{ReadPasses}
 use Rattle.faults.proofs.FaultTurns.{fault-at, fault-nowhere, tests-are}
 use Rattle.frames.proofs.FrameTurns.{frames-most}
 

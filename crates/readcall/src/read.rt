@@ -1,48 +1,23 @@
 // The call Read. 01 "Buffers and state" and "Operations".
-use crate::places::read_blocks;
 use block::buffers::MOST_MSC_BYTES;
 use block::buffers::MOST_SDC_BYTES;
 use callrefusals::refusal;
 use cellmemory::buffers::memory_buffer;
-use channels::Scheme;
-use channels::tables::scheme_refusal;
 use faults::Fault;
 use faults::lowest::lost_fault;
 use faults::lowest::point_fault;
 use lists::bytes::copy as copy_bytes;
-use settings::answers;
+use readblocks::lengths::read_lengths;
+use readblocks::places::read_blocks;
 use settings::tables::FAC_BYTES;
 use superframe::Answer;
 use superframe::Reading;
 use superframe::State;
 ghost use mathlib.Core.Path.{_≡_};
 ghost use Rattle.lists.specs.Buffers.{Long};
-ghost use Rattle.superframe.specs.Code.{byteLengths, cellLengths};
 ghost use Rattle.superframe.specs.Read.{orderRefusal, readOf};
-ghost use Rattle.callrefusals.specs.Contracts.{refusalThen};
-ghost use Rattle.readcall.specs.Contracts.{readCall, readYield, ReadPasses};
-
-// 1 to 10: the cells come in, and bytes go out.
-pub fn read_lengths(
-    s: Scheme,
-    faccells: &[i16],
-    sdccells: &[i16],
-    msccells: &[i16],
-    memory: &[u8],
-    fac: &[u8],
-    sdc: &[u8],
-    msc: &[u8],
-) -> u8
-    ensures { λ r. ⌜ r ≡ refusalThen s (now (memory .entry))
-        (cellLengths (s .settings) (now (faccells .entry)) (now (sdccells .entry)) (now (msccells .entry)))
-        (byteLengths (s .settings) (now (fac .entry)) (now (sdc .entry)) (now (msc .entry))) 0 ⌝ }
-{
-    let number = scheme_refusal(s);
-    let z = answers::sizes(s.settings);
-    let nine = refusal::cells_long(z, faccells.len(), sdccells.len(), msccells.len());
-    let ten = refusal::bytes_long(z, fac.len(), sdc.len(), msc.len());
-    refusal::length_refusal(number, z, memory.len(), nine, ten)
-}
+ghost use Rattle.superframe.specs.Lent.{readCall, readYield};
+ghost use Rattle.readcall.specs.Contracts.{ReadPasses};
 
 // 1 to 10, and 12.
 fn order_refusal(

@@ -1,11 +1,13 @@
 -- The parts of a call that reads on: its refusals in order, what its blocks are lent, and what it yields. Assumes nothing.
-use Prim.Native.Nat.{ℕ, _≤_, _<_}
+use Prim.Native.Nat.{ℕ, _-_, _≤_, _<_}
 use mathlib.Core.Path.{_≡_, refl, sym, _∙_}
 use mathlib.Core.Bool.{Bool, true, false, not, _&&_}
 use mathlib.Core.Logic.{_⊎_, inl, inr}
-use mathlib.Core.List.{List, map}
+use mathlib.Core.List.{List, _++_, map}
 use native.Mathlib.Omega.{arith}
-use lib.ListN.{length}
+use native.Mathlib.Nat.{sub-zero}
+use lib.ListN.{length, take, length-append}
+use lib.Seq.{take-at}
 use lib.IntN.{ℤ}
 use lib.Dec.{eqb, ltb}
 use borrow.Author.Tests.{eq-eqb, ne-eqb}
@@ -23,8 +25,9 @@ use Rattle.superframe.proofs.Calls.{first-own-pass}
 use Rattle.keptcells.proofs.ReadOnCalls.{on-fits, on-accepts, on-refuses}
 use Rattle.callrefusals.specs.Contracts.{refusalThen}
 use Rattle.callrefusals.proofs.Chains.{first-own-hold, then-stops, then-goes-on}
-use Rattle.readcall.specs.declared.Blocks.{Blocks}
-use Rattle.readcall.specs.Contracts.{readCall, blocksOf, BlocksLent, BlocksRead}
+use Rattle.superframe.specs.Lent.{readCall}
+use Rattle.readblocks.specs.declared.Blocks.{Blocks}
+use Rattle.readblocks.specs.Contracts.{blocksOf, BlocksLent, BlocksRead}
 use Rattle.keptcells.specs.Contracts.{CellsKept, ReadOnFits}
 use Rattle.readoncall.specs.Contracts.{readOnCall, readOnYield, refusalAfter}
 
@@ -61,6 +64,13 @@ module _ (state : State) (memory lost : List ℕ) (n : ℕ) where
       pub none : not d ≡ false → 0 ≡ refusalAfter n state memory lost
       unfolding first
       none t = sym (last-is ∙ rw t)
+
+-- The front of a working buffer: what was written there.
+pub front-in : {A : Type 0} (n : ℕ) (v rest : List A) → length v ≡ n → n ≤ length (v ++ rest)
+front-in n v rest e = rw length-append (omega arith)
+
+pub front-is : {A : Type 0} (n : ℕ) (v rest : List A) → length v ≡ n → take (n - 0) (v ++ rest) ≡ v
+front-is n v rest e = rw sub-zero (take-at v rest n e)
 
 -- As many numbers are kept as were received.
 pub kept-long : (s : Scheme) (cells : List ℤ) → length (keptCells s cells) ≡ length cells

@@ -3,9 +3,9 @@ use block::buffers::MOST_NUMBERS;
 use callrefusals::refusal::in_order;
 use keptcells::kept::keep_cells;
 use keptcells::kept::mark_lost;
-use readcall::Blocks;
-use readcall::places::read_blocks;
-use readcall::read::read_lengths;
+use readblocks::Blocks;
+use readblocks::lengths::read_lengths;
+use readblocks::places::read_blocks;
 use superframe::Answer;
 use superframe::Reading;
 use superframe::State;
@@ -13,7 +13,8 @@ ghost use mathlib.Core.Path.{_≡_};
 ghost use Rattle.lists.specs.Buffers.{Long};
 ghost use Rattle.keptcells.specs.ReadOn.{keptCells, readOnOf};
 ghost use Rattle.superframe.specs.Contracts.{Fits};
-ghost use Rattle.readcall.specs.Contracts.{readCall, BlocksLent, BlocksRead};
+ghost use Rattle.superframe.specs.Lent.{readCall};
+ghost use Rattle.readblocks.specs.Contracts.{BlocksLent, BlocksRead};
 ghost use Rattle.readoncall.specs.Contracts.{readOnCall, readOnYield, refusalAfter};
 
 // A byte for each of three FAC blocks, the SDC block and three frames.

@@ -13,3 +13,4 @@ pub mod SingleCalls
 pub mod WholeRuns
 -- What functions inside a call require and promise.
 pub mod Contracts
+pub mod Lent

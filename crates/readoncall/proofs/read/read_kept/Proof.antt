@@ -4,8 +4,7 @@ use native.Mathlib.Omega.{arith}
 use borrow.Author.Needs.{needs}
 use lib.ListN.{length}
 use Rattle.lists.proofs.Parts.{length-start}
-use Rattle.readcall.proofs.ReadParts.{front-in, front-is}
-use Rattle.readoncall.proofs.OnParts.{kept-long, cells-most, cells-kept, blocks-lent, blocks-kept}
+use Rattle.readoncall.proofs.OnParts.{front-in, front-is, kept-long, cells-most, cells-kept, blocks-lent, blocks-kept}
 use Rattle.readoncall.proofs.read.read_kept.Statement.{statement}
 use Rattle.readoncall.proofs.read.read_kept.Tie as tie
 

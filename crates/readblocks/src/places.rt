@@ -1,11 +1,12 @@
-// The first phase of a Read call: every block is read, whatever the others are, and its bytes stand in its own place. 01 "Buffers and state" and "Operations".
+// The first phase of a call that reads: every block is read, whatever the others are, and its bytes stand in its own place. 01 "Buffers and state" and "Operations".
 use crate::Blocks;
 use blockreader::several::read_several;
 use channels::blocks::fac_block;
 use channels::blocks::sdc_block;
 use frames::read::read_rows;
 use superframe::State;
-ghost use Rattle.readcall.specs.Contracts.{readCall, BlocksLent, BlocksRead};
+ghost use Rattle.superframe.specs.Lent.{readCall};
+ghost use Rattle.readblocks.specs.Contracts.{BlocksLent, BlocksRead};
 
 // Every block of a call that no number up to 12 refuses, into its place; memory goes on by three rows.
 pub fn read_blocks(

@@ -1,8 +1,8 @@
 -- `places::read_blocks` meets its contract. Assumes nothing.
 use borrow.Author.Needs.{needs}
-use Rattle.readcall.proofs.BlockTurns.{fac-lent, sdc-lent, rows-lent, blocks-read}
-use Rattle.readcall.proofs.places.read_blocks.Statement.{statement}
-use Rattle.readcall.proofs.places.read_blocks.Tie as tie
+use Rattle.readblocks.proofs.BlockTurns.{fac-lent, sdc-lent, rows-lent, blocks-read}
+use Rattle.readblocks.proofs.places.read_blocks.Statement.{statement}
+use Rattle.readblocks.proofs.places.read_blocks.Tie as tie
 
 read-several-requires : tie.Need-read-several-requires
 read-several-requires c κs = fac-lent _ _ _ (c .before .before .before .before .before .before .pre) (c .before .fac-block .ensures)

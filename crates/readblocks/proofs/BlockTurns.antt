@@ -28,8 +28,8 @@ use Rattle.channels.specs.Fac.{facBlock}
 use Rattle.lists.specs.Bytes.{bytesFor}
 use Rattle.settings.specs.Formulas.{facBits}
 use Rattle.frames.specs.declared.Frames.{Frames}
-use Rattle.readcall.specs.Contracts.{BlocksLent, BlocksRead, blocksOf}
-use Rattle.readcall.specs.declared.Blocks.{Blocks}
+use Rattle.readblocks.specs.Contracts.{BlocksLent, BlocksRead, blocksOf}
+use Rattle.readblocks.specs.declared.Blocks.{Blocks}
 use Rattle.blockreader.proofs.BlockTurns.{in-places, one-lent, one-read}
 
 -- All blocks of a call, from their kinds.

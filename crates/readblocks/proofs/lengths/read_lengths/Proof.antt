@@ -1,9 +1,9 @@
--- `read::read_lengths` meets its contract. Assumes nothing.
+-- `lengths::read_lengths` meets its contract. Assumes nothing.
 use mathlib.Core.Path.{_∙_}
 use borrow.Author.Needs.{needs}
 use Rattle.callrefusals.proofs.Chains.{refusal-is, bytes-are, cells-are}
-use Rattle.readcall.proofs.read.read_lengths.Statement.{statement}
-use Rattle.readcall.proofs.read.read_lengths.Tie as tie
+use Rattle.readblocks.proofs.lengths.read_lengths.Statement.{statement}
+use Rattle.readblocks.proofs.lengths.read_lengths.Tie as tie
 
 returns : tie.Need-returns
 returns c =
