@@ -14,10 +14,9 @@ use Rattle.superframe.specs.Call.{parts, joined, inOrder}
 use Rattle.superframe.specs.Code.{CodeCall, CodeYield, byteLengths, cellLengths, sparesZero, codeRefusal, codeAccepted, codeRefused, codeOf}
 use Rattle.callrefusals.specs.Contracts.{refusalThen, Packed}
 use Rattle.callrefusals.proofs.Chains.{then-stops, then-nine, then-settings, then-goes-on}
-use Rattle.codecall.specs.Contracts.{codeCall, codeYield}
 use Rattle.codeblocks.specs.Contracts.{MscCoded}
 use Rattle.superframe.proofs.Calls.{bytes-fit, code-fits, code-accepts, code-refuses}
-use Rattle.superframe.specs.Contracts.{CodeFits}
+use Rattle.superframe.specs.Contracts.{CodeFits, codeCall, codeYield}
 
 -- Code's refusal from 1 to 10, and then 11 and 12.
 module _ (state : State) (memory : List ℕ) (fac sdc msc : List ℕ) (faccells sdccells msccells : List ℤ) (n : ℕ)

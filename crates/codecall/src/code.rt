@@ -11,9 +11,8 @@ use superframe::Done;
 use superframe::State;
 ghost use mathlib.Core.Path.{_≡_};
 ghost use Rattle.superframe.specs.Code.{byteLengths, cellLengths, codeRefusal, codeAccepted, codeOf};
-ghost use Rattle.superframe.specs.Contracts.{CodeFits};
+ghost use Rattle.superframe.specs.Contracts.{CodeFits, codeCall, codeYield};
 ghost use Rattle.callrefusals.specs.Contracts.{refusalThen};
-ghost use Rattle.codecall.specs.Contracts.{codeCall, codeYield};
 
 // 1 to 10.
 fn code_lengths(

@@ -9,8 +9,7 @@ pub use statebytes::answers::finish;
 pub use statebytes::answers::finish_read;
 ghost use mathlib.Core.Path.{_≡_};
 ghost use Rattle.patterns.specs.Patterns.{table65};
-ghost use Rattle.codecall.specs.Contracts.{codeCall};
-ghost use Rattle.superframe.specs.Lent.{readCall};
+ghost use Rattle.superframe.specs.Contracts.{codeCall, readCall};
 ghost use Rattle.drmcoder.specs.Calls.{resetYields, codeYields, readYields, resetBytes, codeBytes, readBytes};
 
 // Begins a run of settings and a table on a memory.

@@ -3,7 +3,7 @@ use crate::bytes::state_of;
 use crate::calls::finish;
 use previewcall::preview;
 ghost use mathlib.Core.Path.{_≡_};
-ghost use Rattle.codecall.specs.Contracts.{codeCall};
+ghost use Rattle.superframe.specs.Contracts.{codeCall};
 ghost use Rattle.drmcoder.specs.Preview.{previewYields, previewBytes};
 
 // The cells of the next super frame, and the state after it, with state and memory only read.

@@ -2,7 +2,9 @@
 use Prim.Native.Nat.{ℕ, _≤_}
 use mathlib.Core.Path.{_≡_, refl, sym, ap, ap₂, _∙_}
 use mathlib.Core.Bool.{Bool, true, false}
+use mathlib.Core.List.{List}
 use native.Mathlib.Omega.{arith}
+use lib.ListN.{length}
 use lib.Dec.{eqb}
 use borrow.Author.Tests.{eqb-true, eqb-false}
 use Rattle.settings.specs.declared.Settings.{Settings}
@@ -10,14 +12,15 @@ use Rattle.settings.specs.declared.Sizes.{Sizes}
 use Rattle.settings.specs.Refusal.{refusal}
 use Rattle.settings.specs.Sizes.{noSizes, sizesOf}
 use Rattle.settings.proofs.Buffers.{sizes-refuses}
+use Rattle.superframe.specs.declared.State.{State}
 use Rattle.console.specs.declared.Job.{Job}
 use Rattle.console.specs.declared.Job.the-variants.{Code, Read, ReadOn, Grid, Ungrid}
 use Rattle.grid.specs.Calls.{gridNumbers, someGrid, gridSizes}
 use Rattle.kinds.proofs.Bands.{band}
 use Rattle.grid.proofs.Accepts.{pairing-of, grid-accepts, grid-refuses}
-use Rattle.jobs.specs.Contracts.{Enough, Rooms}
+use Rattle.jobs.specs.Contracts.{Enough, Rooms, Lent}
 use Rattle.jobs.specs.SuperFrame.{blocksLength, cellsLength, gridLength, inputLength, outputLength}
-use Rattle.jobs.proofs.Rooms.{enough-accepted}
+use Rattle.jobs.proofs.Rooms.{enough, enough-accepted}
 
 -- By the job's name.
 pub input-of : (job kind : Job) (z : Sizes) (g : ℕ) → job ≡ kind → inputLength kind z g ≡ inputLength job z g
@@ -83,3 +86,8 @@ rooms job s z g i m e eg ei em = go (eqb (refusal s) 0) refl
     go false t =
         let r = e ∙ sizes-refuses s (eqb-false (refusal s) 0 t) in
         within (rw r (none-most job (refusal s) g low)) (rw r (none-memory (refusal s)))
+
+-- The bytes of numbers that a job takes.
+pub bytes-most : (job : Job) (state : State) (z : Sizes) (bytes out : List ℕ) → Lent job state z bytes out → length bytes ≤ 124470
+bytes-most job state z bytes out p =
+    omega (arith, p .input, input-most job z (gridLength (state .scheme .settings)) (enough (state .scheme .settings) z (p .sizes) (p .accepted)) (length-most (state .scheme .settings)))

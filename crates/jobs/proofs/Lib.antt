@@ -2,4 +2,5 @@ pub mod Joins
 pub mod Rooms
 pub mod Lengths
 pub mod Steps
-pub mod Calls
+pub mod Fronts
+pub mod Refusals

@@ -7,7 +7,7 @@ use Rattle.superframe.specs.declared.State.{State}
 use Rattle.superframe.specs.declared.Reading.{Reading}
 use Rattle.superframe.specs.declared.Answer.{Answer}
 use Rattle.superframe.specs.declared.Answer.the-variants.{Finished, Refused as Answer·Refused}
-use Rattle.superframe.specs.Lent.{readYield}
+use Rattle.superframe.specs.Contracts.{readYield}
 use Rattle.turns.specs.declared.Outcome.the-variants.{Through, Refused}
 use Rattle.jobs.specs.Output.{Joined, blockOutput}
 use Rattle.jobs.specs.SuperFrame.{jobYield, through, refused, answered, readWritten}

@@ -11,7 +11,7 @@ use Rattle.settings.specs.Sizes.{sizesOf}
 use Rattle.superframe.specs.declared.State.{State}
 use Rattle.superframe.specs.Read.{ReadCall, readOf}
 use Rattle.keptcells.specs.ReadOn.{lostBytes, readOnOf}
-use Rattle.superframe.specs.Lent.{readCall}
+use Rattle.superframe.specs.Contracts.{readCall}
 use Rattle.console.specs.declared.Job.{Job}
 use Rattle.console.specs.declared.Job.the-variants.{Read, ReadOn}
 use Rattle.jobs.specs.declared.sizes.Space.{Space}
@@ -64,17 +64,11 @@ pub record Rooms (job : Job) (s : Settings) (r : Space) : Type 0 where
   pub inputmost : r .input ≤ 124470
   pub memorymost : r .memory ≤ 30590
 
--- The job that reads: reading on where that is asked, with seven bytes that tell what is lost, and otherwise Read, with none.
+-- The job that reads: reading on where that is asked, and otherwise Read.
 abbrev pub readJob : Bool → Job
 readJob on = cond on ReadOn Read
 
-abbrev pub lostOf : Bool → ℕ
-lostOf on = cond on lostBytes 0
-
--- Where the cells of the MSC start, and the call of Read on cells that start there.
-abbrev pub mscStart : State → ℕ
-mscStart state = facCellsLength + sizesOf (state .scheme .settings) .sdcnumbers
-
+-- The call of Read on cells of which those of the MSC start at a place.
 abbrev pub readAt : ℕ → List ℤ → List ℕ → List ℕ → List ℕ → ReadCall
 readAt at cells fac sdc msc =
     readCall (take facCellsLength cells) (take (at - facCellsLength) (drop facCellsLength cells)) (drop at cells) fac sdc msc

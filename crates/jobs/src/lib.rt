@@ -1,10 +1,9 @@
-// The desk's jobs: what each does with a super frame. The program `desk` only reads, calls and writes.
+// The desk's jobs on super frames: their lengths and buffers, the refusals before a call, and what is written after it.
 pub mod buffers;
-pub mod grids;
 pub mod output;
-pub mod readon;
+pub mod refusal;
 pub mod sizes;
-pub mod superframes;
+pub mod written;
 
 use superframe::State;
 use turns::Outcome;

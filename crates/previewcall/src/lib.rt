@@ -7,7 +7,7 @@ use superframe::Done;
 use superframe::State;
 ghost use mathlib.Core.Path.{_≡_};
 ghost use Rattle.previewcall.specs.Preview.{previewOf};
-ghost use Rattle.codecall.specs.Contracts.{codeCall};
+ghost use Rattle.superframe.specs.Contracts.{codeCall};
 ghost use Rattle.previewcall.specs.RunsWithPreviews.{RunsWithPreviews};
 ghost use Rattle.previewcall.specs.Contracts.{previewYield};
 

@@ -5,7 +5,7 @@ use channels::blocks::fac_block;
 use channels::blocks::sdc_block;
 use frames::read::read_rows;
 use superframe::State;
-ghost use Rattle.superframe.specs.Lent.{readCall};
+ghost use Rattle.superframe.specs.Contracts.{readCall};
 ghost use Rattle.readblocks.specs.Contracts.{BlocksLent, BlocksRead};
 
 // Every block of a call that no number up to 12 refuses, into its place; memory goes on by three rows.

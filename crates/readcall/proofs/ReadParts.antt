@@ -30,7 +30,7 @@ use Rattle.superframe.specs.Call.{parts, joined, inOrder, memoryLength}
 use Rattle.superframe.specs.Code.{byteLengths, cellLengths, progressOf}
 use Rattle.superframe.specs.Read.{ReadCall, pointTests, givenTests, orderRefusal, answerOf, handedOut, readAccepted, readRefused, readOf}
 use Rattle.superframe.specs.Blocks.{keptBytes, placedBytes, placedTests}
-use Rattle.superframe.specs.Contracts.{ReadFits}
+use Rattle.superframe.specs.Contracts.{ReadFits, readCall, readYield}
 use Rattle.superframe.proofs.Calls.{read-fits, answer-order, answer-points, answer-blocks, read-accepts, read-refuses}
 use Rattle.cellmemory.specs.Contracts.{StateFits}
 use Rattle.callrefusals.specs.Contracts.{refusalThen}
@@ -40,7 +40,6 @@ use Rattle.readblocks.specs.declared.Blocks.{Blocks}
 use Rattle.faults.specs.declared.Fault.{Fault}
 use Rattle.faults.specs.declared.Fault.the-variants.{Nowhere, At}
 use Rattle.faults.specs.Contracts.{faultOf, pointTest, CellsLent}
-use Rattle.superframe.specs.Lent.{readCall, readYield}
 use Rattle.readblocks.specs.Contracts.{facsOf, framesOf, blocksOf, BlocksLent, BlocksRead}
 use Rattle.readcall.specs.Contracts.{ReadPasses}
 use Rattle.faults.proofs.FaultTurns.{fault-at, fault-nowhere, tests-are}

@@ -16,7 +16,7 @@ use superframe::State;
 ghost use mathlib.Core.Path.{_≡_};
 ghost use Rattle.lists.specs.Buffers.{Long};
 ghost use Rattle.superframe.specs.Read.{orderRefusal, readOf};
-ghost use Rattle.superframe.specs.Lent.{readCall, readYield};
+ghost use Rattle.superframe.specs.Contracts.{readCall, readYield};
 ghost use Rattle.readcall.specs.Contracts.{ReadPasses};
 
 // 1 to 10, and 12.

@@ -25,7 +25,7 @@ use Rattle.superframe.proofs.Calls.{first-own-pass}
 use Rattle.keptcells.proofs.ReadOnCalls.{on-fits, on-accepts, on-refuses}
 use Rattle.callrefusals.specs.Contracts.{refusalThen}
 use Rattle.callrefusals.proofs.Chains.{first-own-hold, then-stops, then-goes-on}
-use Rattle.superframe.specs.Lent.{readCall}
+use Rattle.superframe.specs.Contracts.{readCall}
 use Rattle.readblocks.specs.declared.Blocks.{Blocks}
 use Rattle.readblocks.specs.Contracts.{blocksOf, BlocksLent, BlocksRead}
 use Rattle.keptcells.specs.Contracts.{CellsKept, ReadOnFits}

@@ -10,7 +10,7 @@ use Rattle.superframe.specs.declared.State.{State}
 use Rattle.superframe.specs.declared.Reading.{Reading}
 use Rattle.superframe.specs.Call.{inOrder}
 use Rattle.keptcells.specs.ReadOn.{lostBytes, ReadOnCall, ReadOnYield}
-use Rattle.superframe.specs.Lent.{readCall, readYield}
+use Rattle.superframe.specs.Contracts.{readCall, readYield}
 
 -- What a call that reads on is lent, and what it yields.
 abbrev pub readOnCall : List ℤ → List ℤ → List ℤ → List ℕ → List ℕ → List ℕ → List ℕ → ReadOnCall

@@ -12,8 +12,7 @@ use superframe::State;
 ghost use mathlib.Core.Path.{_≡_};
 ghost use Rattle.lists.specs.Buffers.{Long};
 ghost use Rattle.keptcells.specs.ReadOn.{keptCells, readOnOf};
-ghost use Rattle.superframe.specs.Contracts.{Fits};
-ghost use Rattle.superframe.specs.Lent.{readCall};
+ghost use Rattle.superframe.specs.Contracts.{Fits, readCall};
 ghost use Rattle.readblocks.specs.Contracts.{BlocksLent, BlocksRead};
 ghost use Rattle.readoncall.specs.Contracts.{readOnCall, readOnYield, refusalAfter};
 

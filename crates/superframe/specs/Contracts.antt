@@ -1,4 +1,4 @@
--- What functions inside a call require: acceptance by name, as facts about state, memory and buffers. Each follows from the tests of Code and Read.
+-- What functions inside a call require: acceptance by name, as facts about state, memory and buffers. Each follows from the tests of Code and Read. Then the records of the calls from their parts.
 use Prim.Native.Nat.{ℕ, _*_, _<_}
 use mathlib.Core.Path.{_≡_}
 use mathlib.Core.Bool.{Bool, true, false}
@@ -14,9 +14,11 @@ use Rattle.lists.specs.Bools.{every}
 use Rattle.channels.specs.declared.Scheme.{Scheme}
 use Rattle.channels.specs.Scheme.{schemeRefusal}
 use Rattle.superframe.specs.declared.State.{State}
+use Rattle.superframe.specs.declared.Done.{Done}
+use Rattle.superframe.specs.declared.Reading.{Reading}
 use Rattle.superframe.specs.Call.{facBytes, memoryLength, memoryCell}
-use Rattle.superframe.specs.Code.{CodeCall, sparesZero}
-use Rattle.superframe.specs.Read.{ReadCall}
+use Rattle.superframe.specs.Code.{CodeCall, CodeYield, sparesZero}
+use Rattle.superframe.specs.Read.{ReadCall, ReadYield}
 
 -- No refusal from 1 to 8, nor 23: settings that are allowed, a table that passes, and memory of the settings' length.
 pub record Fits (s : Scheme) (memory : List ℕ) : Type 0 where
@@ -55,3 +57,20 @@ pub record ReadFits (state : State) (memory : List ℕ) (c : ReadCall) : Type 0 
   pub cells : CellsFit (state .scheme .settings) (c .faccells) (c .sdccells) (c .msccells)
   pub bytes : BytesFit (state .scheme .settings) (c .fac) (c .sdc) (c .msc)
   pub order : Ordered false state memory
+
+-- What a Code call is lent, and what it yields.
+abbrev pub codeCall : List ℕ → List ℕ → List ℕ → List ℤ → List ℤ → List ℤ → CodeCall
+codeCall fac sdc msc faccells sdccells msccells =
+    record { fac = fac; sdc = sdc; msc = msc; faccells = faccells; sdccells = sdccells; msccells = msccells }
+
+abbrev pub codeYield : Done → List ℕ → List ℤ → List ℤ → List ℤ → CodeYield
+codeYield done memory faccells sdccells msccells =
+    record { done = done; memory = memory; faccells = faccells; sdccells = sdccells; msccells = msccells }
+
+-- What a Read call is lent, and what it yields.
+abbrev pub readCall : List ℤ → List ℤ → List ℤ → List ℕ → List ℕ → List ℕ → ReadCall
+readCall faccells sdccells msccells fac sdc msc =
+    record { faccells = faccells; sdccells = sdccells; msccells = msccells; fac = fac; sdc = sdc; msc = msc }
+
+abbrev pub readYield : Reading → List ℕ → List ℕ → List ℕ → List ℕ → ReadYield
+readYield reading memory fac sdc msc = record { reading = reading; memory = memory; fac = fac; sdc = sdc; msc = msc }

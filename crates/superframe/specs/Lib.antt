@@ -13,4 +13,3 @@ pub mod SingleCalls
 pub mod WholeRuns
 -- What functions inside a call require and promise.
 pub mod Contracts
-pub mod Lent

@@ -1,5 +1,5 @@
 use borrow.Author.Needs.{needs}
-use Rattle.jobs.proofs.Calls.{numbers-of}
+use Rattle.jobs.proofs.Fronts.{numbers-of}
 use Rattle.jobs.proofs.buffers.numbers_in.Statement.{statement}
 use Rattle.jobs.proofs.buffers.numbers_in.Tie as tie
 

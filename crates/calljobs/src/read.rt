@@ -1,0 +1,42 @@
+// The call Read on a super frame's cells.
+use jobs::Step;
+use jobs::sizes::FAC_CELLS_LENGTH;
+use jobs::written::write_read;
+use readcall::read::read;
+use superframe::State;
+ghost use mathlib.Core.Path.{_≡_};
+ghost use mathlib.Core.Bool.{false};
+ghost use Prim.Native.Nat.{_≤_};
+ghost use lib.ListN.{length};
+ghost use Rattle.jobs.specs.Contracts.{ReadRoom, readAt, readBy};
+ghost use Rattle.jobs.specs.SuperFrame.{jobYield};
+
+// Read on a super frame's cells, of which those of the MSC start at a place, with buffers for the bytes.
+pub fn read_with(
+    state: State,
+    cells: &[i16],
+    at: usize,
+    memory: &mut [u8],
+    fac: &mut [u8],
+    sdc: &mut [u8],
+    msc: &mut [u8],
+    out: &mut [u8],
+) -> Step
+    requires { ⌜ ReadRoom 0 at (now cells) (now fac) (now sdc) (now msc) (now out) ⌝ }
+    ensures { λ r. ⌜ jobYield r (now (memory .exit)) (now (out .exit))
+        ≡ readBy false state (now (memory .entry))
+        (readAt at (now (cells .entry)) (now (fac .entry)) (now (sdc .entry)) (now (msc .entry))) (now (out .entry)) ⌝ }
+    ensures { λ r. ⌜ r .length ≤ length (now (out .entry)) ⌝ }
+{
+    let reading = read(
+        state,
+        &cells[0..FAC_CELLS_LENGTH],
+        &cells[FAC_CELLS_LENGTH..at],
+        &cells[at..],
+        memory,
+        fac,
+        sdc,
+        msc,
+    );
+    write_read(reading, b"", fac, sdc, msc, out)
+}

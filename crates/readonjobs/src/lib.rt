@@ -1,0 +1,2 @@
+// The desk's job `read-on`. 02, S-13.
+pub mod readon;

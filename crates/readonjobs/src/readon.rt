@@ -1,0 +1,58 @@
+// A super frame of the job `read-on`. 02, S-13.
+use console::Job;
+use jobs::Step;
+use jobs::sizes::FAC_CELLS_LENGTH;
+use jobs::written::write_read;
+use readoncall::read::read_on;
+use superframe::State;
+ghost use mathlib.Core.Path.{_≡_};
+ghost use mathlib.Core.Bool.{true};
+ghost use Prim.Native.Nat.{_≤_};
+ghost use lib.ListN.{length};
+ghost use Rattle.jobs.specs.Contracts.{ReadRoom, readAt, readBy};
+ghost use Rattle.jobs.specs.SuperFrame.{jobYield, readsOn};
+
+// Whether a job counts what is lost.
+pub fn reads_on(job: Job) -> bool
+    ensures { λ r. ⌜ r ≡ readsOn job ⌝ }
+{
+    match job {
+        Job::Code => false,
+        Job::Read => false,
+        Job::ReadOn => true,
+        Job::Grid => false,
+        Job::Ungrid => false,
+    }
+}
+
+// Reading on over a super frame's cells, of which those of the MSC start at a place, with buffers for the bytes.
+pub fn read_on_with(
+    state: State,
+    cells: &[i16],
+    at: usize,
+    memory: &mut [u8],
+    fac: &mut [u8],
+    sdc: &mut [u8],
+    msc: &mut [u8],
+    out: &mut [u8],
+) -> Step
+    requires { ⌜ ReadRoom 7 at (now cells) (now fac) (now sdc) (now msc) (now out) ⌝ }
+    ensures { λ r. ⌜ jobYield r (now (memory .exit)) (now (out .exit))
+        ≡ readBy true state (now (memory .entry))
+        (readAt at (now (cells .entry)) (now (fac .entry)) (now (sdc .entry)) (now (msc .entry))) (now (out .entry)) ⌝ }
+    ensures { λ r. ⌜ r .length ≤ length (now (out .entry)) ⌝ }
+{
+    let mut lost = [0u8; 7];
+    let reading = read_on(
+        state,
+        &cells[0..FAC_CELLS_LENGTH],
+        &cells[FAC_CELLS_LENGTH..at],
+        &cells[at..],
+        memory,
+        fac,
+        sdc,
+        msc,
+        &mut lost,
+    );
+    write_read(reading, &lost, fac, sdc, msc, out)
+}

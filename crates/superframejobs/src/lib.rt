@@ -1,0 +1,2 @@
+// What each of the desk's jobs makes of a super frame. The program `desk` only reads, calls and writes.
+pub mod superframes;
