@@ -11,12 +11,11 @@ use Rattle.superframe.specs.Reset.{ResetYield, resetOf}
 use Rattle.superframe.specs.Code.{CodeCall, CodeYield, codeOf}
 use Rattle.previewcall.specs.Preview.{PreviewYield, previewOf}
 use Rattle.superframe.specs.Read.{ReadCall, ReadYield, readOf}
-use Rattle.keptcells.specs.ReadOn.{ReadOnCall, ReadOnYield, readOnOf}
-use Rattle.drmcoder.specs.ReadOn.{readOnYields, readOnAnswered, readOnBytes}
-use Rattle.drmcoder.specs.Bytes.{settingsOf, stateOf}
-use Rattle.drmcoder.specs.Calls.{stateAfter, stateRead, answerWord, resetYields, codeYields, readYields, resetAnswered, resetBytes, codeAnswered, codeBytes, readAnswered, readBytes}
+use Rattle.statebytes.specs.Bytes.{settingsOf, stateOf}
+use Rattle.statebytes.specs.Answers.{stateAfter, stateRead, answerWord, resetYields, resetAnswered}
+use Rattle.drmcoder.specs.Calls.{codeYields, readYields, resetBytes, codeAnswered, codeBytes, readAnswered, readBytes}
 use Rattle.drmcoder.specs.Preview.{previewYields, previewAnswered, previewBytes}
-use Rattle.drmcoder.proofs.TwoLengths.{both-right}
+use Rattle.settingbytes.proofs.TwoLengths.{both-right}
 
 pub reset-right : (state settings table : List ℕ) (memory : List ℕ) (old : State) (s : Settings) (y : ResetYield) (r : ℕ) (state′ : List ℕ)
     → length state ≡ 208 → length settings ≡ 10 → old ≡ stateOf state → s ≡ settingsOf settings → y ≡ resetOf old (schemeOf s table) memory
@@ -43,10 +42,3 @@ pub preview-right : (state memory : List ℕ) (c : CodeCall) (next : List ℕ) (
     → previewYields r (y .faccells) (y .sdccells) (y .msccells) next′ ≡ previewBytes state memory c next
 unfolding previewBytes previewAnswered
 preview-right state memory c next old y r next′ hs hn eo ey er e′ = rw (er, e′, ey, eo) (both-right _ _ _ _ _ _ hs hn)
-
-pub read-on-right : (state memory : List ℕ) (c : ReadOnCall) (old : State) (y : ReadOnYield) (r : ℕ) (state′ : List ℕ)
-    → length state ≡ 208 → old ≡ stateOf state → y ≡ readOnOf old memory c → r ≡ answerWord (y .yield .reading .answer)
-    → state′ ≡ stateRead (y .yield .reading .answer) (y .yield .reading .state) state
-    → readOnYields r state′ (y .yield .memory) (y .yield .fac) (y .yield .sdc) (y .yield .msc) (y .lost) ≡ readOnBytes state memory c
-unfolding readOnBytes readOnAnswered readAnswered
-read-on-right state memory c old y r state′ hs eo ey er e′ = rw (er, e′, ey, eo, eq-eqb (length state) 208 hs)

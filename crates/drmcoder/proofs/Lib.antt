@@ -1,6 +1,4 @@
-pub mod Stores
-pub mod TwoLengths
 pub mod Answers
-pub mod SettingsGiven
+pub mod GridSizes
 pub mod Planned
-pub mod Restored
+pub mod ReadOn

@@ -6,18 +6,13 @@ use lib.ListN.{length}
 use lib.IntN.{ℤ}
 use lib.Dec.{eqb}
 use Rattle.channels.specs.Scheme.{schemeOf}
-use Rattle.superframe.specs.Reset.{ResetYield, resetOf}
+use Rattle.superframe.specs.Reset.{resetOf}
 use Rattle.superframe.specs.Code.{CodeCall, CodeYield, codeOf}
 use Rattle.superframe.specs.Read.{ReadCall, ReadYield, readOf}
-unfoldable pub use Rattle.statebytes.specs.Answers.{stateAfter, answerWord, stateRead}
-use Rattle.drmcoder.specs.Bytes.{settingsOf, stateOf}
+use Rattle.statebytes.specs.Answers.{stateAfter, answerWord, stateRead, ResetBytes, resetYields, resetAnswered}
+use Rattle.statebytes.specs.Bytes.{settingsOf, stateOf}
 
 -- Answers and buffers as each call leaves them.
-pub record ResetBytes : Type 0 where
-  pub answer : ℕ
-  pub state : List ℕ
-  pub memory : List ℕ
-
 pub record CodeBytes : Type 0 where
   pub answer : ℕ
   pub state : List ℕ
@@ -35,9 +30,6 @@ pub record ReadBytes : Type 0 where
   pub msc : List ℕ
 
 -- The same from their parts.
-abbrev pub resetYields : ℕ → List ℕ → List ℕ → ResetBytes
-resetYields answer state memory = record { answer = answer; state = state; memory = memory }
-
 abbrev pub codeYields : ℕ → List ℕ → List ℕ → List ℤ → List ℤ → List ℤ → CodeBytes
 codeYields answer state memory faccells sdccells msccells =
     record { answer = answer; state = state; memory = memory; faccells = faccells; sdccells = sdccells; msccells = msccells }
@@ -47,9 +39,6 @@ readYields answer state memory fac sdc msc =
     record { answer = answer; state = state; memory = memory; fac = fac; sdc = sdc; msc = msc }
 
 -- Reset with a table, which drm_reset takes from the standard. A state or settings of the wrong length: 255, and nothing is written.
-unfoldable pub resetAnswered : ResetYield → List ℕ → ResetBytes
-resetAnswered y state = resetYields (y .done .refusal) (stateAfter (y .done) state) (y .memory)
-
 unfoldable pub resetBytes : List ℕ → List ℕ → List ℕ → List ℕ → ResetBytes
 resetBytes state settings table memory =
     cond (eqb (length state) 208 && eqb (length settings) 10)

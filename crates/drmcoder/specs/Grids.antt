@@ -1,20 +1,14 @@
 -- What drm_grid_sizes, drm_grid_place and drm_grid_take yield, by the calls on settings. 02, S-4.
 use Prim.Native.Nat.{ℕ}
 use mathlib.Core.Bool.{cond, _&&_}
-use mathlib.Core.List.{List, [], _∷_}
+use mathlib.Core.List.{List}
 use lib.ListN.{length}
 use lib.IntN.{ℤ}
 use lib.Dec.{eqb}
-use Rattle.grid.specs.declared.GridSizes.{GridSizes}
 use Rattle.placing.specs.Cells.{Cells}
-use Rattle.grid.specs.Calls.{gridSizes, PlaceYield, placeOf, TakeYield, takeOf}
+use Rattle.grid.specs.Calls.{gridSizes, gridSizesInto, PlaceYield, placeOf, TakeYield, takeOf}
 use Rattle.drmcoder.specs.Bytes.{settingsOf}
-use Rattle.drmcoder.specs.Numbers.{Numbers, yielded}
-
--- Symbols of a super frame, carriers of a symbol, numbers of a grid; a refusal leaves the numbers as they were.
-unfoldable pub gridSizesInto : GridSizes → List ℕ → Numbers
-gridSizesInto z numbers =
-    cond (eqb (z .refusal) 0) (yielded 0 (z .symbols ∷ z .carriers ∷ z .numbers ∷ [])) (yielded (z .refusal) numbers)
+use Rattle.settingbytes.specs.Numbers.{Numbers, yielded}
 
 -- 255, and nothing written, unless there are ten bytes of settings and three numbers.
 unfoldable pub gridSizesBytes : List ℕ → List ℕ → Numbers

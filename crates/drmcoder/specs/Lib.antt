@@ -1,13 +1,9 @@
 pub mod Bytes
 pub mod Fac
-pub mod Numbers
 pub mod Calls
 pub mod Preview
 pub mod ReadOn
-pub mod Restores
 pub mod Grids
-pub mod Holds
 pub mod HowLong
 pub mod Mux
-pub mod Decide
 pub mod Plans

@@ -7,8 +7,8 @@ use lib.IntN.{ℤ}
 use lib.Dec.{eqb}
 use Rattle.superframe.specs.Code.{CodeCall}
 use Rattle.previewcall.specs.Preview.{PreviewYield, previewOf}
-use Rattle.drmcoder.specs.Bytes.{stateOf}
-use Rattle.drmcoder.specs.Calls.{stateAfter}
+use Rattle.statebytes.specs.Bytes.{stateOf}
+use Rattle.statebytes.specs.Answers.{stateAfter}
 
 -- The answer, and the buffers as the call leaves them; state, memory and inputs are only read.
 pub record PreviewBytes : Type 0 where

@@ -5,7 +5,7 @@ use mathlib.Core.List.{List}
 use lib.ListN.{length}
 use lib.Dec.{eqb}
 use Rattle.keptcells.specs.ReadOn.{ReadOnCall, ReadOnYield, readOnOf}
-use Rattle.drmcoder.specs.Bytes.{stateOf}
+use Rattle.statebytes.specs.Bytes.{stateOf}
 use Rattle.drmcoder.specs.Calls.{ReadBytes, readYields, readAnswered}
 
 -- Answer and buffers as the call leaves them: what drm_read leaves, and the bytes that tell what is lost.

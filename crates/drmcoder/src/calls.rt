@@ -1,16 +1,17 @@
 // The calls drm_reset, drm_reset_table, drm_code and drm_read.
-use crate::bytes::settings_of;
-use crate::bytes::state_of;
 use codecall::code::code;
 use patterns::table::standard_table;
 use readcall::read::read;
 use resetcall::reset::reset_table;
-pub use statebytes::answers::finish;
-pub use statebytes::answers::finish_read;
+use settingbytes::bytes::settings_of;
+use statebytes::answers::finish;
+use statebytes::answers::finish_read;
+use statebytes::bytes::state_of;
 ghost use mathlib.Core.Path.{_≡_};
 ghost use Rattle.patterns.specs.Patterns.{table65};
 ghost use Rattle.superframe.specs.Contracts.{codeCall, readCall};
-ghost use Rattle.drmcoder.specs.Calls.{resetYields, codeYields, readYields, resetBytes, codeBytes, readBytes};
+ghost use Rattle.statebytes.specs.Answers.{resetYields};
+ghost use Rattle.drmcoder.specs.Calls.{codeYields, readYields, resetBytes, codeBytes, readBytes};
 
 // Begins a run of settings and a table on a memory.
 fn reset_bytes(state: &mut [u8], settings: &[u8], table: &[u8], memory: &mut [u8]) -> u8

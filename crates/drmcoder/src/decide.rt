@@ -1,29 +1,10 @@
 // The calls drm_decide_fac, drm_decide_sdc and drm_decide_msc. 02, S-10.
-use crate::bytes::settings_of;
 use measured::Channel;
-use measured::calls::decide;
+use measured::bytes::decide_cells;
 ghost use mathlib.Core.Path.{_≡_};
 ghost use Rattle.measured.specs.declared.Channel.the-variants.{Fac, Sdc, Msc};
 ghost use Rattle.measured.specs.Calls.{decideYield};
-ghost use Rattle.drmcoder.specs.Decide.{decideBytes};
-
-// The cells of any channel.
-fn decide_cells(
-    channel: Channel,
-    settings: &[u8],
-    kinds: &[u8],
-    values: &[f32],
-    points: &mut [i16],
-    bits: &mut [u8],
-) -> u8
-    ensures { λ r. ⌜ decideYield r (now (points .exit)) (now (bits .exit))
-        ≡ decideBytes channel (now (settings .entry)) (now (kinds .entry)) (now (values .entry)) (now (points .entry)) (now (bits .entry)) ⌝ }
-{
-    if settings.len() != 10 {
-        return 255;
-    }
-    decide(channel, settings_of(settings), kinds, values, points, bits)
-}
+ghost use Rattle.measured.specs.Bytes.{decideBytes};
 
 // Measured FAC cells to points and bits.
 #[no_mangle]

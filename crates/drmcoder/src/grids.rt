@@ -1,26 +1,11 @@
 // The calls drm_grid_sizes, drm_grid_place and drm_grid_take.
 use crate::bytes::settings_of;
-use grid::GridSizes;
 use grid::calls;
 ghost use mathlib.Core.Path.{_≡_};
-ghost use lib.ListN.{length};
 ghost use Rattle.grid.specs.Contracts.{placeYield, takeYield};
 ghost use Rattle.placing.specs.Contracts.{cellsFrom};
-ghost use Rattle.drmcoder.specs.Numbers.{yielded};
-ghost use Rattle.drmcoder.specs.Grids.{gridSizesInto, gridSizesBytes, placeBytes, takeBytes};
-
-fn put_grid_sizes(z: GridSizes, numbers: &mut [u32]) -> u8
-    requires { ⌜ length (now numbers) ≡ 3 ⌝ }
-    ensures { λ r. ⌜ yielded r (now (numbers .exit)) ≡ gridSizesInto z (now (numbers .entry)) ⌝ }
-{
-    if z.refusal != 0 {
-        return z.refusal;
-    }
-    numbers[0] = z.symbols;
-    numbers[1] = z.carriers;
-    numbers[2] = z.numbers;
-    0
-}
+ghost use Rattle.settingbytes.specs.Numbers.{yielded};
+ghost use Rattle.drmcoder.specs.Grids.{gridSizesBytes, placeBytes, takeBytes};
 
 // Symbols of a super frame, carriers of a symbol, numbers of a grid.
 #[no_mangle]
@@ -33,7 +18,7 @@ pub extern "C" fn drm_grid_sizes(settings: &[u8], sizes: &mut [u32]) -> u8
     if sizes.len() != 3 {
         return 255;
     }
-    put_grid_sizes(calls::sizes(settings_of(settings)), sizes)
+    calls::put_grid_sizes(calls::sizes(settings_of(settings)), sizes)
 }
 
 // The cells of a super frame onto a grid.

@@ -1,26 +1,14 @@
 // The calls on hold files: drm_hold_sizes, drm_to_new and drm_to_old. 02, S-7.
 use crate::bytes::settings_of;
-use holdfile::FileSizes;
+use holdbytes::holds::convert_file;
+use holdbytes::holds::put_hold_sizes;
 use holdfile::convert;
 use holdlines::Form;
 ghost use mathlib.Core.Path.{_≡_};
-ghost use lib.ListN.{length};
 ghost use Rattle.holdlines.specs.declared.Form.the-variants.{Old, New};
 ghost use Rattle.holdfile.specs.Convert.{convertYield};
-ghost use Rattle.drmcoder.specs.Numbers.{yielded};
-ghost use Rattle.drmcoder.specs.Holds.{fileSizesInto, holdSizesBytes, convertBytes};
-
-fn put_hold_sizes(z: FileSizes, numbers: &mut [u32]) -> u8
-    requires { ⌜ length (now numbers) ≡ 2 ⌝ }
-    ensures { λ r. ⌜ yielded r (now (numbers .exit)) ≡ fileSizesInto z (now (numbers .entry)) ⌝ }
-{
-    if z.refusal != 0 {
-        return z.refusal;
-    }
-    numbers[0] = z.old;
-    numbers[1] = z.new;
-    0
-}
+ghost use Rattle.settingbytes.specs.Numbers.{yielded};
+ghost use Rattle.holdbytes.specs.Holds.{holdSizesBytes, convertBytes};
 
 // The bytes of an old and of a new file.
 #[no_mangle]
@@ -34,16 +22,6 @@ pub extern "C" fn drm_hold_sizes(settings: &[u8], sizes: &mut [u32]) -> u8
         return 255;
     }
     put_hold_sizes(convert::sizes(settings_of(settings)), sizes)
-}
-
-// A file of either form to the other.
-fn convert_file(form: Form, settings: &[u8], file: &[u8], out: &mut [u8]) -> u8
-    ensures { λ r. ⌜ convertYield r (now (out .exit)) ≡ convertBytes form (now (settings .entry)) (now (file .entry)) (now (out .entry)) ⌝ }
-{
-    if settings.len() != 10 {
-        return 255;
-    }
-    convert::convert(form, settings_of(settings), file, out)
 }
 
 // An old file to its new form.

@@ -1,7 +1,7 @@
 // The call drm_preview. 02, S-3.
-use crate::bytes::state_of;
-use crate::calls::finish;
 use previewcall::preview;
+use statebytes::answers::finish;
+use statebytes::bytes::state_of;
 ghost use mathlib.Core.Path.{_≡_};
 ghost use Rattle.superframe.specs.Contracts.{codeCall};
 ghost use Rattle.drmcoder.specs.Preview.{previewYields, previewBytes};

@@ -1,7 +1,7 @@
 // The call drm_read_on. 02, S-13.
-use crate::bytes::state_of;
-use crate::calls::finish_read;
 use readoncall::read::read_on;
+use statebytes::answers::finish_read;
+use statebytes::bytes::state_of;
 ghost use mathlib.Core.Path.{_≡_};
 ghost use Rattle.readoncall.specs.Contracts.{readOnCall};
 ghost use Rattle.drmcoder.specs.ReadOn.{readOnYields, readOnBytes};

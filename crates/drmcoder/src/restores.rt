@@ -1,27 +1,14 @@
 // The calls that store a state and its memory in a hold file, and restore them. 02, S-7 and S-11.
-use crate::bytes::settings_of;
-use crate::bytes::state_of;
-use crate::calls::finish;
-use holdcalls::restore::restore_table;
-use holdcalls::store::store;
+use holdbytes::restores::restore_bytes;
+use holdbytes::restores::restore_standard;
+use holdbytes::restores::store_bytes;
 use holdlines::Form;
-use patterns::table::standard_table;
 ghost use mathlib.Core.Path.{_≡_};
 ghost use Rattle.patterns.specs.Patterns.{table65};
 ghost use Rattle.holdlines.specs.declared.Form.the-variants.{Old, New};
 ghost use Rattle.holdfile.specs.Convert.{convertYield};
-ghost use Rattle.drmcoder.specs.Calls.{resetYields};
-ghost use Rattle.drmcoder.specs.Restores.{storeBytes, restoreBytes};
-
-// A state and its memory to a file of a form.
-fn store_bytes(form: Form, state: &[u8], memory: &[u8], file: &mut [u8]) -> u8
-    ensures { λ r. ⌜ convertYield r (now (file .exit)) ≡ storeBytes form (now (state .entry)) (now (memory .entry)) (now (file .entry)) ⌝ }
-{
-    if state.len() != 208 {
-        return 255;
-    }
-    store(form, state_of(state), memory, file)
-}
+ghost use Rattle.statebytes.specs.Answers.{resetYields};
+ghost use Rattle.holdbytes.specs.Restores.{storeBytes, restoreBytes};
 
 // A state and its memory to an old file.
 #[no_mangle]
@@ -37,50 +24,6 @@ pub extern "C" fn drm_store_new(state: &[u8], memory: &[u8], file: &mut [u8]) ->
     ensures { λ r. ⌜ convertYield r (now (file .exit)) ≡ storeBytes New (now (state .entry)) (now (memory .entry)) (now (file .entry)) ⌝ }
 {
     store_bytes(Form::New, state, memory, file)
-}
-
-// A file of a form to a state and its memory, with settings and a table.
-fn restore_bytes(
-    form: Form,
-    state: &mut [u8],
-    settings: &[u8],
-    table: &[u8],
-    file: &[u8],
-    memory: &mut [u8],
-) -> u8
-    ensures { λ r. ⌜ resetYields r (now (state .exit)) (now (memory .exit))
-        ≡ restoreBytes form (now (state .entry)) (now (settings .entry)) (now (table .entry)) (now (file .entry)) (now (memory .entry)) ⌝ }
-{
-    if state.len() != 208 {
-        return 255;
-    }
-    if settings.len() != 10 {
-        return 255;
-    }
-    let done = restore_table(
-        form,
-        state_of(state),
-        settings_of(settings),
-        table,
-        file,
-        memory,
-    );
-    finish(done, state)
-}
-
-// The same with the standard's table.
-fn restore_standard(
-    form: Form,
-    state: &mut [u8],
-    settings: &[u8],
-    file: &[u8],
-    memory: &mut [u8],
-) -> u8
-    ensures { λ r. ⌜ resetYields r (now (state .exit)) (now (memory .exit))
-        ≡ restoreBytes form (now (state .entry)) (now (settings .entry)) table65 (now (file .entry)) (now (memory .entry)) ⌝ }
-{
-    let table = standard_table();
-    restore_bytes(form, state, settings, &table, file, memory)
 }
 
 // A run from an old file, with the standard's table.

@@ -1,7 +1,7 @@
 -- The calls: sizes of a grid, cells placed, cells taken. 02, S-4.
 use Prim.Native.Nat.{ℕ, _*_}
 use mathlib.Core.Bool.{Bool, cond, not, _&&_}
-use mathlib.Core.List.{List}
+use mathlib.Core.List.{List, [], _∷_}
 use lib.ListN.{length}
 use lib.IntN.{ℤ}
 use lib.Dec.{eqb, ltb}
@@ -9,6 +9,7 @@ use Rattle.settings.specs.declared.Settings.{Settings}
 use Rattle.settings.specs.Refusal.{first, refusal}
 use Rattle.settings.specs.Cells.{facCells}
 use Rattle.settings.specs.Lengths.{nSdc, nSfa}
+use Rattle.settingbytes.specs.Numbers.{Numbers, yielded}
 use Rattle.grid.specs.declared.GridSizes.{GridSizes}
 use Rattle.kinds.specs.Carriers.{symbols, carriers}
 use Rattle.kinds.specs.Places.{places, gridKinds}
@@ -36,6 +37,11 @@ someGrid s =
 
 unfoldable pub gridSizes : Settings → GridSizes
 gridSizes s = cond (eqb (refusal s) 0) (someGrid s) (noGrid (refusal s))
+
+-- Symbols of a super frame, carriers of a symbol, numbers of a grid; a refusal leaves the numbers as they were.
+unfoldable pub gridSizesInto : GridSizes → List ℕ → Numbers
+gridSizesInto z numbers =
+    cond (eqb (z .refusal) 0) (yielded 0 (z .symbols ∷ z .carriers ∷ z .numbers ∷ [])) (yielded (z .refusal) numbers)
 
 -- Cells for three FAC blocks, an SDC block and a super frame's MSC sequence.
 unfoldable pub cellsFit : Settings → Cells → Bool

@@ -11,7 +11,8 @@ use settings::tables::n_sfa;
 ghost use mathlib.Core.Path.{_≡_};
 ghost use lib.ListN.{length};
 ghost use Rattle.placing.specs.Cells.{placed, taken};
-ghost use Rattle.grid.specs.Calls.{kinds, gridSizes, placeOf, takeOf};
+ghost use Rattle.settingbytes.specs.Numbers.{yielded};
+ghost use Rattle.grid.specs.Calls.{kinds, gridSizes, gridSizesInto, placeOf, takeOf};
 ghost use Rattle.grid.specs.Contracts.{lengthsRefusal, CallFits, placeYield, takeYield};
 ghost use Rattle.placing.specs.Contracts.{cellsFrom};
 
@@ -39,6 +40,20 @@ pub fn sizes(s: Settings) -> GridSizes
         carriers: carriers as u32,
         numbers: (3 * (symbols * carriers)) as u32,
     }
+}
+
+// The sizes into the caller's numbers, which a refusal leaves as they were.
+pub fn put_grid_sizes(z: GridSizes, numbers: &mut [u32]) -> u8
+    requires { ⌜ length (now numbers) ≡ 3 ⌝ }
+    ensures { λ r. ⌜ yielded r (now (numbers .exit)) ≡ gridSizesInto z (now (numbers .entry)) ⌝ }
+{
+    if z.refusal != 0 {
+        return z.refusal;
+    }
+    numbers[0] = z.symbols;
+    numbers[1] = z.carriers;
+    numbers[2] = z.numbers;
+    0
 }
 
 // The lowest number that applies: 1 to 7, the number for cells of the wrong length, 17.

@@ -1,4 +1,5 @@
 // Measured cells of a channel decided to points and bits. 02, S-10.
+pub mod bytes;
 pub mod calls;
 pub mod theorems;
 

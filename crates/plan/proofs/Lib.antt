@@ -3,3 +3,4 @@ pub mod Loops
 pub mod Minutes
 pub mod Chain
 pub mod WeekPlans
+pub mod Stored

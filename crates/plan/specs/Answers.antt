@@ -7,6 +7,7 @@ use lib.Dec.{eqb, ltb, leb}
 use Rattle.lists.specs.Lists.{table}
 use Rattle.lists.specs.Bools.{every}
 use Rattle.settings.specs.Refusal.{first, refusal}
+use Rattle.settingbytes.specs.Numbers.{Numbers, yielded}
 use Rattle.plan.specs.declared.Rule.{Rule}
 use Rattle.plan.specs.declared.Answer.{Answer}
 use Rattle.plan.specs.Rules.{mostRules, weekMinutes, weekFrames, rulesWith, placeOf, minuteOf, markOf}
@@ -48,3 +49,7 @@ refused number = record { refusal = number; place = 0; mark = 0 }
 
 unfoldable pub answerOf : List Rule → ℕ → Answer
 answerOf plan t = cond (eqb (planRefusal plan t) 0) (accepted plan t) (refused (planRefusal plan t))
+
+-- Place and mark; a refusal leaves the two bytes as they were.
+unfoldable pub planInto : Answer → List ℕ → Numbers
+planInto a bytes = cond (eqb (a .refusal) 0) (yielded 0 (a .place ∷ a .mark ∷ [])) (yielded (a .refusal) bytes)

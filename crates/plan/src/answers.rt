@@ -5,8 +5,10 @@ use crate::marks::mark;
 use crate::refusals::plan_refusal;
 use crate::rules::find;
 ghost use mathlib.Core.Path.{_≡_};
+ghost use lib.ListN.{length};
+ghost use Rattle.settingbytes.specs.Numbers.{yielded};
 ghost use Rattle.plan.specs.Rules.{rulesOf};
-ghost use Rattle.plan.specs.Answers.{answerOf};
+ghost use Rattle.plan.specs.Answers.{answerOf, planInto};
 
 // The rule's place and the mark, or the refusal. Bytes after the last whole rule are not looked at.
 pub fn answer(rules: &[u8], t: u32) -> Answer
@@ -26,4 +28,17 @@ pub fn answer(rules: &[u8], t: u32) -> Answer
         place: found.place as u8,
         mark: mark(rules, t),
     }
+}
+
+// An answer into the caller's two bytes, which a refusal leaves as they were.
+pub fn put_answer(a: Answer, bytes: &mut [u8]) -> u8
+    requires { ⌜ length (now bytes) ≡ 2 ⌝ }
+    ensures { λ r. ⌜ yielded r (now (bytes .exit)) ≡ planInto a (now (bytes .entry)) ⌝ }
+{
+    if a.refusal != 0 {
+        return a.refusal;
+    }
+    bytes[0] = a.place;
+    bytes[1] = a.mark;
+    0
 }

@@ -1,2 +1,3 @@
-// Settings as the ten bytes that a caller lends.
+// Settings as the ten bytes that a caller lends, and numbers that answer them.
 pub mod bytes;
+pub mod numbers;

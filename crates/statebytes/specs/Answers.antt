@@ -7,6 +7,7 @@ use Rattle.superframe.specs.declared.State.{State}
 use Rattle.superframe.specs.declared.Done.{Done}
 use Rattle.superframe.specs.declared.Answer.{Answer}
 use Rattle.superframe.specs.declared.Answer.the-variants.{Finished, Refused}
+use Rattle.superframe.specs.Reset.{ResetYield}
 use Rattle.superframe.specs.Read.{answerNumber, answerFrames, answerBlock}
 use Rattle.statebytes.specs.Bytes.{stateBytes}
 
@@ -22,3 +23,16 @@ answerWord a = 256 * answerNumber a + answerBlock a + answerFrames a
 unfoldable pub stateRead : Answer → State → List ℕ → List ℕ
 stateRead (Finished n) state bytes = stateBytes state
 stateRead (Refused r b) state bytes = bytes
+
+-- Answer and buffers as Reset leaves them, and restoring from a hold file.
+pub record ResetBytes : Type 0 where
+  pub answer : ℕ
+  pub state : List ℕ
+  pub memory : List ℕ
+
+-- The same from their parts.
+abbrev pub resetYields : ℕ → List ℕ → List ℕ → ResetBytes
+resetYields answer state memory = record { answer = answer; state = state; memory = memory }
+
+unfoldable pub resetAnswered : ResetYield → List ℕ → ResetBytes
+resetAnswered y state = resetYields (y .done .refusal) (stateAfter (y .done) state) (y .memory)

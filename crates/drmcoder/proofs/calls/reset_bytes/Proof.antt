@@ -1,6 +1,6 @@
 use borrow.Author.Needs.{needs}
 use Rattle.drmcoder.specs.Calls.{resetBytes}
-use Rattle.drmcoder.proofs.TwoLengths.{first-wrong, second-wrong}
+use Rattle.settingbytes.proofs.TwoLengths.{first-wrong, second-wrong}
 use Rattle.drmcoder.proofs.Answers.{reset-right}
 use Rattle.drmcoder.proofs.calls.reset_bytes.Statement.{statement}
 use Rattle.drmcoder.proofs.calls.reset_bytes.Tie as tie

@@ -1,7 +1,7 @@
 use borrow.Author.Needs.{needs}
 use Rattle.drmcoder.specs.Grids.{gridSizesBytes}
-use Rattle.drmcoder.proofs.TwoLengths.{first-wrong, second-wrong}
-use Rattle.drmcoder.proofs.Stores.{grid-sizes-right}
+use Rattle.settingbytes.proofs.TwoLengths.{first-wrong, second-wrong}
+use Rattle.drmcoder.proofs.GridSizes.{grid-sizes-right}
 use Rattle.drmcoder.proofs.grids.drm_grid_sizes.Statement.{statement}
 use Rattle.drmcoder.proofs.grids.drm_grid_sizes.Tie as tie
 

@@ -1,8 +1,8 @@
 -- `drm_hold_sizes` meets its contract. Assumes nothing.
 use borrow.Author.Needs.{needs}
-use Rattle.drmcoder.specs.Holds.{holdSizesBytes}
-use Rattle.drmcoder.proofs.TwoLengths.{first-wrong, second-wrong}
-use Rattle.drmcoder.proofs.Stores.{hold-sizes-right}
+use Rattle.holdbytes.specs.Holds.{holdSizesBytes}
+use Rattle.settingbytes.proofs.TwoLengths.{first-wrong, second-wrong}
+use Rattle.holdbytes.proofs.Sizes.{hold-sizes-right}
 use Rattle.drmcoder.proofs.holds.drm_hold_sizes.Statement.{statement}
 use Rattle.drmcoder.proofs.holds.drm_hold_sizes.Tie as tie
 

@@ -3,7 +3,7 @@ use borrow.Author.Needs.{needs}
 use borrow.Author.Tests.{ne-eqb}
 use Rattle.howlong.specs.HowLong.{howLongOf}
 use Rattle.drmcoder.specs.HowLong.{howLongBytes}
-use Rattle.drmcoder.proofs.SettingsGiven.{with-settings}
+use Rattle.settingbytes.proofs.SettingsGiven.{with-settings}
 use Rattle.drmcoder.proofs.long.drm_how_long.Statement.{statement}
 use Rattle.drmcoder.proofs.long.drm_how_long.Tie as tie
 

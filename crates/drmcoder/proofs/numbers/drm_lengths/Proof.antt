@@ -1,7 +1,7 @@
 use borrow.Author.Needs.{needs}
-use Rattle.drmcoder.specs.Numbers.{lengthsBytes}
-use Rattle.drmcoder.proofs.TwoLengths.{first-wrong, second-wrong}
-use Rattle.drmcoder.proofs.Stores.{lengths-right}
+use Rattle.settingbytes.specs.Numbers.{lengthsBytes}
+use Rattle.settingbytes.proofs.TwoLengths.{first-wrong, second-wrong}
+use Rattle.settingbytes.proofs.Stores.{lengths-right}
 use Rattle.drmcoder.proofs.numbers.drm_lengths.Statement.{statement}
 use Rattle.drmcoder.proofs.numbers.drm_lengths.Tie as tie
 

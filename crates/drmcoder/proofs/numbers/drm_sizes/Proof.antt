@@ -1,7 +1,7 @@
 use borrow.Author.Needs.{needs}
-use Rattle.drmcoder.specs.Numbers.{sizesBytes}
-use Rattle.drmcoder.proofs.TwoLengths.{first-wrong, second-wrong}
-use Rattle.drmcoder.proofs.Stores.{sizes-right}
+use Rattle.settingbytes.specs.Numbers.{sizesBytes}
+use Rattle.settingbytes.proofs.TwoLengths.{first-wrong, second-wrong}
+use Rattle.settingbytes.proofs.Stores.{sizes-right}
 use Rattle.drmcoder.proofs.numbers.drm_sizes.Statement.{statement}
 use Rattle.drmcoder.proofs.numbers.drm_sizes.Tie as tie
 

@@ -1,6 +1,6 @@
 use borrow.Author.Needs.{needs}
 use Rattle.drmcoder.specs.Plans.{planBytes}
-use Rattle.drmcoder.proofs.TwoLengths.{first-wrong, second-wrong}
+use Rattle.settingbytes.proofs.TwoLengths.{first-wrong, second-wrong}
 use Rattle.drmcoder.proofs.Planned.{plan-right}
 use Rattle.drmcoder.proofs.plans.drm_plan.Statement.{statement}
 use Rattle.drmcoder.proofs.plans.drm_plan.Tie as tie

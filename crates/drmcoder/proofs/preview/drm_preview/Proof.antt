@@ -2,7 +2,7 @@ use mathlib.Core.Path.{_≡_}
 use lib.ListN.{length}
 use borrow.Author.Needs.{needs}
 use Rattle.drmcoder.specs.Preview.{previewBytes}
-use Rattle.drmcoder.proofs.TwoLengths.{first-wrong, second-wrong}
+use Rattle.settingbytes.proofs.TwoLengths.{first-wrong, second-wrong}
 use Rattle.drmcoder.proofs.Answers.{preview-right}
 use Rattle.drmcoder.proofs.preview.drm_preview.Statement.{statement}
 use Rattle.drmcoder.proofs.preview.drm_preview.Tie as tie

@@ -2,7 +2,7 @@
 use borrow.Author.Needs.{needs}
 use borrow.Author.Tests.{ne-eqb}
 use Rattle.drmcoder.specs.ReadOn.{readOnBytes}
-use Rattle.drmcoder.proofs.Answers.{read-on-right}
+use Rattle.drmcoder.proofs.ReadOn.{read-on-right}
 use Rattle.drmcoder.proofs.read_on.drm_read_on.Statement.{statement}
 use Rattle.drmcoder.proofs.read_on.drm_read_on.Tie as tie
 

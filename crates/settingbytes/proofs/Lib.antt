@@ -1,0 +1,3 @@
+pub mod TwoLengths
+pub mod SettingsGiven
+pub mod Stores
