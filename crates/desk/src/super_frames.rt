@@ -44,10 +44,7 @@ fn take(job: Job, state: State, bytes: &mut [u8], memory: &mut [u8], out: &mut [
     let got = fill(bytes);
     match got {
         Next::On => pass(job, state, bytes, memory, out),
-        Next::Over(end) => Turn {
-            next: Next::Over(end),
-            state,
-        },
+        Next::Over(_) => Turn { next: got, state },
     }
 }
 

@@ -16,6 +16,11 @@ use turns::End;
 use turns::Next;
 use turns::Outcome;
 use turns::turn;
+ghost use mathlib.Core.Path.{_≡_};
+ghost use Rattle.channels.specs.Scheme.{standardScheme};
+ghost use Rattle.holdlines.specs.declared.Form.the-variants.{New};
+ghost use Rattle.holdcalls.specs.Restore.{restoreOf};
+ghost use Rattle.holdpipes.specs.Begun.{begunYield, blankState, restoredBegun, FromFile, Begins};
 
 // A file that has come.
 fn pass_file(job: TurnJob, s: Settings, file: &[u8]) {
@@ -49,7 +54,9 @@ pub struct Begun {
 }
 
 // What a call is handed that looks at nothing of its old state.
-fn blank(s: Settings) -> State {
+fn blank(s: Settings) -> State
+    ensures { λ r. ⌜ r ≡ blankState s ⌝ }
+{
     State {
         scheme: standard_scheme(s),
         position: 0,
@@ -58,7 +65,10 @@ fn blank(s: Settings) -> State {
 }
 
 // A run that goes on where a file was stored.
-fn restore_file(s: Settings, file: &[u8], memory: &mut [u8]) -> Begun {
+fn restore_file(s: Settings, file: &[u8], memory: &mut [u8]) -> Begun
+    ensures { λ r. ⌜ begunYield r (now (memory .exit))
+        ≡ restoredBegun (restoreOf New (blankState s) (standardScheme s) (now (file .entry)) (now (memory .entry))) ⌝ }
+{
     let done = restore(Form::New, blank(s), s, file, memory);
     let state = done.state;
     Begun {
@@ -68,7 +78,9 @@ fn restore_file(s: Settings, file: &[u8], memory: &mut [u8]) -> Begun {
 }
 
 // From the new hold file of a name.
-pub fn restore_from(path: &[u8], s: Settings, memory: &mut [u8]) -> Begun {
+pub fn restore_from(path: &[u8], s: Settings, memory: &mut [u8]) -> Begun
+    ensures { λ r. ⌜ FromFile s (now (memory .entry)) (begunYield r (now (memory .exit))) ⌝ }
+{
     let mut file = files::file_buffer();
     let from = os::open_read(path);
     let taken = take_all(from, &mut file);
@@ -85,7 +97,9 @@ pub fn restore_from(path: &[u8], s: Settings, memory: &mut [u8]) -> Begun {
 }
 
 // From a reset, or from the file that the third argument names; settings that a reset refuses are refused at the first super frame too.
-pub fn begin_from(s: Settings, memory: &mut [u8]) -> Begun {
+pub fn begin_from(s: Settings, memory: &mut [u8]) -> Begun
+    ensures { λ r. ⌜ Begins s (now (memory .entry)) (begunYield r (now (memory .exit))) ⌝ }
+{
     let mut path = io::buffer();
     let n = os::arg(3, &mut path);
     if asked::from_reset(os::arg_count(), &path[..n]) {
