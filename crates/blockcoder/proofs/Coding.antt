@@ -32,7 +32,7 @@ use Rattle.block.proofs.Lists.{bits-take}
 use Rattle.block.proofs.Packing.{length-unpacked}
 use Rattle.block.proofs.Dispersal.{length-dispersedParts, bits-dispersedParts, from-first}
 use Rattle.packing.specs.Contracts.{Unpacks}
-use Rattle.mapping.specs.Contracts.{MapsParts, MapsAxesParts}
+use Rattle.cellparts.specs.Contracts.{MapsParts, MapsAxesParts}
 use Rattle.blockcoder.specs.Contracts.{cellsBy, axisOver, codedLeft, labelsLeft, bitsOf, HasRoom, CodesParts, CodesBits, PartsLeft, BitsLeft, WorkLeft}
 use Rattle.block.specs.Fits.{BlockLent}
 use Rattle.blockcoder.proofs.Axes.{few, alike-low, both-levels, axis, cells-low, pairs, twice, axis-levels}

@@ -8,11 +8,12 @@ use lib.Seq.{length-take-le}
 use lib.IntN.{ℤ}
 use Rattle.lists.proofs.Tables.{length-table}
 use Rattle.block.specs.Mapping.{Constellation, constellation, weave}
 use Rattle.mapping.specs.Labels.{coordinates}
 use Rattle.block.proofs.Mapping.{length-weave}
-use Rattle.mapping.specs.Contracts.{Maps, MapsAxes, MapsParts, MapsAxesParts}
+use Rattle.mapping.specs.Contracts.{Maps, MapsAxes}
+use Rattle.cellparts.specs.Contracts.{MapsParts, MapsAxesParts}
 use Rattle.lists.proofs.Parts.{from-start, to-end, length-start, length-end, length-second, both-written}
-use Rattle.mapping.proofs.Lists.{labels-take, labels-drop, coordinates-parts, weave-take, weave-drop}
+use Rattle.cellparts.proofs.Lists.{labels-take, labels-drop, coordinates-parts, weave-take, weave-drop}
 
 -- as many coordinates as labels
 pub length-coordinates : (k : Constellation) (labels : List ℕ) → length (coordinates k labels) ≡ length labels

@@ -1,10 +1,10 @@
 // Labels of level bits to cells in two parts. 01 "Mapping".
-use crate::points::map_axes;
-use crate::points::map_cells;
+use mapping::points::map_axes;
+use mapping::points::map_cells;
 ghost use mathlib.Core.Path.{_≡_};
 ghost use Rattle.block.specs.Mapping.{constellation, weave};
 ghost use Rattle.mapping.specs.Labels.{coordinates};
-ghost use Rattle.mapping.specs.Contracts.{MapsParts, MapsAxesParts};
+ghost use Rattle.cellparts.specs.Contracts.{MapsParts, MapsAxesParts};
 
 // Part A's labels to the first n1 cells, part B's to the cells from there on by the same step.
 pub fn map_parts(c: u8, n1: usize, labels: &[u8], out: &mut [i16])

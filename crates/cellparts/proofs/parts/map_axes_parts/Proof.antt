@@ -1,8 +1,8 @@
 -- `map_axes_parts` meets its contract. Assumes nothing.
-use Rattle.mapping.proofs.Halves.{maps-axes-first, maps-axes-second, mapped-axes-parts}
+use Rattle.cellparts.proofs.Halves.{maps-axes-first, maps-axes-second, mapped-axes-parts}
 use borrow.Author.Needs.{needs}
-use Rattle.mapping.proofs.parts.map_axes_parts.Statement.{statement}
-use Rattle.mapping.proofs.parts.map_axes_parts.Tie as tie
+use Rattle.cellparts.proofs.parts.map_axes_parts.Statement.{statement}
+use Rattle.cellparts.proofs.parts.map_axes_parts.Tie as tie
 
 map-axes-requires-2 : tie.Need-map-axes-requires-2
 map-axes-requires-2 c κs = maps-axes-second (c .before .before .before .before .before .before .before .before .before .before .pre) (c .before .before .before .before .map-axes .ensures)

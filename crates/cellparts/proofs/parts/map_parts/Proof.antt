@@ -1,8 +1,8 @@
 -- `map_parts` meets its contract. Assumes nothing.
-use Rattle.mapping.proofs.Halves.{maps-first, maps-second, mapped-parts}
+use Rattle.cellparts.proofs.Halves.{maps-first, maps-second, mapped-parts}
 use borrow.Author.Needs.{needs}
-use Rattle.mapping.proofs.parts.map_parts.Statement.{statement}
-use Rattle.mapping.proofs.parts.map_parts.Tie as tie
+use Rattle.cellparts.proofs.parts.map_parts.Statement.{statement}
+use Rattle.cellparts.proofs.parts.map_parts.Tie as tie
 
 map-cells-requires-2 : tie.Need-map-cells-requires-2
 map-cells-requires-2 c κs = maps-second (c .before .before .before .before .before .before .before .pre) (c .before .before .before .map-cells .ensures)
