@@ -1,33 +1,19 @@
 -- What the functions of this crate require and promise: nothing of 01 is stated here.
-use Prim.Native.Nat.{ℕ, _+_, _*_, _<_, _≤_}
+use Prim.Native.Nat.{ℕ, _*_, _≤_}
 use mathlib.Core.Path.{_≡_}
-use mathlib.Core.List.{List, _++_}
+use mathlib.Core.List.{List}
 use lib.ListN.{length}
 use lib.IntN.{ℤ}
-use Rattle.lists.specs.Lists.{table}
 use Rattle.settings.specs.Sizes.{frameBytes}
 use Rattle.blockreader.specs.Contracts.{PlacesRead}
 use Rattle.channels.specs.Msc.{mscBlock}
 use Rattle.superframe.specs.declared.State.{State}
 use Rattle.superframe.specs.Memory.{slotSize}
-use Rattle.superframe.specs.Interleaving.{afterRows, finishedBy, finishedFrames}
-use Rattle.superframe.specs.Call.{part}
+use Rattle.superframe.specs.Interleaving.{afterRows, finishedFrames}
 use Rattle.superframe.specs.Code.{progressOf, stateOf}
 use Rattle.superframe.specs.Read.{rowsOf}
 use Rattle.cellmemory.specs.Contracts.{StateFits}
 use Rattle.frames.specs.declared.Frames.{Frames}
-
--- A row has been taken, and there is room for the cells of the frame that it finishes.
-pub record FinishLent (finished : ℕ) (state : State) (memory : List ℕ) (cells : List ℤ) : Type 0 where
-  pub fits : StateFits state memory
-  pub room : length cells ≡ 36708
-  pub few : finished < 3
-
--- That frame's cells stand behind those of the frames before.
-pub record FrameLaid (finished : ℕ) (state : State) (memory : List ℕ) (cells : List ℤ) (r : ℕ) (cells′ : List ℤ) : Type 0 where
-  pub count : r ≡ finished + length (finishedBy (state .scheme .settings) (progressOf state memory) memory)
-  pub laid : let n = slotSize (state .scheme .settings) in
-      table (part n cells′) 0 r ≡ table (part n cells) 0 finished ++ finishedBy (state .scheme .settings) (progressOf state memory) memory
 
 -- Three rows, state and memory in order, and room for three frames.
 pub record RowsLent (state : State) (msc : List ℤ) (memory out : List ℕ) : Type 0 where

@@ -1,8 +1,8 @@
--- `read::lay_finished` meets its contract. Assumes nothing.
+-- `finished::lay_finished` meets its contract. Assumes nothing.
 use borrow.Author.Needs.{needs}
-use Rattle.frames.proofs.FrameTurns.{finish-none, finish-within, finish-room, slot-long, finish-one}
-use Rattle.frames.proofs.read.lay_finished.Statement.{statement}
-use Rattle.frames.proofs.read.lay_finished.Tie as tie
+use Rattle.finishedframes.proofs.FinishedFrame.{finish-none, finish-within, finish-room, slot-long, finish-one}
+use Rattle.finishedframes.proofs.finished.lay_finished.Statement.{statement}
+use Rattle.finishedframes.proofs.finished.lay_finished.Tie as tie
 
 returns : tie.Need-returns
 returns c = finish-none (c .before .before .before .before .before .pre) (c .before .depth .ensures) (c .if1 .taken)
