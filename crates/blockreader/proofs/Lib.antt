@@ -1,2 +1,4 @@
+mod CellsRead
+mod Packed
 mod Reading
 pub mod BlockTurns

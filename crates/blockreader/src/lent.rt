@@ -1,7 +1,7 @@
 // A block read back in buffers that are lent: the candidate, packed, coded again and compared with the cells. 01 "Operations".
+use crate::candidate::read_packed;
 use block::Block;
 use blockcoder::code::code_lent;
-use candidate::read::read_packed;
 use lists::bytes::clear;
 use lists::numbers::same;
 ghost use Prim.Native.Nat.{_*_, _≤_};

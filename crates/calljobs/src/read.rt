@@ -8,7 +8,8 @@ ghost use mathlib.Core.Path.{_≡_};
 ghost use mathlib.Core.Bool.{false};
 ghost use Prim.Native.Nat.{_≤_};
 ghost use lib.ListN.{length};
-ghost use Rattle.jobs.specs.Contracts.{ReadRoom, readAt, readBy};
+ghost use Rattle.superframe.specs.Read.{readOf};
+ghost use Rattle.jobs.specs.Contracts.{ReadRoom, readAt, BytesLeft, readBy};
 ghost use Rattle.jobs.specs.SuperFrame.{jobYield};
 
 // Read on a super frame's cells, of which those of the MSC start at a place, with buffers for the bytes.
@@ -27,6 +28,10 @@ pub fn read_with(
         ≡ readBy false state (now (memory .entry))
         (readAt at (now (cells .entry)) (now (fac .entry)) (now (sdc .entry)) (now (msc .entry))) (now (out .entry)) ⌝ }
     ensures { λ r. ⌜ r .length ≤ length (now (out .entry)) ⌝ }
+    ensures { λ r. ⌜ BytesLeft
+        (readOf state (now (memory .entry))
+        (readAt at (now (cells .entry)) (now (fac .entry)) (now (sdc .entry)) (now (msc .entry))))
+        (now (fac .exit)) (now (sdc .exit)) (now (msc .exit)) ⌝ }
 {
     let reading = read(
         state,

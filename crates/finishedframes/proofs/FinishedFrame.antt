@@ -1,14 +1,15 @@
 -- The frame that a row finishes, laid behind those before it. Assumes nothing.
-use mathlib.Core.Path.{_≡_, sym, ap, ap₂, _∙_}
+use mathlib.Core.Path.{_≡_, refl, sym, ap, ap₂, _∙_}
 use mathlib.Core.Logic.{_⊎_, inl, inr}
 use mathlib.Core.List.{List, [], _∷_, _++_, append-nil}
 use Prim.Native.Nat.{ℕ, _+_, _-_, _*_, _/_, _%_, _≤_, _<_}
-use native.Mathlib.Nat.{mul-left-comm, mul-comm, zero-add, mod-lt, mod-eq-of-lt, mod-self}
+use native.Mathlib.Nat.{mul-suc, mul-left-comm, mul-comm, zero-add, mod-lt, mod-eq-of-lt, mod-self}
+use native.Mathlib.Numerals.{add-one}
 use native.Mathlib.Omega.{arith}
 use borrow.Author.Tests.{eq-eqb, ne-eqb}
 use borrow.Rule.Slice.PartMut.{putMid}
 use lib.ListN.{length, length-drop, take, drop, take-append-drop}
-use lib.Seq.{take-at, drop-at, length-take-le, take-append-le, drop-append-le}
+use lib.Seq.{take-at, drop-at, drop-drop, length-take-le, take-append-le, drop-append-le}
 use lib.IntN.{ℤ}
 use Rattle.lists.specs.Lists.{table}
 use Rattle.lists.proofs.Tables.{table-add, table-ext}
@@ -63,6 +64,19 @@ part-more n m l v h e =
     ∙ ap₂ _++_ (table-ext (part n l′) (part n l) 0 m (λ j x y. kept-part l r (n * m) (n * j) n (part-below n j m (n * m) (omega arith) (omega (arith, mul-comm n m))) (omega arith)))
     (ap (λ (x : List _). x ∷ []) (rw (zero-add m) new))
 
+-- What stands behind it is as it was.
+part-rest : {A : Type 0} (n m : ℕ) (l v : List A) → n * m + n ≤ length l → length v ≡ n
+    → drop (n * (m + 1)) (putMid (n * m) (n * m + n - n * m) l v) ≡ drop (n * (m + 1)) l
+part-rest n m l v h e =
+    let r = v ++ drop (n * m + n - n * m) (drop (n * m) l) in
+    let w : n * m + n - n * m ≡ n = omega arith in
+    let next : n * (m + 1) ≡ n * m + n = rw (add-one m, mul-suc) in
+    rw next
+    (sym (drop-drop n (n * m) (take (n * m) l ++ r))
+    ∙ ap (drop n) (drop-at (take (n * m) l) r (n * m) (length-take-le (n * m) l (omega arith)))
+    ∙ drop-at v _ n e
+    ∙ rw w (drop-drop n (n * m) l))
+
 -- After a row, over the number of frames and the state before it.
 module _ {k : ℕ} {state : State} {memory : List ℕ} {cells : List ℤ} (h : FinishLent k state memory cells) where
   abbrev new : List (List ℤ)
@@ -71,7 +85,7 @@ module _ {k : ℕ} {state : State} {memory : List ℕ} {cells : List ℤ} (h : F
   pub finish-none : {d : ℕ} → d ≡ depth (state .scheme .settings) → state .count + 1 < d → FrameLaid k state memory cells k cells
   finish-none f l =
       let none : new ≡ [] = unfold finishedBy progressOf in rw (ne-eqb (state .count) (depth (state .scheme .settings) - 1) (λ g. omega arith)) in
-      record { count = rw none (omega arith); laid = rw (none, append-nil (table (part (slotSize (state .scheme .settings)) cells) 0 k)) }
+      record { count = rw none (omega arith); laid = rw (none, append-nil (table (part (slotSize (state .scheme .settings)) cells) 0 k)); rest = refl }
 
   module _ {after : State} (e : after ≡ nextState state) {n : ℕ} (u : n ≡ slotSize (state .scheme .settings)) where
     half : n / 2 ≡ nMux (state .scheme .settings)
@@ -117,4 +131,5 @@ module _ {k : ℕ} {state : State} {memory : List ℕ} {cells : List ℤ} (h : F
         record {
           count = rw one (omega arith);
           laid = rw (one, ← u) (part-more n k cells v (finish-room .0) (same ∙ length-mid (n * k) n cells (finish-room .0)));
+          rest = rw (← u) (part-rest n k cells v (finish-room .0) (same ∙ length-mid (n * k) n cells (finish-room .0)));
         }

@@ -9,8 +9,8 @@ use Rattle.settings.specs.declared.Settings.{Settings}
 use Rattle.settings.specs.declared.Sizes.{Sizes}
 use Rattle.settings.specs.Sizes.{sizesOf}
 use Rattle.superframe.specs.declared.State.{State}
-use Rattle.superframe.specs.Read.{ReadCall, readOf}
-use Rattle.keptcells.specs.ReadOn.{lostBytes, readOnOf}
+use Rattle.superframe.specs.Read.{ReadCall, ReadYield, readOf}
+use Rattle.keptcells.specs.ReadOn.{ReadOnYield, lostBytes, readOnOf}
 use Rattle.superframe.specs.Contracts.{readCall}
 use Rattle.console.specs.declared.Job.{Job}
 use Rattle.console.specs.declared.Job.the-variants.{Read, ReadOn}
@@ -73,8 +73,15 @@ abbrev pub readAt : ℕ → List ℤ → List ℕ → List ℕ → List ℕ → 
 readAt at cells fac sdc msc =
     readCall (take facCellsLength cells) (take (at - facCellsLength) (drop facCellsLength cells)) (drop at cells) fac sdc msc
 
--- What the job yields of a call.
+-- What a call of Read leaves in the buffers for its bytes.
+pub record BytesLeft (y : ReadYield) (fac sdc msc : List ℕ) : Type 0 where
+  pub facbytes : fac ≡ y .fac
+  pub sdcbytes : sdc ≡ y .sdc
+  pub mscbytes : msc ≡ y .msc
+
+-- The call that reads on with seven bytes for what is lost, and what either job yields of a call.
+abbrev pub readOnBy : State → List ℕ → ReadCall → ReadOnYield
+readOnBy state memory c = readOnOf state memory (record { call = c; lost = replicate lostBytes 0 })
+
 abbrev pub readBy : Bool → State → List ℕ → ReadCall → List ℕ → JobYield
-readBy on state memory c out =
-    cond on (readOnAnswered (readOnOf state memory (record { call = c; lost = replicate lostBytes 0 })) out)
-    (readAnswered (readOf state memory c) out)
+readBy on state memory c out = cond on (readOnAnswered (readOnBy state memory c) out) (readAnswered (readOf state memory c) out)

@@ -9,7 +9,7 @@ ghost use mathlib.Core.Path.{_≡_};
 ghost use mathlib.Core.Bool.{true};
 ghost use Prim.Native.Nat.{_≤_};
 ghost use lib.ListN.{length};
-ghost use Rattle.jobs.specs.Contracts.{ReadRoom, readAt, readBy};
+ghost use Rattle.jobs.specs.Contracts.{ReadRoom, readAt, BytesLeft, readOnBy, readBy};
 ghost use Rattle.jobs.specs.SuperFrame.{jobYield, readsOn};
 
 // Whether a job counts what is lost.
@@ -41,6 +41,10 @@ pub fn read_on_with(
         ≡ readBy true state (now (memory .entry))
         (readAt at (now (cells .entry)) (now (fac .entry)) (now (sdc .entry)) (now (msc .entry))) (now (out .entry)) ⌝ }
     ensures { λ r. ⌜ r .length ≤ length (now (out .entry)) ⌝ }
+    ensures { λ r. ⌜ BytesLeft
+        (readOnBy state (now (memory .entry))
+        (readAt at (now (cells .entry)) (now (fac .entry)) (now (sdc .entry)) (now (msc .entry))) .yield)
+        (now (fac .exit)) (now (sdc .exit)) (now (msc .exit)) ⌝ }
 {
     let mut lost = [0u8; 7];
     let reading = read_on(

@@ -16,7 +16,7 @@ returns c =
     let k = c .before .before .before .before .before .before .before .before .before .before .before .before .before .before .before .before .before .read-on in
     let e = rw (rest-part (a .cells .now) (a .at)) at (k .ensures) in
     let w = c .before .before .write-read .ensures in
-    (w .0 (k .last .1 .1 .1 .1 .0) ∙ ap (λ y. readOnAnswered y (a .out .now)) e, w .1)
+    (w .0 (k .last .1 .1 .1 .1 .0) ∙ ap (λ y. readOnAnswered y (a .out .now)) e, (w .1, record { facbytes = ap (λ y. y .yield .fac) e; sdcbytes = ap (λ y. y .yield .sdc) e; mscbytes = ap (λ y. y .yield .msc) e }))
 
 pub read-on-with-spec : {M : Type 1} → statement M
 read-on-with-spec = tie.close (tie.spec (λ c. search needs) (λ c. search needs) (λ c. search needs) (λ c. search needs) (λ c. search needs) (λ c. search needs) (λ c. search needs) (λ c. search needs) (λ c. search needs) (λ c. search needs) (λ c. search needs) (λ c κs. search needs) (λ c. search needs) write-read-requires (λ c. search needs) (λ c. search needs) (λ c. search needs) (λ c. search needs) (λ c. search needs) returns)

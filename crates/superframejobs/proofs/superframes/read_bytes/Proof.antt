@@ -35,7 +35,7 @@ returns c =
       either-called (a .args .on) true (c .before .before .before .before .before .before .before .before .before .before .before .if1 .taken) (a .args .state) (a .args .z) _ _ (a .args .bytes .now) (a .args .out .now) _ _ _ _ (a .pre .sizes) (c .before .before .before .before .before .before .before .before .before .before .before .before .before .before .before .before .before .before .before .before .before .before .numbers-in .ensures .front) h
           (m .before .before .fac-bytes .ensures) (m .before .sdc-bytes .ensures) (m .msc-bytes .ensures)
           (w .0),
-      w .1,
+      w .1 .0,
     )
 
 read-with-requires : tie.Need-read-with-requires
@@ -53,7 +53,7 @@ returns-2 c =
       either-called (a .args .on) false (c .before .before .before .before .before .before .before .before .before .before .before .if1 .left) (a .args .state) (a .args .z) _ _ (a .args .bytes .now) (a .args .out .now) _ _ _ _ (a .pre .sizes) (c .before .before .before .before .before .before .before .before .before .before .before .before .before .before .before .before .before .before .before .before .before .before .numbers-in .ensures .front) h
           (m .before .before .fac-bytes .ensures) (m .before .sdc-bytes .ensures) (m .msc-bytes .ensures)
           (w .0),
-      w .1,
+      w .1 .0,
     )
 
 pub read-bytes-spec : {M : Type 1} → statement M

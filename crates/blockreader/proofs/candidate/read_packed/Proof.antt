@@ -1,9 +1,9 @@
 -- `read_packed` meets its contract. Assumes nothing.
 use borrow.Author.Needs.{needs}
 use Rattle.lists.proofs.Parts.{part-room}
-use Rattle.candidate.proofs.Packed.{bits-in, reads-candidate, packs, packed-is}
-use Rattle.candidate.proofs.read.read_packed.Statement.{statement}
-use Rattle.candidate.proofs.read.read_packed.Tie as tie
+use Rattle.blockreader.proofs.Packed.{bits-in, reads-candidate, packs, packed-is}
+use Rattle.blockreader.proofs.candidate.read_packed.Statement.{statement}
+use Rattle.blockreader.proofs.candidate.read_packed.Tie as tie
 
 part-read-cells-end : tie.Need-part-read-cells-end
 part-read-cells-end c = let p = c .before .before .before .before .before .before .before .before .pre .0 in bits-in (p .0) (p .1) (c .before .before .bit-count .ensures)

@@ -14,7 +14,7 @@ use Rattle.block.specs.Block.{bitCount}
 use Rattle.block.specs.Reading.{candidate, bytesRead}
 use Rattle.block.specs.Fits.{BlockLent}
 use Rattle.blockcoder.specs.Contracts.{WorkLent}
-use Rattle.candidate.specs.Contracts.{ReadsCandidate, levelBits, PacksParts}
+use Rattle.blockreader.specs.Candidates.{ReadsCandidate, levelBits, PacksParts}
 
 module _ {k : Block} {cells : List ℤ} {bytes : List ℕ} (R : BlockLent k bytes cells) where
   -- its bits have room

@@ -21,7 +21,7 @@ use Rattle.blockplaces.proofs.Levels.{count-is, three}
 use Rattle.multilevel.proofs.Totals.{all-bits, levels-table, few-levels}
 use Rattle.multilevel.proofs.PartsRead.{inputsIn, read-all, read-pairs}
 use Rattle.packing.specs.Contracts.{Packs}
-use Rattle.candidate.specs.Contracts.{ReadsCandidate, labelsIn, labelsAt, LabelsLent, LabelsMade, levelBits, PacksParts}
+use Rattle.blockreader.specs.Candidates.{ReadsCandidate, labelsIn, labelsAt, LabelsLent, LabelsMade, levelBits, PacksParts}
 use Rattle.block.proofs.Dispersal.{length-dispersed, length-dispersedParts, bits-dispersedParts}
 use Rattle.blockcoder.proofs.Axes.{alike-low, twice}
 

@@ -2,9 +2,9 @@
 use borrow.Author.Needs.{needs}
 use borrow.Author.Tests.{eq-eqb, ne-eqb}
 use Rattle.block.specs.Block.{oneAxis}
-use Rattle.candidate.proofs.CellsRead.{some-axis, second-axis, same-room, axes-bits, both-bits}
-use Rattle.candidate.proofs.read.read_cells.Statement.{statement}
-use Rattle.candidate.proofs.read.read_cells.Tie as tie
+use Rattle.blockreader.proofs.CellsRead.{some-axis, second-axis, same-room, axes-bits, both-bits}
+use Rattle.blockreader.proofs.candidate.read_cells.Statement.{statement}
+use Rattle.blockreader.proofs.candidate.read_cells.Tie as tie
 
 read-axis-requires : tie.Need-read-axis-requires
 read-axis-requires c κs = let p = c .before .before .before .before .before .before .before .pre in ((p .0, some-axis _), p .1)

@@ -16,7 +16,7 @@ ghost use Rattle.block.specs.Reading.{bytesRead};
 ghost use Rattle.blockplaces.specs.Contracts.{BlockOrder, shared};
 ghost use Rattle.multilevel.specs.Contracts.{LevelsRead};
 ghost use Rattle.blockcoder.specs.Contracts.{WorkLent};
-ghost use Rattle.candidate.specs.Contracts.{ReadsCandidate, labelsAt, LabelsLent, LabelsMade, levelBits, PacksParts};
+ghost use Rattle.blockreader.specs.Candidates.{ReadsCandidate, labelsAt, LabelsLent, LabelsMade, levelBits, PacksParts};
 
 // The labels that the levels from level a on are read from, in HMmix those of axis a, and how many they are.
 fn level_labels(k: Block, a: usize, cells: &[i16], labels: &mut [u8]) -> usize

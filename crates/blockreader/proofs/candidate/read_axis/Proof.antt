@@ -1,8 +1,8 @@
 -- `read_axis` meets its contract. Assumes nothing.
 use borrow.Author.Needs.{needs}
-use Rattle.candidate.proofs.CellsRead.{labels-lent, made-low, reads-levels, levels-read}
-use Rattle.candidate.proofs.read.read_axis.Statement.{statement}
-use Rattle.candidate.proofs.read.read_axis.Tie as tie
+use Rattle.blockreader.proofs.CellsRead.{labels-lent, made-low, reads-levels, levels-read}
+use Rattle.blockreader.proofs.candidate.read_axis.Statement.{statement}
+use Rattle.blockreader.proofs.candidate.read_axis.Tie as tie
 
 level-labels-requires : tie.Need-level-labels-requires
 level-labels-requires c κs = let p = c .before .before .before .before .before .pre .0 in labels-lent (p .0) (p .1)

@@ -4,9 +4,9 @@ use borrow.Author.Needs.{needs}
 use borrow.Author.Tests.{eq-eqb, ne-eqb}
 use Rattle.lists.proofs.Parts.{length-start}
 use Rattle.block.specs.Block.{oneAxis}
-use Rattle.candidate.proofs.CellsRead.{cells-low, unmaps-axis, axis-made, unmaps, both-made}
-use Rattle.candidate.proofs.read.level_labels.Statement.{statement}
-use Rattle.candidate.proofs.read.level_labels.Tie as tie
+use Rattle.blockreader.proofs.CellsRead.{cells-low, unmaps-axis, axis-made, unmaps, both-made}
+use Rattle.blockreader.proofs.candidate.level_labels.Statement.{statement}
+use Rattle.blockreader.proofs.candidate.level_labels.Tie as tie
 
 unmap-axis-requires : tie.Need-unmap-axis-requires
 unfolding oneAxis

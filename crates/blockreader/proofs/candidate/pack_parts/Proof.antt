@@ -2,9 +2,9 @@
 use mathlib.Core.Path.{ap, _∙_}
 use borrow.Author.Needs.{needs}
 use Rattle.block.specs.Packing.{packed}
-use Rattle.candidate.proofs.CellsRead.{dispersed-both, parts-packed}
-use Rattle.candidate.proofs.read.pack_parts.Statement.{statement}
-use Rattle.candidate.proofs.read.pack_parts.Tie as tie
+use Rattle.blockreader.proofs.CellsRead.{dispersed-both, parts-packed}
+use Rattle.blockreader.proofs.candidate.pack_parts.Statement.{statement}
+use Rattle.blockreader.proofs.candidate.pack_parts.Tie as tie
 
 pack-requires : tie.Need-pack-requires
 pack-requires c κs = let s = c .before .before .before .before .before .before .before .before .before .before .before .before in parts-packed (s .pre) (dispersed-both _ (s .args .bits .now) (s .pre .front) (c .before .before .before .before .before .before .before .before .disperse .ensures) (c .before .before .before .before .disperse2 .ensures))

@@ -1,2 +1,0 @@
-mod CellsRead
-mod Packed
