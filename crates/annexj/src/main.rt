@@ -65,11 +65,11 @@ fn msc_bits(group: u8, mode: u8, row: u8, occupancy: u8) -> u64 {
 
 // The bits of an SDC block: a row for 16-QAM and one for 4-QAM.
 fn sdc_bits(mode: u8, row: u8, occupancy: u8) -> u64 {
-    let n = settings::tables::n_sdc(mode, occupancy);
+    let n = partlengths::tables::n_sdc(mode, occupancy);
     if 65535 < n {
         return 0;
     }
-    settings::formulas::sdc_bits(row, n) as u64
+    partlengths::formulas::sdc_bits(row, n) as u64
 }
 
 // The bits of an SDC block or of a frame, as the group asks.

@@ -97,3 +97,13 @@ pub record BlockLent (k : Block) (bytes : List ℕ) (numbers : List ℤ) : Type 
   pub fits : BlockFits k
   pub long : length bytes ≡ bytesFor (bitCount k)
   pub cells : length numbers ≡ 2 * k .cells
+
+-- Working buffers of a block: for its labels, and for a level's coded bits.
+pub record HasRoom (k : Block) (labels coded : List ℕ) : Type 0 where
+  pub labelled : 2 * k .cells ≤ length labels
+  pub level : 2 * k .cells ≤ length coded
+
+-- And for its bits.
+pub record WorkLent (k : Block) (bits labels coded : List ℕ) : Type 0 where
+  pub input : bitCount k ≤ length bits
+  pub room : HasRoom k labels coded

@@ -2,7 +2,7 @@
 use Prim.Native.Nat.{ℕ, _+_, _-_, _*_, _/_, _≤_, _<_}
 use mathlib.Core.Path.{_≡_, sym, ap, _∙_}
 use mathlib.Core.Logic.{_⊎_, inl, inr}
-use mathlib.Core.Bool.{Bool, true, false, cond}
+use mathlib.Core.Bool.{true, false}
 use mathlib.Core.List.{List, _++_, append-assoc}
 use native.Mathlib.Omega.{arith}
 use lib.ListN.{length, getD, take, drop, List·getD-eq-default}
@@ -15,6 +15,7 @@ use Rattle.lists.specs.Bytes.{bytesFor}
 use Rattle.component.proofs.Bits.{bits-drop}
 use Rattle.lists.proofs.Counting.{below-or}
 use Rattle.lists.proofs.Tables.{length-table, getD-table}
+use Rattle.lists.proofs.Bools.{chosen, other}
 use Rattle.lists.proofs.Parts.{from-start, to-end, length-start, length-end, length-written, written-front}
 use Rattle.block.specs.declared.Level.{Level}
 use Rattle.block.specs.declared.Block.{Block}
@@ -28,14 +29,14 @@ use Rattle.block.specs.Block.{levelsOf, pointsOf, oneAxis, bitCount, streamsOf,
 use Rattle.blockplaces.specs.Contracts.{BlockOrder, shared}
 use Rattle.multilevel.specs.Contracts.{bitsBefore, streamAt, stepped, CodesLevels, labelsFrom}
 use Rattle.multilevel.proofs.Totals.{total-A, all-bits, streams-are, length-streamAt, number-low}
+use Rattle.multilevel.proofs.Axes.{few, alike-low, both-levels, axis, cells-low, pairs, twice, axis-levels}
 use Rattle.block.proofs.Lists.{bits-take}
 use Rattle.block.proofs.Packing.{length-unpacked}
 use Rattle.block.proofs.Dispersal.{length-dispersedParts, bits-dispersedParts, from-first}
 use Rattle.packing.specs.Contracts.{Unpacks}
 use Rattle.cellparts.specs.Contracts.{MapsParts, MapsAxesParts}
-use Rattle.blockcoder.specs.Contracts.{cellsBy, axisOver, codedLeft, labelsLeft, bitsOf, HasRoom, CodesParts, CodesBits, PartsLeft, BitsLeft, WorkLeft}
-use Rattle.block.specs.Fits.{BlockLent}
-use Rattle.blockcoder.proofs.Axes.{few, alike-low, both-levels, axis, cells-low, pairs, twice, axis-levels}
+use Rattle.blockcoder.specs.Contracts.{cellsBy, axisOver, codedLeft, labelsLeft, bitsOf, CodesParts, CodesBits, PartsLeft, BitsLeft, WorkLeft}
+use Rattle.block.specs.Fits.{BlockLent, HasRoom}
 use Rattle.blockcoder.proofs.Woven.{mapped-labels, labels-woven}
 
 -- the labels of at most three levels are labels of level bits
@@ -48,13 +49,6 @@ labels-low ls a b l s m n h = record { low = λ k. go k (below-or k n) }
     go : (k : ℕ) → (k < n) ⊎ (n ≤ k) → getD (table f 0 n) k 0 < 8
     go k (inl i) = rw (getD-table 0 f n k i) (omega (arith, number-low ls a b l s m k, pow-mono {i = m} {j = 3} h))
     go k (inr i) = rw (List·getD-eq-default (table f 0 n) 0 {n = k} (rw (length-table f 0 n) i)) (omega arith)
-
--- a choice whose test is known
-chosen : {A : Type 0} (b : Bool) (x y : A) → b ≡ true → x ≡ cond b x y
-chosen b x y e = rw e
-
-other : {A : Type 0} (b : Bool) (x y : A) → b ≡ false → y ≡ cond b x y
-other b x y e = rw e
 
 -- levels that go to both axes
 module _ {k : Block} {a b room coded : List ℕ} {out : List ℤ} (C : CodesParts k a b room coded out) (one : oneAxis k ≡ false) where

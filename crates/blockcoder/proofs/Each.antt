@@ -13,10 +13,10 @@ use borrow.Rule.Slice.PartMut.{putMid, mid-len, same-len-mid}
 use Rattle.lists.specs.Bytes.{bytesFor}
 use Rattle.block.specs.declared.Block.{Block}
 use Rattle.block.specs.Block.{bitCount, cellsFrom}
-use Rattle.block.specs.Fits.{BlockFits, BlockLent}
+use Rattle.block.specs.Fits.{BlockFits, BlockLent, HasRoom, WorkLent}
 use Rattle.block.proofs.Blocks.{length-cells}
 use Rattle.multilevel.proofs.Totals.{bits-low}
-use Rattle.blockcoder.specs.Contracts.{HasRoom, WorkLent, BlocksLent, cellsOfEach}
+use Rattle.blockcoder.specs.Contracts.{BlocksLent, cellsOfEach}
 
 -- part i of m parts of w elements lies within them
 within : (w i m len : ℕ) → i < m → len ≡ m * w → w * i + w ≤ len

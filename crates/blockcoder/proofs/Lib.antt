@@ -1,4 +1,3 @@
-pub mod Axes
 pub mod Woven
 pub mod Coding
 pub mod Each

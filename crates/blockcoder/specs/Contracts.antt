@@ -8,24 +8,14 @@ use Rattle.lists.specs.Bytes.{bytesFor}
 use Rattle.component.specs.Bits.{Bits}
 use Rattle.block.specs.declared.Block.{Block}
 use Rattle.block.specs.Block.{bitCount, pointsOf, oneAxis, streamsOf, levelsOf, cellsFrom}
-use Rattle.block.specs.Fits.{BlockFits}
+use Rattle.block.specs.Fits.{BlockFits, HasRoom}
 use Rattle.block.specs.Packing.{unpacked}
 use Rattle.block.specs.Dispersal.{dispersedParts}
 use Rattle.block.specs.Levels.{totalA}
-use Rattle.blockplaces.specs.Contracts.{shared, digits}
+use Rattle.blockplaces.specs.Contracts.{shared, digits, byAxes}
 use Rattle.multilevel.specs.Contracts.{PartsOf, levelsOver, labelsFrom}
 use mathlib.Core.Bool.{cond}
 use Rattle.block.specs.Mapping.{mapped, woven}
-
--- Working buffers of a block: for its labels, and for a level's coded bits.
-pub record HasRoom (k : Block) (labels coded : List ℕ) : Type 0 where
-  pub labelled : 2 * k .cells ≤ length labels
-  pub level : 2 * k .cells ≤ length coded
-
--- And for its bits.
-pub record WorkLent (k : Block) (bits labels coded : List ℕ) : Type 0 where
-  pub input : bitCount k ≤ length bits
-  pub room : HasRoom k labels coded
 
 -- What coding the levels of an axis leaves in the buffer of a level's coded bits.
 abbrev pub axisOver : Block → ℕ → List ℕ → List ℕ → List ℕ → List ℕ
@@ -33,7 +23,7 @@ axisOver k first a b coded = levelsOver (k .levels) a b first (shared k) (digits
 
 -- What coding parts A and B leaves there, and in the other buffer: the labels at its front, in HMmix those of the real axis and then those of the imaginary one.
 unfoldable pub codedLeft : Block → List ℕ → List ℕ → List ℕ → List ℕ
-codedLeft k a b coded = cond (oneAxis k) (axisOver k 1 a b (axisOver k 0 a b coded)) (axisOver k 0 a b coded)
+codedLeft k a b coded = byAxes k (λ first. axisOver k first a b) coded
 
 unfoldable pub labelsLeft : Block → List ℕ → List ℕ → List ℕ → List ℕ
 labelsLeft k a b labels =

@@ -21,8 +21,8 @@ ghost use Prim.Native.Nat.{_*_, _≤_};
 ghost use Rattle.block.specs.Levels.{streams};
 ghost use Rattle.block.specs.Mapping.{mapped, woven};
 ghost use Rattle.block.specs.Block.{levelsOf, pointsOf, oneAxis, cellsFrom};
-ghost use Rattle.blockcoder.specs.Contracts.{cellsBy, cellsOfEach, CodesParts, CodesBits, HasRoom, WorkLent, BlocksLent, PartsLeft, BitsLeft, WorkLeft};
-ghost use Rattle.block.specs.Fits.{BlockLent};
+ghost use Rattle.blockcoder.specs.Contracts.{cellsBy, cellsOfEach, CodesParts, CodesBits, BlocksLent, PartsLeft, BitsLeft, WorkLeft};
+ghost use Rattle.block.specs.Fits.{BlockLent, HasRoom, WorkLent};
 ghost use Rattle.blockplaces.specs.Contracts.{BlockOrder};
 
 // Levels whose bits go alternately to the real and the imaginary axis.

@@ -20,10 +20,10 @@ use Rattle.block.specs.declared.Block.{Block}
 use Rattle.block.specs.Block.{oneAxis}
 use Rattle.block.specs.Reading.{sizeA, sizeB}
 use Rattle.block.specs.Fits.{LevelFits, Alike}
-use Rattle.labels.specs.Contracts.{Ordered}
+use Rattle.labels.specs.Contracts.{Ordered, LevelOrder}
 use Rattle.labels.proofs.Mixing.{cycles}
 use Rattle.labels.proofs.Ordering.{places-length}
-use Rattle.blockplaces.specs.Contracts.{digitAt, levelAt, LevelOrder, BlockOrder, PartPlaces, LevelPlaces, BlockPlaces, partOver, levelOver, nextOver, tablesOver, blockOver}
+use Rattle.blockplaces.specs.Contracts.{digitAt, levelAt, BlockOrder, PartPlaces, LevelPlaces, BlockPlaces, partOver, levelOver, nextOver, tablesOver, blockOver}
 use Rattle.blockplaces.proofs.Levels.{count-is, three, fits-level, pair-at}
 
 module _ {t n : ℕ} {out : List ℕ} (R : PartPlaces t n out) where

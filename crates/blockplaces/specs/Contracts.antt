@@ -10,8 +10,8 @@ use Rattle.block.specs.declared.Block.{Block}
 use Rattle.block.specs.Fits.{BlockFits, LevelFits, Mixes}
 use Rattle.interleaver.specs.Tables.{places}
 use Rattle.block.specs.Block.{oneAxis}
-use Rattle.block.specs.Reading.{sizeA, sizeB}
-use Rattle.labels.specs.Contracts.{Ordered}
+use Rattle.block.specs.Reading.{sizeA}
+use Rattle.labels.specs.Contracts.{LevelOrder}
 
 -- What the code would find past the last of a block's places.
 abbrev pub noPattern : Pattern
@@ -28,17 +28,16 @@ levelAt ls i = getD ls i pastLevels
 unfoldable pub digitAt : Bool → ℕ → ℕ
 digitAt one l = cond one (l / 2) l
 
--- The order of a level's coded bits: the places of part A's, and then of part B's.
-pub record LevelOrder (l : Level) (order : List ℕ) : Type 0 where
-  pub front : Ordered (l .t) (sizeA l) (take (sizeA l) order)
-  pub rest : Ordered (l .t) (sizeB l) (drop (sizeA l) order)
-
 -- How many levels of a block have the same digit, and how many digits its labels have.
 abbrev pub shared : Block → ℕ
 shared k = cond (oneAxis k) 2 1
 
 abbrev pub digits : Block → ℕ
 digits k = k .count / shared k
+
+-- What is done for all levels at once, or in HMmix for those of the real axis and then for those of the imaginary one.
+abbrev pub byAxes : {A : Type 0} → Block → (ℕ → A → A) → A → A
+byAxes k f x = cond (oneAxis k) (f 1 (f 0 x)) (f 0 x)
 
 -- The order of a block's coded bits: for each digit that of its levels, one after the other.
 pub record BlockOrder (k : Block) (order : List ℕ) : Type 0 where

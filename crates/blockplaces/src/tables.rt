@@ -12,8 +12,8 @@ ghost use lib.ListN.{take};
 ghost use Rattle.block.specs.Block.{oneAxis};
 ghost use Rattle.block.specs.Fits.{BlockFits};
 ghost use Rattle.block.specs.Reading.{sizeA};
-ghost use Rattle.labels.specs.Contracts.{Ordered};
-ghost use Rattle.blockplaces.specs.Contracts.{digitAt, LevelOrder, BlockOrder, PartPlaces, LevelPlaces, BlockPlaces, partOver, levelOver, blockOver, shared};
+ghost use Rattle.labels.specs.Contracts.{Ordered, LevelOrder};
+ghost use Rattle.blockplaces.specs.Contracts.{digitAt, BlockOrder, PartPlaces, LevelPlaces, BlockPlaces, partOver, levelOver, blockOver, shared};
 
 // A part's places and a 0 after them, if it is interleaved.
 fn part_places(t: usize, n: usize, out: &mut [u16])

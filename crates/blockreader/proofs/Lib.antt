@@ -1,4 +1,2 @@
-mod CellsRead
-mod Packed
 mod Reading
 pub mod BlockTurns

@@ -1,11 +1,10 @@
 -- A block read back, step by step. Assumes nothing.
-use Prim.Native.Nat.{ℕ, _-_, _*_, _≤_}
+use Prim.Native.Nat.{ℕ, _*_}
 use mathlib.Core.Path.{_≡_, ap, _∙_}
 use mathlib.Core.Bool.{Bool, cond}
 use mathlib.Core.List.{List}
-use lib.ListN.{length, take, replicate}
+use lib.ListN.{length, replicate}
 use lib.IntN.{ℤ}
-use Rattle.lists.proofs.Parts.{length-start}
 use Rattle.lists.specs.Same.{sameNumbers}
 use Rattle.block.specs.declared.Block.{Block}
 use Rattle.block.specs.Block.{cellsOf, cellsFrom}
@@ -16,11 +15,8 @@ use Rattle.block.specs.Fits.{BlockLent}
 use Rattle.block.proofs.Blocks.{candidate-block, unpacked-block}
 
 module _ {k : Block} {cells : List ℤ} {bytes : List ℕ} (R : BlockLent k bytes cells) where
-  pub cells-in : (again : List ℤ) → 2 * k .cells ≤ length again → length cells ≤ length again
-  cells-in again h = rw (R .cells) h
-
-  pub codes-again : {p : List ℕ} → length p ≡ length bytes → (again : List ℤ) → 2 * k .cells ≤ length again → BlockLent k p (take (length cells - 0) again)
-  codes-again e again h = record { fits = R .fits; long = e ∙ R .long; cells = length-start (length cells) again (cells-in again h) ∙ R .cells }
+  pub codes-again : {p : List ℕ} {again : List ℤ} → length p ≡ length bytes → length again ≡ 2 * k .cells → BlockLent k p again
+  codes-again e h = record { fits = R .fits; long = e ∙ R .long; cells = h }
 
   module _ {p : List ℕ} {g : List ℤ} (ep : p ≡ bytesRead k cells) (eg : g ≡ cellsFrom k p) where
     -- coded again, it gives the cells if some bits do

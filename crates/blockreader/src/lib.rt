@@ -1,4 +1,3 @@
 // The packed bytes that give a block's cells, and those of equal blocks one after the other. 01 "Operations".
-mod candidate;
 mod lent;
 pub mod several;

@@ -13,7 +13,7 @@ use blockplaces::tables::block_places;
 use multilevel::places::bit_count;
 ghost use Prim.Native.Nat.{_≤_};
 ghost use Rattle.blockplaces.specs.Contracts.{BlockOrder};
-ghost use Rattle.blockcoder.specs.Contracts.{WorkLent};
+ghost use Rattle.block.specs.Fits.{WorkLent};
 ghost use Rattle.blockreader.specs.Contracts.{SeveralLent, SeveralRead};
 
 // So many blocks, whose cells stand one after the other: whether bits give each, true in a place without a block; their bytes are written.
@@ -46,7 +46,7 @@ fn read_each(
             bits,
             labels,
             coded,
-            &mut again,
+            &mut again[0..n],
             &mut bytes[to..to + m],
         );
         i += 1;

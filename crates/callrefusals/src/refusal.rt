@@ -2,12 +2,12 @@
 use channels::blocks::msc_constellation;
 use channels::tables::refusal_with;
 use packing::bits::spare_zero;
+use partlengths::formulas;
+use partlengths::tables;
 use pointtests::tests::bytes_pass;
 use settings::Settings;
 use settings::Sizes;
 use settings::answers;
-use settings::formulas;
-use settings::tables;
 use superframe::State;
 ghost use mathlib.Core.Path.{_≡_};
 ghost use mathlib.Core.List.{map};

@@ -10,8 +10,8 @@ use Rattle.patterns.specs.Loaded.{Allowed}
 use Rattle.component.specs.Decoding.{codedLength}
 use Rattle.patterns.proofs.Patterns.{tail-sound}
 use Rattle.component.proofs.Lengths.{RY-low, rate-length, level-length}
-use Rattle.settings.specs.Formulas.{bitsA, bitsB, remainder}
-use Rattle.settings.proofs.PartA.{bitsA-exact}
+use Rattle.partlengths.specs.Formulas.{bitsA, bitsB, remainder}
+use Rattle.partlengths.proofs.PartA.{bitsA-exact}
 use Rattle.block.specs.Fits.{Mixes, plain, empty, cycle}
 
 -- part A: whole rounds of its pattern

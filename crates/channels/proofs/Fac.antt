@@ -11,9 +11,9 @@ use Rattle.component.proofs.Codeword.{coded-none}
 use Rattle.patterns.proofs.Loaded.{pattern-sound}
 use Rattle.patterns.proofs.Patterns.{pattern-from, held}
 use Rattle.component.proofs.Lengths.{fac-length}
-use Rattle.settings.specs.Rates.{facRate}
-use Rattle.settings.specs.Cells.{facCells}
-use Rattle.settings.specs.Formulas.{facBits}
+use Rattle.partlengths.specs.Rates.{facRate}
+use Rattle.partlengths.specs.Cells.{facCells}
+use Rattle.partlengths.specs.Formulas.{facBits}
 use Rattle.block.specs.Levels.{totalA, totalB}
 use Rattle.block.specs.Block.{levelsOf, pointsOf, oneAxis, bitCount}
 use Rattle.block.specs.Reading.{sizeA, sizeB}

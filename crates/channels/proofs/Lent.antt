@@ -6,8 +6,8 @@ use lib.ListN.{length}
 use lib.IntN.{ℤ}
 use Rattle.lists.specs.Bytes.{bytesFor}
 use Rattle.patterns.specs.Loaded.{Allowed}
-use Rattle.settings.specs.Cells.{facCells}
-use Rattle.settings.specs.Formulas.{facBits, roundUp}
+use Rattle.partlengths.specs.Cells.{facCells}
+use Rattle.partlengths.specs.Formulas.{facBits, roundUp}
 use Rattle.settings.specs.Lengths.{nMux, nSdc}
 use Rattle.settings.specs.Sizes.{frameBytes, sdcBytes}
 use Rattle.block.specs.Fits.{BlockLent}

@@ -15,13 +15,13 @@ use Rattle.patterns.specs.declared.Pattern.{Pattern}
 use Rattle.patterns.specs.Patterns.{RY, pattern, tailPattern}
 use Rattle.patterns.specs.Contracts.{patternFrom}
 use Rattle.component.proofs.Lengths.{RY-low}
-use Rattle.settings.specs.Rates.{rates, table67, table68, table69, table71, vsppRate, sdcRates, facRate}
-use Rattle.settings.specs.Formulas.{hierarchical, width, bitsA, bitsB, remainder, facBits}
-use Rattle.settings.specs.Cells.{facCells}
+use Rattle.partlengths.specs.Rates.{rates, table67, table68, table69, table71, vsppRate, sdcRates, facRate}
+use Rattle.partlengths.specs.Formulas.{hierarchical, width, bitsA, bitsB, remainder, facBits}
+use Rattle.partlengths.specs.Cells.{facCells}
+use Rattle.partlengths.specs.Contracts.{share}
+use Rattle.partlengths.proofs.LookUps.{all, all-at, values, value-at}
+use Rattle.partlengths.proofs.PartA.{bitsA-exact, share-exact}
 use Rattle.settings.specs.Lengths.{nMux, nSdc, n1, n2, lVspp}
-use Rattle.settings.specs.Shares.{share}
-use Rattle.settings.proofs.LookUps.{all, all-at, values, value-at}
-use Rattle.settings.proofs.PartA.{bitsA-exact, share-exact}
 use Rattle.block.specs.declared.Level.{Level}
 use Rattle.block.specs.declared.Block.{Block}
 use Rattle.block.specs.Block.{noLevel, six}

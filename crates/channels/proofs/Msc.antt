@@ -14,16 +14,15 @@ use Rattle.component.proofs.Codeword.{coded-none}
 use Rattle.patterns.proofs.Loaded.{pattern-sound}
 use Rattle.patterns.proofs.Patterns.{pattern-from, held}
 use Rattle.patterns.specs.Loaded.{Allowed}
-use Rattle.settings.specs.Rates.{rates, table67, table68, table69, table71, commonDenominator, vsppRate}
-use Rattle.settings.specs.Formulas.{hierarchical, width, partA, partB, partVspp, cellsA}
-use Rattle.settings.specs.Refusal.{topLevel}
+use Rattle.partlengths.specs.Rates.{topLevel, rates, table67, table68, table69, table71, commonDenominator, vsppRate}
+use Rattle.partlengths.specs.Formulas.{hierarchical, width, partA, partB, partVspp, cellsA}
+use Rattle.partlengths.specs.Contracts.{Level as Protection}
+use Rattle.partlengths.proofs.LookUps.{all, all-at}
 use Rattle.settings.specs.Lengths.{nMux, n1, n2, l1, l2, lVspp}
 use Rattle.settings.specs.Sizes.{frameBits}
-use Rattle.settings.specs.Accepted.{Level as Protection}
-use Rattle.settings.proofs.LookUps.{all, all-at}
 use Rattle.lists.proofs.Rules.{both-left, both-right}
-use Rattle.settings.proofs.Parts.{levels, level-at}
-use Rattle.settings.proofs.PartA.{divide, common-divides, times-denominator}
+use Rattle.partlengths.proofs.Parts.{levels, level-at}
+use Rattle.partlengths.proofs.PartA.{divide, common-divides, times-denominator}
 use Rattle.block.specs.declared.Level.{Level}
 use Rattle.block.specs.Levels.{totalA, totalB}
 use Rattle.block.specs.Mapping.{HMMIX}

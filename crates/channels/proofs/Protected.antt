@@ -11,7 +11,7 @@ use Rattle.patterns.specs.Patterns.{RY}
 use Rattle.patterns.specs.Loaded.{Allowed}
 use Rattle.patterns.proofs.Loaded.{pattern-sound}
 use Rattle.patterns.proofs.Patterns.{pattern-from, held}
-use Rattle.settings.specs.Formulas.{bitsA, bitsB}
+use Rattle.partlengths.specs.Formulas.{bitsA, bitsB}
 use Rattle.block.specs.declared.Level.{Level}
 use Rattle.block.specs.Levels.{totalA, totalB}
 use Rattle.block.specs.Reading.{sizeA, sizeB}

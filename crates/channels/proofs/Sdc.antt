@@ -9,8 +9,8 @@ use native.Mathlib.Omega.{arith}
 use lib.ListN.{length, getD}
 use lib.Dec.{eqb, lit<}
 use Rattle.lists.specs.Lists.{total}
-use Rattle.settings.specs.Rates.{sdcRates}
-use Rattle.settings.specs.Formulas.{bitsA, sdcBits}
+use Rattle.partlengths.specs.Rates.{sdcRates}
+use Rattle.partlengths.specs.Formulas.{bitsA, sdcBits}
 use Rattle.settings.specs.Lengths.{nSdc, lSdc}
 use Rattle.block.specs.Mapping.{HMMIX}
 use Rattle.block.specs.Block.{levelsOf, pointsOf, oneAxis, bitCount}

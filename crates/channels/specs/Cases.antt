@@ -8,8 +8,8 @@ use Rattle.lists.specs.Lists.{table}
 use Rattle.patterns.specs.Patterns.{table65, pattern, R1/2}
 use Rattle.component.specs.Codeword.{encode}
 use Rattle.interleaver.specs.Interleaving.{place}
+use Rattle.partlengths.specs.Formulas.{sdcBits}
 use Rattle.settings.specs.declared.Settings.{Settings}
-use Rattle.settings.specs.Formulas.{sdcBits}
 use Rattle.settings.specs.Lengths.{n1, l2, lVspp}
 use Rattle.settings.specs.Refusal.{refusal}
 use Rattle.block.specs.Dispersal.{p}

@@ -3,7 +3,7 @@ use Prim.Native.Nat.{ℕ, _%_, _<_}
 use mathlib.Core.List.{List}
 use Rattle.patterns.specs.Patterns.{RY, pattern, tailPattern}
 use Rattle.patterns.specs.Contracts.{patternFrom}
-use Rattle.settings.specs.Shares.{share}
+use Rattle.partlengths.specs.Contracts.{share}
 use Rattle.block.specs.declared.Level.{Level}
 use Rattle.channels.specs.declared.Scheme.{Scheme}
 use Rattle.channels.specs.Scheme.{SchemeAccepted}

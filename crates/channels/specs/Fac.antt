@@ -2,9 +2,9 @@
 use mathlib.Core.List.{[], _∷_}
 use Rattle.patterns.specs.Patterns.{pattern}
 use Rattle.patterns.specs.Contracts.{patternFrom}
-use Rattle.settings.specs.Cells.{facCells}
-use Rattle.settings.specs.Formulas.{facBits}
-use Rattle.settings.specs.Rates.{facRate}
+use Rattle.partlengths.specs.Cells.{facCells}
+use Rattle.partlengths.specs.Formulas.{facBits}
+use Rattle.partlengths.specs.Rates.{facRate}
 use Rattle.block.specs.declared.Level.{Level}
 use Rattle.block.specs.declared.Block.{Block}
 use Rattle.block.specs.Mapping.{QAM4}

@@ -5,8 +5,8 @@ use mathlib.Core.List.{List, [], _∷_, _++_}
 use lib.ListN.{getD}
 use Rattle.patterns.specs.Patterns.{pattern, tailPattern}
 use Rattle.patterns.specs.Contracts.{patternFrom}
-use Rattle.settings.specs.Rates.{rates, vsppRate}
-use Rattle.settings.specs.Formulas.{hierarchical, width, bitsB, remainder}
+use Rattle.partlengths.specs.Rates.{rates, vsppRate}
+use Rattle.partlengths.specs.Formulas.{hierarchical, width, bitsB, remainder}
 use Rattle.settings.specs.Lengths.{nMux, n1, n2, lVspp}
 use Rattle.block.specs.declared.Level.{Level}
 use Rattle.block.specs.declared.Block.{Block}

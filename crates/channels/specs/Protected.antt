@@ -4,7 +4,7 @@ use mathlib.Core.List.{List, [], _∷_}
 use lib.ListN.{getD, drop}
 use Rattle.patterns.specs.Patterns.{pattern, tailPattern}
 use Rattle.patterns.specs.Contracts.{patternFrom}
-use Rattle.settings.specs.Formulas.{bitsA, bitsB, remainder}
+use Rattle.partlengths.specs.Formulas.{bitsA, bitsB, remainder}
 use Rattle.block.specs.declared.Level.{Level}
 
 -- A level, punctured by a table: w coded bits a cell, N1 cells at the rate of part A, N2 at that of part B, and t.

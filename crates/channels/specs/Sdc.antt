@@ -2,7 +2,7 @@
 use Prim.Native.Nat.{ℕ}
 use mathlib.Core.List.{List, [], _∷_}
 use lib.ListN.{getD}
-use Rattle.settings.specs.Rates.{sdcRates}
+use Rattle.partlengths.specs.Rates.{sdcRates}
 use Rattle.settings.specs.Lengths.{nSdc}
 use Rattle.block.specs.declared.Level.{Level}
 use Rattle.block.specs.declared.Block.{Block}

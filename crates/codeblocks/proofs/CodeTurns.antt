@@ -12,14 +12,14 @@ use borrow.Rule.Slice.PartMut.{putMid, post-is}
 use Rattle.lists.specs.Lists.{table}
 use Rattle.lists.specs.Bytes.{bytesFor}
 use Rattle.patterns.specs.Loaded.{Allowed}
-use Rattle.settings.specs.Formulas.{facBits}
+use Rattle.partlengths.specs.Formulas.{facBits}
 use Rattle.lists.proofs.Tables.{length-table, table-add, map-table}
 use Rattle.lists.proofs.Parts.{length-start, length-written}
 use Rattle.cellbytes.specs.CellBytes.{bytes}
 use Rattle.cellbytes.proofs.CellBytes.{length-bytes}
+use Rattle.partlengths.specs.Cells.{facCells}
 use Rattle.settings.specs.declared.Settings.{Settings}
 use Rattle.settings.specs.Lengths.{nMux, nSfa}
-use Rattle.settings.specs.Cells.{facCells}
 use Rattle.settings.specs.Sizes.{depth, frameBytes}
 use Rattle.block.specs.declared.Block.{Block}
 use Rattle.block.specs.Block.{bitCount, cellsFrom}

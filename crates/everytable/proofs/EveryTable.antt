@@ -13,9 +13,9 @@ use Rattle.patterns.proofs.Loaded.{pattern-sound}
 use Rattle.patterns.proofs.Patterns.{standard-passes, standard-patterns}
 use Rattle.component.proofs.Codeword.{length-encode, length-tail}
 use Rattle.component.proofs.Lengths.{rate-length}
-use Rattle.settings.specs.Cells.{facCells}
-use Rattle.settings.specs.Formulas.{facBits}
-use Rattle.settings.specs.Rates.{facRate}
+use Rattle.partlengths.specs.Cells.{facCells}
+use Rattle.partlengths.specs.Formulas.{facBits}
+use Rattle.partlengths.specs.Rates.{facRate}
 use Rattle.settings.specs.Refusal.{first, refusal}
 use Rattle.settings.specs.declared.Settings.{Settings}
 use Rattle.channels.specs.Scheme.{schemeRefusal, standardScheme}

@@ -9,10 +9,10 @@ use Rattle.lists.specs.Lists.{table}
 use Rattle.patterns.specs.Patterns.{RY, printed65, table65, columns, pattern, tailPattern}
 use Rattle.patterns.specs.Loaded.{passes}
 use Rattle.component.specs.Codeword.{encode, tailBits}
+use Rattle.partlengths.specs.Cells.{facCells}
+use Rattle.partlengths.specs.Formulas.{bitsA, bitsB, remainder, facBits}
+use Rattle.partlengths.specs.Rates.{facRate}
 use Rattle.settings.specs.declared.Settings.{Settings}
-use Rattle.settings.specs.Cells.{facCells}
-use Rattle.settings.specs.Formulas.{bitsA, bitsB, remainder, facBits}
-use Rattle.settings.specs.Rates.{facRate}
 use Rattle.settings.specs.Refusal.{refusal}
 use Rattle.channels.specs.Scheme.{standardScheme, schemeRefusal}
 

@@ -11,8 +11,8 @@ use lib.ListN.{length, take, drop, length-drop}
 use lib.IntN.{ℤ}
 use Rattle.lists.specs.Lists.{table}
 use Rattle.channels.specs.declared.Scheme.{Scheme}
+use Rattle.partlengths.specs.Cells.{facCells}
 use Rattle.settings.specs.Lengths.{nMux, nSfa}
-use Rattle.settings.specs.Cells.{facCells}
 use Rattle.settings.specs.Sizes.{depth}
 use Rattle.lists.specs.Same.{sameNumbers}
 use Rattle.lists.specs.Bools.{every, firstFault}

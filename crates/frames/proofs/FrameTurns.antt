@@ -29,7 +29,7 @@ use Rattle.superframe.specs.Code.{progressOf, stateOf}
 use Rattle.superframe.specs.Read.{rowsOf}
 use Rattle.channels.proofs.Msc.{msc-bits, msc-fits}
 use Rattle.lists.specs.Bytes.{bytesFor}
-use Rattle.settings.specs.Formulas.{roundUp}
+use Rattle.partlengths.specs.Formulas.{roundUp}
 use Rattle.settings.specs.Accepted.{Accepted}
 use Rattle.cellmemory.specs.Contracts.{StateFits, RowLent, RowOrder, nextState}
 use Rattle.superframe.proofs.Laid.{part-is, part-below, length-mid}

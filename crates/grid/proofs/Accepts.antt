@@ -13,9 +13,9 @@ use borrow.Author.Tests.{eq-eqb, ne-eqb, eqb-true, ltb-true, lt-ltb, not-false}
 use Rattle.lists.proofs.Bools.{and-left, and-right}
 use Rattle.lists.proofs.Parts.{from-start, length-start, length-written}
 use Rattle.lists.proofs.Tables.{length-table}
+use Rattle.partlengths.specs.Cells.{facCells}
 use Rattle.settings.specs.declared.Settings.{Settings}
 use Rattle.settings.specs.Accepted.{Ranges}
-use Rattle.settings.specs.Cells.{facCells}
 use Rattle.settings.specs.Refusal.{first, refusal, paired}
 use Rattle.settings.specs.Lengths.{nSdc, nSfa}
 use Rattle.settings.proofs.Bounds.{accepted-of}

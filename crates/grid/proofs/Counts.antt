@@ -14,7 +14,7 @@ use borrow.Author.Tests.{eq-eqb, ne-eqb, eqb-true, lt-ltb, le-ltb}
 use Rattle.lists.specs.Lists.{table, total}
 use Rattle.lists.proofs.Bools.{and-left, and-right}
 use Rattle.lists.proofs.Tables.{length-table, table-ext, table-add, table-from}
-use Rattle.settings.specs.Cells.{entry, sdcTable, superTable, facCells}
+use Rattle.partlengths.specs.Cells.{entry, sdcTable, superTable, facCells}
 use Rattle.settings.specs.Refusal.{first, paired}
 use Rattle.kinds.specs.Carriers.{table80, frameSymbols, symbols, lower, carriers, unused}
 use Rattle.kinds.specs.References.{frequency, time, isGain}

@@ -2,7 +2,7 @@
 use mathlib.Core.Path.{_≡_, refl}
 use mathlib.Core.Bool.{true}
 use Rattle.lists.specs.Lists.{table, total}
-use Rattle.settings.specs.Cells.{entry, sdcTable, superTable, facCells}
+use Rattle.partlengths.specs.Cells.{entry, sdcTable, superTable, facCells}
 use Rattle.settings.specs.Refusal.{first, paired}
 use Rattle.kinds.specs.Carriers.{table80, frameSymbols, lowerTable, upperTable, lower, upper, carriers, unused}
 use Rattle.kinds.specs.References.{table84, frequency, table86, table87, table88, table89, time, table90, spacing, offset, isGain}

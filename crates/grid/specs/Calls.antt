@@ -5,9 +5,9 @@ use mathlib.Core.List.{List, [], _∷_}
 use lib.ListN.{length}
 use lib.IntN.{ℤ}
 use lib.Dec.{eqb, ltb}
+use Rattle.partlengths.specs.Cells.{facCells}
 use Rattle.settings.specs.declared.Settings.{Settings}
 use Rattle.settings.specs.Refusal.{first, refusal}
-use Rattle.settings.specs.Cells.{facCells}
 use Rattle.settings.specs.Lengths.{nSdc, nSfa}
 use Rattle.settingbytes.specs.Numbers.{Numbers, yielded}
 use Rattle.grid.specs.declared.GridSizes.{GridSizes}

@@ -3,7 +3,7 @@ use Prim.Native.Nat.{ℕ, zero, suc, _+_, _-_, _*_}
 use mathlib.Core.Bool.{Bool, true, not, _&&_, _||_}
 use lib.Dec.{eqb}
 use Rattle.lists.specs.Lists.{table, total}
-use Rattle.settings.specs.Cells.{entry, sdcTable, superTable, facCells}
+use Rattle.partlengths.specs.Cells.{entry, sdcTable, superTable, facCells}
 use Rattle.settings.specs.Refusal.{paired}
 use Rattle.kinds.specs.Carriers.{frameSymbols, lower, carriers}
 use Rattle.kinds.specs.Control.{sdcSymbols}

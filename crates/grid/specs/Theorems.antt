@@ -7,8 +7,8 @@ use lib.ListN.{length, getD, take, drop}
 use lib.IntN.{ℤ, pos}
 use lib.Dec.{eqb, ltb}
 use Rattle.lists.specs.Lists.{table}
+use Rattle.partlengths.specs.Cells.{entry, sdcTable, superTable, facCells}
 use Rattle.settings.specs.declared.Settings.{Settings}
-use Rattle.settings.specs.Cells.{entry, sdcTable, superTable, facCells}
 use Rattle.settings.specs.Refusal.{paired}
 use Rattle.kinds.specs.Kinds.{fac, sdc, msc}
 use Rattle.kinds.specs.Places.{framePlaces, places, gridKinds}

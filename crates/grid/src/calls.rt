@@ -2,12 +2,12 @@
 use crate::GridSizes;
 use kinds::rows;
 use kinds::tables;
+use partlengths::tables::FAC_NUMBERS;
+use partlengths::tables::n_sdc;
+use partlengths::tables::n_sfa;
 use placing::cells;
 use settings::Settings;
 use settings::refusals;
-use settings::tables::FAC_NUMBERS;
-use settings::tables::n_sdc;
-use settings::tables::n_sfa;
 ghost use mathlib.Core.Path.{_≡_};
 ghost use lib.ListN.{length};
 ghost use Rattle.placing.specs.Cells.{placed, taken};

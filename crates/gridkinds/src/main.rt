@@ -1,8 +1,8 @@
 // Writes the kinds of a super frame's places as `place` marks them, occupancy 3 of each mode: the mode's letter, and a line of digits for each symbol.
 use grid::calls::place;
 use libc::STDOUT_FILENO;
+use partlengths::tables::FAC_NUMBERS;
 use settings::Settings;
-use settings::tables::FAC_NUMBERS;
 ghost use Prim.Native.Nat.{_<_};
 
 // The mode with occupancy 3; no other setting moves a place.

@@ -4,14 +4,13 @@ use mathlib.Core.Path.{_≡_, refl, sym, ap, ap₂, _∙_}
 use mathlib.Core.Bool.{Bool, true, false, cond}
 use mathlib.Core.Logic.{inl, inr}
 use mathlib.Core.List.{List, _++_}
-use native.Mathlib.Nat.{sub-zero, zero-add}
 use native.Mathlib.Omega.{arith}
 use borrow.Author.Tests.{eq-eqb, ne-eqb, eqb-false}
 use lib.ListN.{length, take, drop, take-append-drop}
-use lib.Seq.{sets, sets-eq, take-all}
+use lib.Seq.{take-all}
 use lib.Dec.{eqb}
 use Rattle.lists.proofs.Counting.{below-or}
-use Rattle.lists.proofs.Parts.{length-start}
+use Rattle.lists.proofs.Parts.{length-start, stored-front}
 use Rattle.settings.specs.declared.Settings.{Settings}
 use Rattle.superframe.specs.declared.State.{State}
 use Rattle.holdfile.specs.declared.FileSizes.{FileSizes}
@@ -47,11 +46,6 @@ unfolding storeOf
 store-keeps form state memory front number part e h =
     keeps (eqb (storeRefusal form state memory front) 0) (storeRefusal form state memory front) (fileOf form (state .scheme .settings) (heldOf state memory)) front number part e h
 
--- Bytes written there.
-front-set : (part out : List ℕ) (n : ℕ) → length part ≡ n → n ≤ length out → part ++ drop (n - 0) out ≡ sets out 0 part
-front-set part out n e h =
-    sym (sets-eq part out 0 (omega (arith, e)) ∙ ap (λ k. part ++ drop k out) (zero-add (length part) ∙ e ∙ sym (sub-zero n)))
-
 -- What is made of it, by the number of a refusal.
 module _ (number : ℕ) (part out : List ℕ) (n : ℕ) (low : n ≤ length out) (long : length part ≡ length (take (n - 0) out)) (kept : (number ≡ 0 → ⊥) → part ≡ take (n - 0) out) where
   by-number : (b : Bool) → eqb number 0 ≡ b → madeYield (cond b (madeThrough n) (madeRefused number)) (part ++ drop (n - 0) out)
@@ -59,7 +53,7 @@ module _ (number : ℕ) (part out : List ℕ) (n : ℕ) (low : n ≤ length out)
   unfolding through refused
   by-number true t =
       let e : length part ≡ n = long ∙ length-start n out low in
-      ap₂ (λ k o. madeYield (madeThrough k) o) (sym e) (front-set part out n e low)
+      ap₂ (λ k o. madeYield (madeThrough k) o) (sym e) (stored-front part out n long low)
   by-number false t =
       ap (λ o. madeYield (madeRefused number) o)
       (ap (λ p. p ++ drop (n - 0) out) (kept (eqb-false number 0 t)) ∙ take-append-drop (n - 0) out)

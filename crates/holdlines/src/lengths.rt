@@ -1,7 +1,7 @@
 // The bytes of a line and of a file. 02, S-7.
 use crate::Form;
+use partlengths::tables;
 use settings::Settings;
-use settings::tables;
 ghost use mathlib.Core.Path.{_≡_};
 ghost use Prim.Native.Nat.{_+_, _*_, _≤_};
 ghost use Rattle.settings.specs.Accepted.{Accepted};

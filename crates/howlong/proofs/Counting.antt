@@ -10,17 +10,17 @@ use mir.Syntax.{w32, w64}
 use mir.Val.{Fits}
 use lib.ListN.{length, set, length-set}
 use lib.Dec.{T, eqb, leb, leb→le}
+use Rattle.partlengths.specs.Cells.{entry, muxTable}
+use Rattle.partlengths.specs.Rates.{topLevel, rates, commonDenominator, table67, table68, table69, table71}
+use Rattle.partlengths.specs.Formulas.{hierarchical, width, partA, partB, bitsB, cellsA, roundUp}
+use Rattle.partlengths.specs.Contracts.{Level}
+use Rattle.partlengths.proofs.Parts.{level-at}
+use Rattle.partlengths.proofs.PartA.{gain-positive}
 use Rattle.settings.specs.declared.Settings.{Settings}
-use Rattle.settings.specs.Cells.{entry, muxTable}
-use Rattle.settings.specs.Rates.{rates, commonDenominator, table67, table68, table69, table71}
-use Rattle.settings.specs.Formulas.{hierarchical, width, partA, partB, bitsB, cellsA, roundUp}
-use Rattle.settings.specs.Refusal.{refusal, topLevel, paired}
-use Rattle.settings.specs.Accepted.{Level}
+use Rattle.settings.specs.Refusal.{refusal, paired}
 use Rattle.settings.specs.declared.Lengths.{Lengths}
 use Rattle.settings.specs.Lengths.{nMux, n1, n2, l2, lengthsOf, accepted}
 use Rattle.settings.specs.Sizes.{depth, frameBits}
-use Rattle.settings.proofs.Parts.{level-at}
-use Rattle.settings.proofs.PartA.{gain-positive}
 use Rattle.settings.proofs.Chain.{pairings, pairing-at}
 use Rattle.settings.proofs.Bounds.{accepted-of, lengths-accepts}
 use Rattle.settings.proofs.Buffers.{frame-low}

@@ -8,8 +8,8 @@ use borrow.Author.Tests.{lt-ltb, ltb-false, eq-eqb, ne-eqb, eqb-true, not-false}
 use lib.ListN.{length}
 use lib.Dec.{ltb, lit≤}
 use Rattle.lists.proofs.Bools.{or-false}
+use Rattle.partlengths.specs.Formulas.{hierarchical}
 use Rattle.settings.specs.declared.Settings.{Settings}
-use Rattle.settings.specs.Formulas.{hierarchical}
 use Rattle.settings.specs.Refusal.{first, refusal}
 use Rattle.settings.proofs.Chain.{passes, own-next, first-passes, first-next}
 use Rattle.howlong.specs.HowLong.{numbersFor, howLongYield, howLongRefusal, howLongOf}

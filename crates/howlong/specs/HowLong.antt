@@ -4,8 +4,8 @@ use mathlib.Core.Bool.{cond, not, _||_}
 use mathlib.Core.List.{List, [], _∷_}
 use lib.ListN.{length}
 use lib.Dec.{eqb, ltb}
+use Rattle.partlengths.specs.Formulas.{hierarchical, roundUp}
 use Rattle.settings.specs.declared.Settings.{Settings}
-use Rattle.settings.specs.Formulas.{hierarchical, roundUp}
 use Rattle.settings.specs.Refusal.{first, refusal}
 use Rattle.settings.specs.Lengths.{nMux, l2}
 use Rattle.settings.specs.Sizes.{depth}

@@ -1,10 +1,10 @@
 // The call that says how long a number of bytes takes. 02, S-14.
+use partlengths::formulas::hierarchical;
+use partlengths::tables::n_mux;
 use settings::Settings;
 use settings::answers::depth;
 use settings::answers::lengths;
-use settings::formulas::hierarchical;
 use settings::refusals::refusal;
-use settings::tables::n_mux;
 ghost use mathlib.Core.Path.{_≡_};
 ghost use Prim.Native.Nat.{_≤_};
 ghost use Rattle.howlong.specs.HowLong.{superFrames, zeroBits, howLongRefusal, howLongYield, howLongOf};

@@ -4,8 +4,8 @@ use mathlib.Core.Path.{_≡_, refl, ap, ap₂}
 use mathlib.Core.List.{List, [], _∷_, map}
 use lib.ListN.{length, replicate, length-replicate}
 use lib.IntN.{pos}
+use Rattle.partlengths.specs.Cells.{facCells}
 use Rattle.settings.specs.declared.Settings.{Settings}
-use Rattle.settings.specs.Cells.{facCells}
 use Rattle.settings.specs.Lengths.{nSdc, nSfa, lSdc}
 use Rattle.settings.specs.Sizes.{frameBytes, sdcBytes}
 use Rattle.block.specs.Fits.{Bytes}

@@ -9,12 +9,12 @@ use borrow.Author.Tests.{eq-eqb, le-leb, leb-true}
 use lib.ListN.{length, replicate}
 use lib.Dec.{eqb, leb}
 use Rattle.lists.proofs.Bools.{both, and-left, and-right}
+use Rattle.partlengths.specs.Rates.{commonDenominator}
+use Rattle.partlengths.specs.Formulas.{partA, cellsA}
+use Rattle.partlengths.proofs.PartA.{partA-times}
 use Rattle.settings.specs.declared.Settings.{Settings}
-use Rattle.settings.specs.Rates.{commonDenominator}
-use Rattle.settings.specs.Formulas.{partA, cellsA}
 use Rattle.settings.specs.Lengths.{n1, l1, l2, lVspp}
 use Rattle.settings.specs.Sizes.{frameBits, frameBytes}
-use Rattle.settings.proofs.PartA.{partA-times}
 use Rattle.settings.proofs.Bounds.{accepted-of}
 use Rattle.lists.specs.Lists.{total}
 use Rattle.block.specs.Packing.{unpacked, spareZero}

@@ -8,7 +8,7 @@ use native.Mathlib.Omega.{arith}
 use lib.ListN.{length, take, drop, take-append-drop, length-drop, drop-of-length-le}
 use lib.Seq.{take-all}
 use Rattle.lists.proofs.Counting.{below-or}
-use Rattle.settings.specs.Formulas.{roundUp}
+use Rattle.partlengths.specs.Formulas.{roundUp}
 use Rattle.block.specs.Fits.{Bytes}
 use Rattle.multiplex.proofs.Octets.{bytes-take, bytes-drop}
 use Rattle.superframe.specs.Call.{joined}

@@ -9,8 +9,8 @@ use native.Mathlib.Omega.{arith}
 use lib.ListN.{length, take, drop, replicate, length-append, length-map, length-replicate, replicate-append-replicate}
 use lib.Seq.{take-at, drop-at}
 use Rattle.patterns.specs.Loaded.{passes}
+use Rattle.partlengths.specs.Formulas.{roundUp}
 use Rattle.settings.specs.declared.Settings.{Settings}
-use Rattle.settings.specs.Formulas.{roundUp}
 use Rattle.settings.specs.Lengths.{l2}
 use Rattle.settings.specs.Sizes.{depth, frameBits, frameBytes}
 use Rattle.block.specs.Packing.{unpacked}

@@ -5,10 +5,10 @@ use mathlib.Core.Bool.{Bool, true, false}
 use native.Mathlib.Omega.{arith}
 use lib.Dec.{eqb}
 use borrow.Author.Tests.{eqb-true, eqb-false, lt-ltb, le-ltb}
+use Rattle.partlengths.specs.Cells.{facCells}
+use Rattle.partlengths.specs.Formulas.{roundUp}
 use Rattle.settings.specs.declared.Settings.{Settings}
 use Rattle.settings.specs.declared.Sizes.{Sizes}
-use Rattle.settings.specs.Cells.{facCells}
-use Rattle.settings.specs.Formulas.{roundUp}
 use Rattle.settings.specs.Refusal.{refusal}
 use Rattle.settings.specs.Accepted.{Accepted}
 use Rattle.lists.specs.Bytes.{bytesFor}

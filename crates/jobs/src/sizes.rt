@@ -1,10 +1,10 @@
 // How many bytes the jobs take and give.
 use console::Job;
+use partlengths::tables::FAC_BYTES;
+use partlengths::tables::FAC_NUMBERS;
 use settings::Settings;
 use settings::Sizes;
 use settings::answers;
-use settings::tables::FAC_BYTES;
-use settings::tables::FAC_NUMBERS;
 ghost use mathlib.Core.Path.{_≡_};
 ghost use Rattle.jobs.specs.SuperFrame.{blocksLength, cellsLength, gridLength, inputLength, outputLength};
 ghost use Rattle.jobs.specs.Contracts.{Rooms};

@@ -6,8 +6,8 @@ use lib.ListN.{length, getD}
 use lib.IntN.{ℤ, pos}
 use lib.Dec.{eqb, ltb}
 use Rattle.lists.specs.Lists.{table}
+use Rattle.partlengths.specs.Cells.{facCells}
 use Rattle.settings.specs.Refusal.{first}
-use Rattle.settings.specs.Cells.{facCells}
 use Rattle.settings.specs.Sizes.{frameBytes, sdcBytes}
 use Rattle.block.specs.Block.{pointsOf}
 use Rattle.block.specs.Points.{isPoint}

@@ -9,8 +9,8 @@ use lib.Dec.{T, leb, leb→le}
 use lib.ListN.{getD}
 use Rattle.lists.specs.Lists.{table}
 use Rattle.lists.proofs.Tables.{getD-table}
-use Rattle.settings.specs.Cells.{entry}
-use Rattle.settings.proofs.Parts.{below, below-at}
+use Rattle.partlengths.specs.Cells.{entry}
+use Rattle.partlengths.proofs.Parts.{below, below-at}
 use Rattle.kinds.specs.Carriers.{table80, frameSymbols, symbols, lowerTable, upperTable, lower, upper, carriers}
 use Rattle.kinds.specs.References.{table90, spacing, offset}
 use Rattle.kinds.specs.Places.{places}

@@ -13,8 +13,8 @@ use mir.Val.{Fits}
 use borrow.Author.Tests.{eqb-true, eqb-false, ne-eqb}
 use Rattle.lists.specs.Lists.{table}
 use Rattle.lists.proofs.Tables.{length-table, table-is, getD-table}
+use Rattle.partlengths.proofs.LookUps.{all-at}
 use Rattle.settings.specs.Refusal.{first}
-use Rattle.settings.proofs.LookUps.{all-at}
 use Rattle.kinds.specs.Carriers.{unused}
 use Rattle.kinds.specs.References.{table84, frequency, table86, table87, table88, table89, time}
 use Rattle.kinds.specs.Control.{table93, table94, table95, table96, facCarriers}

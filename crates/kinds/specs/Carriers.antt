@@ -2,7 +2,7 @@
 use Prim.Native.Nat.{ℕ, suc, _+_, _-_, _*_}
 use mathlib.Core.List.{List, [], _∷_}
 use lib.ListN.{getD}
-use Rattle.settings.specs.Cells.{entry}
+use Rattle.partlengths.specs.Cells.{entry}
 
 -- Carrier k is numbered 120 + k, so that no number is negative. Clause 8.3.1: carriers with k < 0 are to the left of DC, with k > 0 to the right.
 abbrev pub left : ℕ → ℕ

@@ -4,7 +4,7 @@ use mathlib.Core.Bool.{Bool, cond}
 use mathlib.Core.List.{List, [], _∷_, map}
 use lib.ListN.{getD}
 use lib.Dec.{eqb}
-use Rattle.settings.specs.Cells.{entry}
+use Rattle.partlengths.specs.Cells.{entry}
 use Rattle.kinds.specs.Carriers.{right}
 
 -- Table 84: carriers of the frequency references, in all symbols.

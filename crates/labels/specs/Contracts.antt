@@ -2,9 +2,11 @@
 use Prim.Native.Nat.{ℕ, _+_, _*_, _≤_, _<_, _^_}
 use mathlib.Core.Path.{_≡_}
 use mathlib.Core.List.{List, [], _∷_}
-use lib.ListN.{length, getD, set}
+use lib.ListN.{length, getD, set, take, drop}
 use Rattle.component.specs.Bits.{Bits}
+use Rattle.block.specs.declared.Level.{Level}
 use Rattle.block.specs.Fits.{Mixes}
+use Rattle.block.specs.Reading.{sizeA, sizeB}
 use Rattle.interleaver.specs.Tables.{places}
 use Rattle.lists.specs.Lists.{table}
 
@@ -71,3 +73,8 @@ pub record TakesPart (t weight : ℕ) (labels out : List ℕ) : Type 0 where
 pub record Ordered (t n : ℕ) (order : List ℕ) : Type 0 where
   pub long : length order ≡ n
   pub order-is : (t ≡ 0 → ⊥) → order ≡ places t n
+
+-- The order of a level's coded bits: the places of part A's, and then of part B's.
+pub record LevelOrder (l : Level) (order : List ℕ) : Type 0 where
+  pub front : Ordered (l .t) (sizeA l) (take (sizeA l) order)
+  pub rest : Ordered (l .t) (sizeB l) (drop (sizeA l) order)

@@ -1,8 +1,8 @@
 // A line of received bits, and the line of the block nearest to them. 02, S-9.
 use nearest::fac::fac_nearest;
 use numerals::digits::put_hex;
-use settings::tables::FAC_BYTES;
-use settings::tables::FAC_NUMBERS;
+use partlengths::tables::FAC_BYTES;
+use partlengths::tables::FAC_NUMBERS;
 use turns::Made;
 use turns::answers::bad;
 use turns::answers::through;

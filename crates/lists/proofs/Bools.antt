@@ -1,8 +1,8 @@
--- Laws of tests: of one, of two together, of every one of a list, and of the first that fails. Assumes nothing.
+-- Laws of tests: of one and what it chooses, of two together, of every one of a list, and of the first that fails. Assumes nothing.
 use Prim.Native.Nat.{ℕ, zero, suc, _+_, _≤_, _<_}
 use mathlib.Core.Path.{_≡_, refl, ap}
 use mathlib.Core.Logic.{_⊎_, inl, inr}
-use mathlib.Core.Bool.{Bool, true, false, _&&_, _||_}
+use mathlib.Core.Bool.{Bool, true, false, cond, _&&_, _||_}
 use mathlib.Core.List.{List, [], _∷_, _++_}
 use native.Mathlib.Omega.{arith}
 use lib.ListN.{getD}
@@ -27,6 +27,13 @@ unless-false false h = absurd (h refl)
 pub unless-true : (b : Bool) → (b ≡ true → ⊥) → b ≡ false
 unless-true true h = absurd (h refl)
 unless-true false h = refl
+
+-- a choice whose test is known
+pub chosen : {A : Type 0} (b : Bool) (x y : A) → b ≡ true → x ≡ cond b x y
+chosen b x y e = rw e
+
+pub other : {A : Type 0} (b : Bool) (x y : A) → b ≡ false → y ≡ cond b x y
+other b x y e = rw e
 
 -- two tests hold together, and of two that do each holds
 pub both : {a b : Bool} → a ≡ true → b ≡ true → (a && b) ≡ true

@@ -1,5 +1,5 @@
 -- Parts of a buffer: from its start, to its end, and a buffer written in two parts. Assumes nothing.
-use Prim.Native.Nat.{ℕ, zero, suc, _-_, _≤_, _<_}
+use Prim.Native.Nat.{ℕ, zero, suc, _+_, _-_, _≤_, _<_}
 use mathlib.Core.Path.{_≡_, refl, ap, ap₂, _∙_}
 use mathlib.Core.List.{List, [], _∷_, _++_, append-nil}
 use native.Mathlib.Nat.{zero-add}
@@ -49,6 +49,15 @@ length-inside d e i n h =
 -- a list stored over all of another
 pub sets-whole : {A : Type 0} (l vs : List A) → length l ≡ length vs → sets l 0 vs ≡ vs
 sets-whole l vs e = sets-eq vs l 0 (omega arith) ∙ rw (zero-add (length vs), ← e, drop-length, append-nil vs)
+
+-- what is written at the front of a list is stored there, and found there
+pub stored-front : {A : Type 0} (x d : List A) (n : ℕ) → length x ≡ length (take (n - 0) d) → n ≤ length d → x ++ drop (n - 0) d ≡ sets d 0 x
+stored-front x d n k h =
+    let e : length x ≡ n = k ∙ length-start n d h in
+    rw (from-start n, sets-eq x d 0 (omega (arith, e, h)), zero-add (length x), e)
+
+pub front-stored : {A : Type 0} (x d : List A) (n : ℕ) → length x ≡ n → n ≤ length d → take n (sets d 0 x) ≡ x
+front-stored x d n e h = rw (sets-eq x d 0 (omega arith)) (take-at x (drop (0 + length x) d) n e)
 
 -- within a list the default is not asked for
 pub getD-any : {A : Type 0} (l : List A) (i : ℕ) (y z : A) → i < length l → getD l i y ≡ getD l i z

@@ -15,10 +15,10 @@ use Rattle.component.specs.Bits.{Bits}
 use Rattle.component.proofs.Bits.{bits-head, bits-rest}
 use Rattle.interleaver.proofs.Interleaving.{interleaved-length}
 use Rattle.patterns.proofs.Patterns.{standard-passes}
+use Rattle.partlengths.specs.Cells.{facCells}
+use Rattle.partlengths.specs.Formulas.{facBits}
 use Rattle.settings.specs.declared.Settings.{Settings}
 use Rattle.settings.specs.Refusal.{first, refusal}
-use Rattle.settings.specs.Cells.{facCells}
-use Rattle.settings.specs.Formulas.{facBits}
 use Rattle.block.specs.Mapping.{constellation, axis, labelAt, mapped}
 use Rattle.block.specs.Packing.{packed}
 use Rattle.block.specs.Points.{onAxis, arePoints}

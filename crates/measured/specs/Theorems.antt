@@ -7,10 +7,10 @@ use lib.ListN.{length, getD, take, drop, replicate}
 use lib.IntN.{ℤ, pos}
 use lib.Ieee.{Float, binary32, ofInt}
 use Rattle.component.specs.Bits.{Bits}
+use Rattle.partlengths.specs.Cells.{facCells}
+use Rattle.partlengths.specs.Formulas.{facBits}
 use Rattle.settings.specs.declared.Settings.{Settings}
 use Rattle.settings.specs.Refusal.{refusal}
-use Rattle.settings.specs.Cells.{facCells}
-use Rattle.settings.specs.Formulas.{facBits}
 use Rattle.block.specs.declared.Block.{Block}
 use Rattle.block.specs.Mapping.{constellation, axis}
 use Rattle.block.specs.Packing.{packed}

@@ -11,11 +11,13 @@ use Rattle.block.specs.Reading.{taken, inputA, inputB}
 use Rattle.block.specs.declared.Block.{Block}
 use Rattle.block.specs.declared.Level.{Level}
 use Rattle.blockplaces.specs.Contracts.{levelAt, shared, digits, digitAt}
-use Rattle.multilevel.specs.Contracts.{levelBitsOver, bitsIn, bitsBefore, frontBits, partA, partB, LevelThere, FewLevels, ReadsLevel, ReadsAt, ReadAt, ReadsLevels, LevelsRead, inputIn, readOver, takenOver, takenOvers}
-use Rattle.multilevel.proofs.Partition.{part-is, ends-a, ends-b}
+use Rattle.level.specs.Contracts.{levelBitsOver, takenOver, ReadsLevel}
+use Rattle.level.proofs.Parts.{part-is}
+use Rattle.level.proofs.OneRead.{length-inputA, length-inputB}
+use Rattle.multilevel.specs.Contracts.{bitsIn, bitsBefore, frontBits, partA, partB, LevelThere, FewLevels, ReadsAt, ReadAt, ReadsLevels, LevelsRead, inputIn, readOver, takenOvers}
+use Rattle.multilevel.proofs.Partition.{ends-a, ends-b}
 use Rattle.multilevel.proofs.Totals.{all-bits}
 use Rattle.multilevel.proofs.Turns.{Turn, first-turn, level-there, next-turn}
-use Rattle.multilevel.proofs.OneRead.{length-inputA, length-inputB}
 
 pub length-inputIn : (b : Bool) (l : Level) (y : List ℕ) → length (inputIn b l y) ≡ bitsIn b l
 unfolding inputIn bitsIn

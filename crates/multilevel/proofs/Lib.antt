@@ -1,9 +1,7 @@
-pub mod Parts
-pub mod OneLevel
 pub mod Partition
 pub mod Totals
+pub mod Axes
 pub mod Turns
 pub mod Summing
-pub mod OneRead
 pub mod LevelsRead
 pub mod PartsRead

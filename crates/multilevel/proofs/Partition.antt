@@ -7,15 +7,14 @@ use mathlib.Core.List.{List}
 use native.Mathlib.Nat.{mul-le-mul, eq-or-lt-of-le}
 use native.Mathlib.Numerals.{add-one}
 use native.Mathlib.Omega.{arith}
-use lib.ListN.{length, take, drop, length-take, length-drop}
-use Rattle.component.specs.Bits.{Bits}
-use Rattle.component.proofs.Bits.{bits-drop}
+use lib.ListN.{length, take, drop}
 use Rattle.blockplaces.specs.Contracts.{levelAt, digitAt}
-use Rattle.multilevel.specs.Contracts.{codedOver, codedOverAt, CodesLevel, bitsIn, bitsBefore, streamAt, Sums, LevelThere, CodesAt}
+use Rattle.level.specs.Contracts.{codedOver, CodesLevel}
+use Rattle.level.proofs.Parts.{part-is, part-long, part-bits}
+use Rattle.multilevel.specs.Contracts.{codedOverAt, bitsIn, bitsBefore, streamAt, Sums, LevelThere, CodesAt}
 use Rattle.labels.specs.Contracts.{added}
 use Rattle.block.specs.declared.Level.{Level}
 use Rattle.block.specs.Levels.{stream}
-use Rattle.block.proofs.Lists.{bits-take}
 
 -- the sums grow
 pub before-mono : (ls : List Level) (b : Bool) (i l : ℕ) → i ≤ l → bitsBefore ls b i ≤ bitsBefore ls b l
@@ -41,17 +40,6 @@ digit-le : (one : Bool) (l : ℕ) → digitAt one l ≤ l
 unfolding digitAt
 digit-le true l = omega arith
 digit-le false l = omega arith
-
--- a level's bits in a part: n of them from d on
-module _ (v : List ℕ) (s n d : ℕ) (e : s ≡ d) where
-  pub part-is : take (s + n - s) (drop s v) ≡ take n (drop d v)
-  part-is = let f : d + n - d ≡ n = omega arith in rw (e, f)
-
-  pub part-long : d + n ≤ length v → length (take (s + n - s) (drop s v)) ≡ n
-  part-long h = rw (part-is, length-take, length-drop) (omega arith)
-
-  pub part-bits : Bits v → Bits (take (s + n - s) (drop s v))
-  part-bits B = rw part-is (bits-take n (bits-drop d B))
 
 module _ {one : Bool} {ls : List Level} {n : ℕ} {order a b : List ℕ} {l : ℕ} (L : LevelThere one ls n order a b l) where
   -- its order's place can be worked out

@@ -15,6 +15,10 @@ use Rattle.multilevel.specs.Contracts.{LevelThere, LevelsThere, none, mo
 pub twice : (w k : ℕ) → 2 * w * 2 ^ k ≡ w * 2 ^ suc k
 twice w k = let e : 2 ^ suc k ≡ 2 * 2 ^ k = omega arith in rw e (omega arith)
 
+-- one level less
+pub one-less : {m : ℕ} → 0 < m → m - 1 < m
+one-less h = omega arith
+
 -- the first of the levels, and the others
 first-there : {one : Bool} {ls : List Level} {n : ℕ} {order a b : List ℕ} {s l m : ℕ} → LevelsThere one ls n order a b s l m → 0 < m → LevelThere one ls n order a b l
 first-there none h = absurd (omega arith)

@@ -21,11 +21,10 @@ pub fn bits_before(k: Block, b: bool, l: usize) -> usize
     requires { ⌜ Sums (k .levels) b l ⌝ }
     ensures { λ r. ⌜ r ≡ bitsBefore (k .levels) b l ⌝ }
 {
-    let levels = k.levels;
     let mut sum = 0;
     let mut i = 0;
     while i < l {
-        sum += bits_in(levels[i], b);
+        sum += bits_in(k.levels[i], b);
         i += 1;
     }
     sum

@@ -9,9 +9,9 @@ use lib.ListN.{length, take, drop}
 use lib.Dec.{eqb, ltb, leb}
 use Rattle.lists.proofs.Bools.{and-left, and-right}
 use Rattle.lists.proofs.Parts.{to-end, length-end}
+use Rattle.partlengths.specs.Formulas.{hierarchical}
 use Rattle.settings.specs.declared.Settings.{Settings}
 use Rattle.settings.specs.declared.Lengths.{Lengths}
-use Rattle.settings.specs.Formulas.{hierarchical}
 use Rattle.settings.specs.Refusal.{refusal}
 use Rattle.settings.specs.Lengths.{lengthsOf, accepted, l1, l2, lVspp}
 use Rattle.settings.specs.Sizes.{frameBits, frameBytes}

@@ -4,8 +4,8 @@ use mathlib.Core.Bool.{Bool, cond, _&&_}
 use mathlib.Core.List.{List}
 use lib.ListN.{getD, drop}
 use lib.Dec.{eqb, ltb, leb}
+use Rattle.partlengths.specs.Formulas.{hierarchical}
 use Rattle.settings.specs.declared.Settings.{Settings}
-use Rattle.settings.specs.Formulas.{hierarchical}
 use Rattle.settings.specs.Lengths.{l1, l2, lVspp}
 use Rattle.frameparts.specs.declared.Share.{Share}
 use Rattle.frameparts.specs.Streams.{sharesIn, sums}

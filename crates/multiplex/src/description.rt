@@ -1,9 +1,9 @@
 // A multiplex description: of each stream the bytes of part A and of part B. 001 clause 6.4.3.1; 02, S-8.
 use crate::Layout;
 use frameparts::parts::sums;
+use partlengths::formulas::hierarchical;
 use settings::Settings;
 use settings::answers::lengths;
-use settings::formulas::hierarchical;
 ghost use mathlib.Core.Path.{_≡_};
 ghost use mathlib.Core.Bool.{true};
 ghost use lib.ListN.{length};

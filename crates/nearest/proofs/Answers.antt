@@ -10,9 +10,9 @@ use lib.ListN.{length, getD, drop, set}
 use lib.Seq.{drop-cons, drop-length}
 use lib.Dec.{eqb}
 use Rattle.lists.specs.Bytes.{bytesFor}
+use Rattle.partlengths.specs.Cells.{facCells}
+use Rattle.partlengths.specs.Formulas.{facBits}
 use Rattle.settings.specs.Refusal.{first}
-use Rattle.settings.specs.Cells.{facCells}
-use Rattle.settings.specs.Formulas.{facBits}
 use Rattle.nearest.specs.Fac.{allValues, nearestRefusalBy, nearestRefusal, nearestYield, nearestAccepted, nearestOf}
 use Rattle.nearest.specs.Contracts.{Receives, Nearby}
 

@@ -21,7 +21,7 @@ use Rattle.interleaver.specs.Interleaving.{place}
 use Rattle.interleaver.specs.Deinterleaving.{Cycles, deinterleaved}
 use Rattle.interleaver.specs.Tables.{places, Tabulates}
 use Rattle.interleaver.proofs.Places.{place-low}
-use Rattle.settings.specs.Formulas.{facBits}
+use Rattle.partlengths.specs.Formulas.{facBits}
 use Rattle.block.specs.Packing.{packed}
 use Rattle.block.specs.Dispersal.{p, dispersed}
 use Rattle.block.proofs.Dispersal.{p-bit}

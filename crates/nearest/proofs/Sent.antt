@@ -9,9 +9,9 @@ use Rattle.lists.specs.Lists.{table}
 use Rattle.component.specs.Register.{after}
 use Rattle.component.specs.Codeword.{encode, codeword}
 use Rattle.interleaver.proofs.Interleaving.{interleaved-none}
+use Rattle.partlengths.specs.Rates.{facRate}
+use Rattle.partlengths.specs.Formulas.{facBits}
 use Rattle.settings.specs.declared.Settings.{Settings}
-use Rattle.settings.specs.Rates.{facRate}
-use Rattle.settings.specs.Formulas.{facBits}
 use Rattle.block.specs.Dispersal.{p, dispersed, dispersedParts}
 use Rattle.block.specs.Levels.{codedA, codedB, mixed, stream, totalA, totalB, streams}
 use Rattle.block.specs.Block.{streamsOf, levelsOf, six}

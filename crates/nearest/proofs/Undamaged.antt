@@ -17,7 +17,7 @@ use Rattle.patterns.proofs.Loaded.{pattern-sound}
 use Rattle.patterns.proofs.Patterns.{standard-passes}
 use Rattle.interleaver.specs.Deinterleaving.{deinterleaved}
 use Rattle.interleaver.proofs.Interleaving.{interleaved-length, interleaved-all, deinterleaved-interleaved}
-use Rattle.settings.specs.Formulas.{facBits}
+use Rattle.partlengths.specs.Formulas.{facBits}
 use Rattle.trellis.specs.Nearest.{differs, disagreement}
 use Rattle.nearest.specs.Coded.{added, coded, facFlips, facCoded, facSent}
 use Rattle.nearest.specs.Fac.{facNearest}

@@ -7,7 +7,7 @@ use Rattle.component.specs.Codeword.{codeword, tailBits}
 use Rattle.component.specs.Decoding.{segment}
 use Rattle.interleaver.specs.Interleaving.{interleaved}
 use Rattle.block.specs.Dispersal.{p}
-use Rattle.settings.specs.Formulas.{facBits}
+use Rattle.partlengths.specs.Formulas.{facBits}
 
 -- Bits added modulo 2, one by one.
 unfoldable pub added : List ℕ → List ℕ → List ℕ

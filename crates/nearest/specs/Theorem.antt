@@ -4,9 +4,9 @@ use mathlib.Core.Path.{_≡_}
 use mathlib.Core.List.{List, [], _∷_}
 use lib.ListN.{length, replicate}
 use Rattle.component.specs.Bits.{Bits}
+use Rattle.partlengths.specs.Cells.{facCells}
+use Rattle.partlengths.specs.Formulas.{facBits}
 use Rattle.settings.specs.declared.Settings.{Settings}
-use Rattle.settings.specs.Cells.{facCells}
-use Rattle.settings.specs.Formulas.{facBits}
 use Rattle.block.specs.Dispersal.{dispersedParts}
 use Rattle.block.specs.Block.{streamsOf}
 use Rattle.channels.specs.Scheme.{standardScheme}

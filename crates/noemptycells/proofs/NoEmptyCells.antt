@@ -17,8 +17,8 @@ use Rattle.lists.proofs.Counting.{below-or}
 use Rattle.lists.proofs.Tables.{table-ext}
 use Rattle.lists.proofs.Bools.{never-both, unless-false, unless-true, and-left}
 use Rattle.lists.proofs.Same.{sameNumber-true}
+use Rattle.partlengths.specs.Cells.{facCells}
 use Rattle.settings.specs.declared.Settings.{Settings}
-use Rattle.settings.specs.Cells.{facCells}
 use Rattle.settings.specs.Lengths.{nMux, nSfa}
 use Rattle.settings.specs.Sizes.{depth}
 use Rattle.block.specs.Mapping.{constellation, coordinate, qam4, qam16, standard64, symmetric64}

@@ -1,5 +1,5 @@
 // What `preview` shows. 02, S-3.
-use calljobs::code::code_bytes;
+use codejobs::code::code_bytes;
 use console::Job;
 use jobs::Step;
 use jobs::refusal::job_refusal;

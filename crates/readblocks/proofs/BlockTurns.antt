@@ -16,7 +16,7 @@ use Rattle.block.specs.Fits.{BlockLent}
 use Rattle.frames.specs.Contracts.{RowsLent, RowsRead}
 use Rattle.blockreader.specs.Contracts.{blocksIn, SeveralLent, SeveralRead, PlacesRead}
 use Rattle.channels.specs.Sdc.{sdcBlock}
-use Rattle.settings.specs.Cells.{facCells}
+use Rattle.partlengths.specs.Cells.{facCells}
 use Rattle.superframe.specs.declared.State.{State}
 use Rattle.superframe.specs.Memory.{slotSize}
 use Rattle.superframe.specs.Call.{part, parts}
@@ -26,7 +26,7 @@ use Rattle.channels.proofs.Fac.{fac-bits, fac-fits}
 use Rattle.channels.proofs.Sdc.{sdc-bits, sdc-fits}
 use Rattle.channels.specs.Fac.{facBlock}
 use Rattle.lists.specs.Bytes.{bytesFor}
-use Rattle.settings.specs.Formulas.{facBits}
+use Rattle.partlengths.specs.Formulas.{facBits}
 use Rattle.frames.specs.declared.Frames.{Frames}
 use Rattle.readblocks.specs.Contracts.{BlocksLent, BlocksRead, blocksOf}
 use Rattle.readblocks.specs.declared.Blocks.{Blocks}

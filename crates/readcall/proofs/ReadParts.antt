@@ -12,9 +12,9 @@ use Rattle.lists.specs.Lists.{table}
 use Rattle.lists.specs.Bytes.{bytesFor}
 use Rattle.lists.proofs.Tables.{length-table}
 use Rattle.lists.proofs.Bools.{and-left, and-right, every-append}
+use Rattle.partlengths.specs.Cells.{facCells}
+use Rattle.partlengths.specs.Formulas.{roundUp}
 use Rattle.settings.specs.Refusal.{first}
-use Rattle.settings.specs.Cells.{facCells}
-use Rattle.settings.specs.Formulas.{roundUp}
 use Rattle.settings.specs.Sizes.{frameBytes, sdcBytes}
 use Rattle.channels.specs.Scheme.{SchemeAccepted}
 use Rattle.channels.proofs.Schemes.{scheme-accepted}

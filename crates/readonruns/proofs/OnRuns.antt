@@ -11,7 +11,7 @@ use lib.IntN.{ℤ, pos}
 use Rattle.lists.specs.Lists.{table}
 use Rattle.lists.proofs.Bools.{holds-or, every-table}
 use Rattle.lists.proofs.Tables.{length-table, getD-table, map-table}
-use Rattle.settings.specs.Cells.{facCells}
+use Rattle.partlengths.specs.Cells.{facCells}
 use Rattle.interleaver.specs.Interleaving.{place}
 use Rattle.settings.specs.Lengths.{nMux}
 use Rattle.settings.specs.Sizes.{depth}

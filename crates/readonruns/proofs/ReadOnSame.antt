@@ -11,7 +11,7 @@ use Rattle.lists.specs.Lists.{table}
 use Rattle.lists.specs.Bools.{every}
 use Rattle.lists.proofs.Bools.{and-left, and-right, or-right, every-append, every-table, table-every}
 use Rattle.lists.proofs.Tables.{length-table}
-use Rattle.settings.specs.Cells.{facCells}
+use Rattle.partlengths.specs.Cells.{facCells}
 use Rattle.settings.specs.Lengths.{nMux}
 use Rattle.settings.specs.Sizes.{depth, frameBytes, sdcBytes}
 use Rattle.block.specs.declared.Block.{Block}

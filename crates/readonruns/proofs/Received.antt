@@ -17,8 +17,8 @@ use Rattle.interleaver.specs.Interleaving.{place}
 use Rattle.interleaver.specs.Deinterleaving.{deinterleaved}
 use Rattle.interleaver.proofs.Places.{place-low}
 use Rattle.interleaver.proofs.Interleaving.{deinterleaved-at}
+use Rattle.partlengths.specs.Cells.{facCells}
 use Rattle.settings.specs.declared.Settings.{Settings}
-use Rattle.settings.specs.Cells.{facCells}
 use Rattle.settings.specs.Lengths.{nMux}
 use Rattle.settings.specs.Sizes.{depth}
 use Rattle.block.specs.Block.{pointsOf}

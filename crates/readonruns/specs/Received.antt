@@ -5,8 +5,8 @@ use lib.ListN.{getD}
 use lib.IntN.{ℤ, pos}
 use Rattle.lists.specs.Lists.{table}
 use Rattle.interleaver.specs.Deinterleaving.{deinterleaved}
+use Rattle.partlengths.specs.Cells.{facCells}
 use Rattle.settings.specs.declared.Settings.{Settings}
-use Rattle.settings.specs.Cells.{facCells}
 use Rattle.settings.specs.Lengths.{nMux}
 use Rattle.settings.specs.Sizes.{depth}
 use Rattle.channels.specs.declared.Scheme.{Scheme}

@@ -6,14 +6,14 @@ use native.Mathlib.Nat.{one-mul}
 use native.Mathlib.Omega.{arith}
 use lib.Dec.{eqb}
 use borrow.Author.Tests.{eq-eqb, ne-eqb}
+use Rattle.lists.specs.Bytes.{bytesFor}
+use Rattle.partlengths.specs.Cells.{facCells}
+use Rattle.partlengths.specs.Formulas.{roundUp}
 use Rattle.settings.specs.declared.Settings.{Settings}
 use Rattle.settings.specs.declared.Lengths.{Lengths}
-use Rattle.settings.specs.Cells.{facCells}
-use Rattle.settings.specs.Formulas.{roundUp}
 use Rattle.settings.specs.Refusal.{refusal}
 use Rattle.settings.specs.Lengths.{nMux, nSfa, nSdc, l1, l2, lSdc, accepted}
 use Rattle.settings.specs.Sizes.{depth, frameBits, frameBytes, sdcBytes, noSizes, allSizes, sizesOf}
-use Rattle.lists.specs.Bytes.{bytesFor}
 use Rattle.settings.specs.Accepted.{Accepted}
 
 -- Numbers of bytes, and of all buffers.

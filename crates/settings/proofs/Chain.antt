@@ -6,13 +6,14 @@ use native.Mathlib.Nat.{zero-add}
 use native.Mathlib.Omega.{arith}
 use lib.Dec.{T, leb, ltb, eqb, leb→le, lit≤}
 use borrow.Author.Tests.{lt-ltb, ltb-true, ltb-false, eqb-true, not-false}
+use Rattle.partlengths.specs.Rates.{topLevel}
+use Rattle.partlengths.specs.Formulas.{hierarchical}
+use Rattle.partlengths.specs.Cells.{entry, muxTable, superTable, sdcTable}
+use Rattle.partlengths.proofs.Parts.{below, below-at}
 use Rattle.settings.specs.declared.Settings.{Settings}
-use Rattle.settings.specs.Formulas.{hierarchical}
-use Rattle.settings.specs.Cells.{entry, muxTable, superTable, sdcTable}
 use Rattle.settings.specs.Lengths.{nMux, nSfa, nSdc, n1}
 use Rattle.settings.specs.Accepted.{Ranges}
-use Rattle.settings.specs.Refusal.{paired, topLevel, first, rangeRefusal, refusal}
-use Rattle.settings.proofs.Parts.{below, below-at}
+use Rattle.settings.specs.Refusal.{paired, first, rangeRefusal, refusal}
 
 -- Each link gives its own number or what the next one gives.
 pub chain : (s : Settings) (top six five four three two one : ℕ) (h p : Bool)

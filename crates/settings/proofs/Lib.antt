@@ -1,7 +1,3 @@
-pub mod LookUps
-pub mod Levels
-pub mod Parts
-pub mod PartA
 pub mod Chain
 pub mod Bounds
 pub mod Buffers

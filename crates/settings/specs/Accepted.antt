@@ -1,30 +1,14 @@
 -- What is known of settings that are not refused: nothing of 01 is stated here, all follows from Refusal and Lengths.
-use Prim.Native.Nat.{ℕ, _+_, _-_, _*_, _%_, _≤_}
+use Prim.Native.Nat.{_+_, _-_, _*_, _≤_}
 use mathlib.Core.Path.{_≡_}
 use mathlib.Core.Bool.{true, false}
 use mathlib.Core.Logic.{_⊎_}
+use Rattle.partlengths.specs.Formulas.{hierarchical, width}
+use Rattle.partlengths.specs.Contracts.{Level, Whole}
 use Rattle.settings.specs.declared.Settings.{Settings}
-use Rattle.settings.specs.Formulas.{hierarchical, width}
-use Rattle.settings.specs.Rates.{commonDenominator}
-use Rattle.settings.specs.Refusal.{paired, topLevel}
+use Rattle.settings.specs.Refusal.{paired}
 use Rattle.settings.specs.Lengths.{nMux, nSfa, nSdc, n1, n2, lSdc}
 use Rattle.settings.specs.Sizes.{frameBits}
-
--- A protection level of part A or B that an MSC mode has.
-pub record Level (msc level : ℕ) : Type 0 where
-  pub mscLow : msc ≤ 3
-  pub levelLow : level ≤ topLevel msc
-
--- Cells of part A: a multiple of the level's common denominator.
-pub record Whole (msc level n : ℕ) : Type 0 where
-  pub has : Level msc level
-  pub multiple : n % commonDenominator msc level ≡ 0
-  pub low : n ≤ 65535
-
--- Numbers that round_up divides.
-pub record Rounds (a b : ℕ) : Type 0 where
-  pub some : 1 ≤ b
-  pub low : a + b ≤ 4294967295
 
 -- No refusal 1 to 6, and the cell counts of the pairing.
 pub record Ranges (s : Settings) : Type 0 where

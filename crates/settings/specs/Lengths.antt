@@ -2,10 +2,10 @@
 use Prim.Native.Nat.{ℕ, _-_}
 use mathlib.Core.Bool.{cond}
 use lib.Dec.{eqb}
+use Rattle.partlengths.specs.Cells.{entry, muxTable, superTable, sdcTable}
+use Rattle.partlengths.specs.Formulas.{partA, partB, partVspp, cellsA, sdcBits}
 use Rattle.settings.specs.declared.Settings.{Settings}
 use Rattle.settings.specs.declared.Lengths.{Lengths}
-use Rattle.settings.specs.Cells.{entry, muxTable, superTable, sdcTable}
-use Rattle.settings.specs.Formulas.{partA, partB, partVspp, cellsA, sdcBits}
 use Rattle.settings.specs.Refusal.{refusal}
 
 -- N_MUX, N_SFA and N_SDC of the settings.

@@ -1,9 +1,4 @@
-pub mod Rates
-pub mod Cells
-pub mod Formulas
 pub mod Refusal
 pub mod Lengths
 pub mod Sizes
 pub mod Accepted
-pub mod Places
-pub mod Shares

@@ -2,17 +2,14 @@
 use Prim.Native.Nat.{ℕ, _-_}
 use mathlib.Core.Bool.{Bool, cond, not, _&&_, _||_}
 use lib.Dec.{ltb, eqb}
+use Rattle.partlengths.specs.Cells.{entry, muxTable}
+use Rattle.partlengths.specs.Rates.{topLevel}
+use Rattle.partlengths.specs.Formulas.{hierarchical, cellsA}
 use Rattle.settings.specs.declared.Settings.{Settings}
-use Rattle.settings.specs.Cells.{entry, muxTable}
-use Rattle.settings.specs.Formulas.{hierarchical, cellsA}
 
 -- Occupancy 0 to 5; modes C and D have only 3 and 5.
 unfoldable pub paired : ℕ → ℕ → Bool
 paired mode occupancy = ltb occupancy 6 && (ltb mode 2 || (eqb occupancy 3 || eqb occupancy 5))
-
--- The greatest protection level of parts A and B: 3, but 1 in MSC mode 3.
-unfoldable pub topLevel : ℕ → ℕ
-topLevel msc = cond (eqb msc 3) 1 3
 
 -- The first test that holds gives its number.
 unfoldable pub first : Bool → ℕ → ℕ → ℕ

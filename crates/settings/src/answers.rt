@@ -2,9 +2,9 @@
 use crate::Lengths;
 use crate::Settings;
 use crate::Sizes;
-use crate::formulas;
 use crate::refusals;
-use crate::tables;
+use partlengths::formulas;
+use partlengths::tables;
 ghost use mathlib.Core.Path.{_≡_};
 ghost use Prim.Native.Nat.{_*_, _≤_};
 ghost use Rattle.settings.specs.Accepted.{Accepted};

@@ -1,8 +1,6 @@
 // The settings of a run, their refusals, and the lengths and sizes that follow from them.
 pub mod answers;
-pub mod formulas;
 pub mod refusals;
-pub mod tables;
 
 // 01 "Settings". All are unsigned numbers; any value may come in.
 pub struct Settings {

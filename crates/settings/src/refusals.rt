@@ -1,9 +1,10 @@
 // Refusals 1 to 7, lowest number first. 01 "Operations", Lengths.
 use crate::Settings;
-use crate::formulas;
-use crate::tables;
+use partlengths::formulas;
+use partlengths::tables;
 ghost use mathlib.Core.Path.{_≡_};
-ghost use Rattle.settings.specs.Refusal.{paired, topLevel, first, rangeRefusal, refusal};
+ghost use Rattle.partlengths.specs.Rates.{topLevel};
+ghost use Rattle.settings.specs.Refusal.{paired, first, rangeRefusal, refusal};
 
 // The number if the test holds, and otherwise what the later tests give.
 fn first_of(test: bool, number: u8, otherwise: u8) -> u8

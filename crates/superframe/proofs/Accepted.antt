@@ -4,7 +4,7 @@ use mathlib.Core.Path.{_≡_, _∙_}
 use native.Mathlib.Omega.{arith}
 use Rattle.channels.specs.declared.Scheme.{Scheme}
 use Rattle.channels.specs.Scheme.{schemeRefusal, SchemeAccepted}
-use Rattle.settings.specs.Formulas.{facBits}
+use Rattle.partlengths.specs.Formulas.{facBits}
 use Rattle.lists.specs.Bytes.{bytesFor}
 use Rattle.settings.specs.Sizes.{frameBytes, sdcBytes}
 use Rattle.channels.proofs.Schemes.{scheme-accepted}

@@ -10,7 +10,7 @@ use lib.IntN.{ℤ, pos}
 use lib.Dec.{eqb}
 use Rattle.settings.specs.declared.Settings.{Settings}
 use Rattle.channels.specs.declared.Scheme.{Scheme}
-use Rattle.settings.specs.Cells.{facCells}
+use Rattle.partlengths.specs.Cells.{facCells}
 use Rattle.settings.specs.Lengths.{nMux, nSfa, nSdc, lSdc}
 use Rattle.settings.specs.Sizes.{depth, frameBits, frameBytes, sdcBytes}
 use Rattle.lists.specs.Lists.{table}

@@ -15,7 +15,7 @@ use Rattle.lists.proofs.Parts.{getD-any}
 use Rattle.lists.proofs.Tables.{length-table}
 use Rattle.settings.specs.declared.Settings.{Settings}
 use Rattle.channels.specs.declared.Scheme.{Scheme}
-use Rattle.settings.specs.Cells.{facCells}
+use Rattle.partlengths.specs.Cells.{facCells}
 use Rattle.settings.specs.Lengths.{nMux, nSdc}
 use Rattle.settings.specs.Sizes.{depth}
 use Rattle.block.specs.Mapping.{Constellation, axis}

@@ -13,7 +13,7 @@ use Rattle.lists.proofs.Tables.{length-table, table-ext, table-from, map-table}
 use Rattle.interleaver.proofs.Places.{place-low}
 use Rattle.channels.specs.declared.Scheme.{Scheme}
 use Rattle.channels.specs.Scheme.{schemeRefusal}
-use Rattle.settings.specs.Cells.{facCells}
+use Rattle.partlengths.specs.Cells.{facCells}
 use Rattle.settings.specs.Lengths.{nMux}
 use Rattle.settings.specs.Sizes.{depth, frameBytes}
 use Rattle.block.specs.declared.Block.{Block}

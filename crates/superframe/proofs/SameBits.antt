@@ -12,7 +12,7 @@ use Rattle.lists.proofs.Counting.{below-or}
 use Rattle.lists.proofs.Tables.{length-table, getD-table, map-table}
 use Rattle.channels.specs.declared.Scheme.{Scheme}
 use Rattle.channels.specs.Scheme.{schemeRefusal}
-use Rattle.settings.specs.Cells.{facCells}
+use Rattle.partlengths.specs.Cells.{facCells}
 use Rattle.settings.specs.Sizes.{depth}
 use Rattle.block.specs.declared.Block.{Block}
 use Rattle.block.specs.Block.{cellsOf}

@@ -15,7 +15,7 @@ use Rattle.lists.specs.Lists.{table}
 use Rattle.lists.proofs.Tables.{length-table, map-table, take-table}
 use Rattle.channels.specs.declared.Scheme.{Scheme}
 use Rattle.channels.specs.Scheme.{schemeRefusal}
-use Rattle.settings.specs.Cells.{facCells}
+use Rattle.partlengths.specs.Cells.{facCells}
 use Rattle.settings.specs.Lengths.{nSdc, lSdc}
 use Rattle.settings.specs.Sizes.{depth, frameBits, frameBytes}
 use Rattle.block.specs.Packing.{spareZero}

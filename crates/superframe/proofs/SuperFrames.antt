@@ -8,7 +8,7 @@ use lib.IntN.{ℤ}
 use Rattle.lists.specs.Lists.{table}
 use Rattle.lists.proofs.Tables.{length-table, table-from}
 use Rattle.channels.specs.declared.Scheme.{Scheme}
-use Rattle.settings.specs.Cells.{facCells}
+use Rattle.partlengths.specs.Cells.{facCells}
 use Rattle.settings.specs.Lengths.{nMux, nSfa}
 use Rattle.block.specs.Block.{cellsOf}
 use Rattle.channels.specs.Fac.{facBlock}

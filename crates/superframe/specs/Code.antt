@@ -5,9 +5,9 @@ use mathlib.Core.List.{List, _++_, map}
 use lib.ListN.{length}
 use lib.IntN.{ℤ}
 use lib.Dec.{eqb, ltb}
+use Rattle.partlengths.specs.Cells.{facCells}
 use Rattle.settings.specs.declared.Settings.{Settings}
 use Rattle.settings.specs.Refusal.{first}
-use Rattle.settings.specs.Cells.{facCells}
 use Rattle.settings.specs.Lengths.{nSdc, nSfa, lSdc}
 use Rattle.settings.specs.Sizes.{frameBits, frameBytes, sdcBytes}
 use Rattle.block.specs.Packing.{spareZero}

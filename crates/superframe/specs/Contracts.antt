@@ -6,8 +6,8 @@ use mathlib.Core.List.{List}
 use lib.ListN.{length}
 use lib.IntN.{ℤ}
 use Rattle.lists.specs.Lists.{table}
+use Rattle.partlengths.specs.Cells.{facCells}
 use Rattle.settings.specs.declared.Settings.{Settings}
-use Rattle.settings.specs.Cells.{facCells}
 use Rattle.settings.specs.Lengths.{nMux, nSdc, nSfa}
 use Rattle.settings.specs.Sizes.{depth, frameBytes, sdcBytes}
 use Rattle.lists.specs.Bools.{every}

@@ -1,6 +1,7 @@
 // A super frame of a job: bytes in, bytes out.
-use calljobs::code::code_bytes;
-use calljobs::read::read_with;
+use crate::read::read_on_with;
+use crate::read::read_with;
+use codejobs::code::code_bytes;
 use console::Job;
 use gridjobs::grids::place_bytes;
 use gridjobs::grids::take_bytes;
@@ -10,7 +11,6 @@ use jobs::buffers::numbers_in;
 use jobs::refusal::job_refusal;
 use jobs::sizes::FAC_CELLS_LENGTH;
 use jobs::written::refused;
-use readonjobs::readon::read_on_with;
 use settings::Sizes;
 use settings::answers;
 use superframe::State;
@@ -18,7 +18,20 @@ ghost use mathlib.Core.Path.{_≡_};
 ghost use Prim.Native.Nat.{_≤_};
 ghost use lib.ListN.{length};
 ghost use Rattle.jobs.specs.Contracts.{Lent, readJob};
-ghost use Rattle.jobs.specs.SuperFrame.{jobYield, jobCall, jobOf};
+ghost use Rattle.jobs.specs.SuperFrame.{jobYield, jobCall, jobOf, readsOn};
+
+// Whether a job counts what is lost.
+pub fn reads_on(job: Job) -> bool
+    ensures { λ r. ⌜ r ≡ readsOn job ⌝ }
+{
+    match job {
+        Job::Code => false,
+        Job::Read => false,
+        Job::ReadOn => true,
+        Job::Grid => false,
+        Job::Ungrid => false,
+    }
+}
 
 // The jobs `read` and `read-on` on buffers of the right lengths.
 fn read_bytes(

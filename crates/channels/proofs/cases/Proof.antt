@@ -7,10 +7,10 @@ use Rattle.component.specs.Register.{next, parity, parities}
 use Rattle.patterns.specs.Patterns.{printed65, rows, table65, begins, entry as tableEntry, column, pattern, numerators, denominators, RX, RY}
 use Rattle.component.specs.Codeword.{encode, kept, following}
 use Rattle.interleaver.specs.Interleaving.{place, nextPlace, again, step, offset, size, doubled}
-use Rattle.settings.specs.Rates.{rates, table67, table68, table69, table71, commonDenominator, vsppRate, sdcRates}
-use Rattle.settings.specs.Cells.{entry, muxTable}
-use Rattle.settings.specs.Formulas.{hierarchical, width, bitsA, bitsB, partA, partB, partVspp, roundUp, cellsA, sdcBits}
-use Rattle.settings.specs.Refusal.{paired, topLevel, first, rangeRefusal, refusal}
+use Rattle.partlengths.specs.Rates.{topLevel, rates, table67, table68, table69, table71, commonDenominator, vsppRate, sdcRates}
+use Rattle.partlengths.specs.Cells.{entry, muxTable}
+use Rattle.partlengths.specs.Formulas.{hierarchical, width, bitsA, bitsB, partA, partB, partVspp, roundUp, cellsA, sdcBits}
+use Rattle.settings.specs.Refusal.{paired, first, rangeRefusal, refusal}
 use Rattle.settings.specs.Lengths.{nMux, n1, n2, l2, lVspp}
 use Rattle.block.specs.Dispersal.{p, sequence}
 use Rattle.block.specs.Mapping.{standard64, symmetric64, coordinate, labelAt}

@@ -1,9 +1,11 @@
 -- `read_each` meets its contract. The loop's invariant: the blocks before i are read. Assumes nothing.
-use Prim.Native.Nat.{_-_}
+use Prim.Native.Nat.{_-_, _*_}
 use mathlib.Core.Path.{_≡_, refl, _∙_}
 use native.Mathlib.Omega.{arith}
 use borrow.Author.Needs.{needs}
 use lib.ListN.{length}
+use lib.Seq.{length-front}
+use Rattle.lists.proofs.Parts.{length-start}
 use Rattle.blockcoder.proofs.Each.{work-same, bytes-are}
 use Rattle.blockreader.proofs.BlockTurns.{Blocks, blocks-start, cells-within, bytes-within, out-within, block-lent, block-turn, blocks-end}
 use Rattle.blockreader.proofs.several.read_each.Statement.{statement}
@@ -37,8 +39,8 @@ mul-read-lent c = let h = cells-within (c .before .before .before .before .befor
 part-read-lent-end : tie.Need-part-read-lent-end Inv-loop μ-loop
 part-read-lent-end c = cells-within (c .before .before .before .before .before .before .before .before .before .before .pre .0 .0) refl (c .loop-test .taken)
 
-slice-aggregate-read-lent : tie.Need-slice-aggregate-read-lent Inv-loop μ-loop
-slice-aggregate-read-lent c = omega (arith, c .before .before .before .before .before .before .loop .inv .4, c .before .before .before .before .before .before .before .before .before .coordinate-buffer .ensures .long)
+part-again-end : tie.Need-part-again-end Inv-loop μ-loop
+part-again-end c = omega (arith, c .before .before .before .before .before .loop .inv .4, c .before .before .before .before .before .before .before .before .coordinate-buffer .ensures .long, c .before .before .before .before .before .before .before .before .before .before .before .before .before .before .pre .0 .0 .fits .most)
 
 add-read-lent-2 : tie.Need-add-read-lent-2 Inv-loop μ-loop
 add-read-lent-2 c = let h = bytes-within (c .before .before .before .before .before .before .before .before .before .before .before .before .before .before .before .pre .0 .0) (bytes-are _ (c .before .before .before .before .before .before .before .bit-count .ensures)) (c .before .before .before .before .before .loop-test .taken) in search needs
@@ -53,7 +55,7 @@ read-lent-requires c κs =
       (
         block-lent (p .0 .0) (v .0) (c .before .before .before .before .before .before .loop-test .taken) refl (bytes-are _ (c .before .before .before .before .before .before .before .before .bit-count .ensures)),
         work-same (p .0 .1) (v .1) (v .2) (v .3),
-        omega (arith, v .4, c .before .before .before .before .before .before .before .before .before .before .coordinate-buffer .ensures .long, p .0 .0 .fits .most),
+        length-start _ _ (omega (arith, v .4, c .before .before .before .before .before .before .before .before .before .before .coordinate-buffer .ensures .long, p .0 .0 .fits .most)),
       ),
       p .1,
     )
@@ -73,7 +75,7 @@ loop-again c =
       r .kept .1 .1 .1 .0 ∙ v .1,
       r .kept .1 .1 .1 .1 .0 ∙ v .2,
       r .kept .1 .1 .1 .1 .1 .0 ∙ v .3,
-      r .kept .1 .1 .1 .1 .1 .1 .0 ∙ v .4,
+      length-front (b .before .loop .again) (r .last .1 .1 .1 .1 .1 .1 .0) (2 * b .before .before .before .before .before .before .before .before .before .before .args .k .cells - 0) (r .kept .1 .1 .1 .1 .1 .1 .0) ∙ v .4,
     )
 
 returns : tie.Need-returns Inv-loop μ-loop
@@ -81,4 +83,4 @@ returns c = blocks-end (c .before .before .before .before .before .before .befor
 
 pub read-each-spec : {M : Type 1} → statement M
 read-each-spec =
-    tie.close (tie.spec Inv-loop μ-loop (λ c κs. search needs) (λ c. omega (arith, c .before .before .before .before .before .before .before .pre .0 .0 .fits .most)) (λ c κs. c .before .before .before .before .before .before .before .pre .0 .0 .fits) add-m loop-holds mul-at mul-to add-read-lent mul-read-lent (λ c. search needs) (λ c. search needs) part-read-lent-end slice-aggregate-read-lent add-read-lent-2 (λ c. search needs) (λ c. search needs) part-read-lent-end-2 read-lent-requires array-write-given add-i (λ c. omega (arith, c .before .before .before .before .before .before .before .before .before .before .before .before .before .before .before .before .loop-test .taken)) loop-again (λ c. c .before .loop .inv .1) (λ c. c .before .loop .inv .2) (λ c. c .before .loop .inv .3) (λ c. c .before .loop .inv .0 .long) returns)
+    tie.close (tie.spec Inv-loop μ-loop (λ c κs. search needs) (λ c. omega (arith, c .before .before .before .before .before .before .before .pre .0 .0 .fits .most)) (λ c κs. c .before .before .before .before .before .before .before .pre .0 .0 .fits) add-m loop-holds mul-at mul-to add-read-lent mul-read-lent (λ c. search needs) (λ c. search needs) part-read-lent-end (λ c. search needs) (λ c. search needs) part-again-end add-read-lent-2 (λ c. search needs) (λ c. search needs) part-read-lent-end-2 read-lent-requires array-write-given add-i (λ c. omega (arith, c .before .before .before .before .before .before .before .before .before .before .before .before .before .before .before .before .loop-test .taken)) loop-again (λ c. c .before .loop .inv .1) (λ c. c .before .loop .inv .2) (λ c. c .before .loop .inv .3) (λ c. c .before .loop .inv .0 .long) returns)

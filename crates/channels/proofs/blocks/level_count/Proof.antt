@@ -1,7 +1,7 @@
 use mathlib.Core.Path.{sym, _∙_}
 use native.Mathlib.Omega.{arith}
 use borrow.Author.Needs.{needs}
-use Rattle.settings.proofs.Levels.{few-rates}
+use Rattle.partlengths.proofs.Levels.{few-rates}
 use Rattle.channels.proofs.Msc.{length-levels}
 use Rattle.channels.proofs.blocks.level_count.Statement.{statement}
 use Rattle.channels.proofs.blocks.level_count.Tie as tie

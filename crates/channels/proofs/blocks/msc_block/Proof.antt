@@ -1,7 +1,7 @@
 use mathlib.Core.Path.{ap, _∙_}
 use native.Mathlib.Omega.{arith}
 use borrow.Author.Needs.{needs}
-use Rattle.settings.specs.Formulas.{partVspp}
+use Rattle.partlengths.specs.Formulas.{partVspp}
 use Rattle.settings.specs.Lengths.{nMux, n1, lVspp}
 use Rattle.channels.proofs.Made.{msc-made}
 use Rattle.channels.proofs.blocks.msc_block.Statement.{statement}

@@ -2,8 +2,8 @@ use mathlib.Core.Path.{ap, _∙_}
 use Prim.Native.Nat.{_-_}
 use native.Mathlib.Omega.{arith}
 use borrow.Author.Needs.{needs}
+use Rattle.partlengths.proofs.Levels.{few-rates}
 use Rattle.settings.specs.Lengths.{nMux, n1, n2}
-use Rattle.settings.proofs.Levels.{few-rates}
 use Rattle.channels.proofs.Made.{rate-known, level-none, level-some}
 use Rattle.channels.proofs.blocks.protected_level.Statement.{statement}
 use Rattle.channels.proofs.blocks.protected_level.Tie as tie

@@ -1,7 +1,7 @@
 -- `code::code_accepted` meets its contract. Assumes nothing.
 use borrow.Author.Needs.{needs}
 use Rattle.superframe.specs.Call.{memoryLength}
-use Rattle.settings.specs.Cells.{facCells}
+use Rattle.partlengths.specs.Cells.{facCells}
 use Rattle.channels.proofs.Schemes.{scheme-accepted}
 use Rattle.channels.proofs.Lent.{sdc-lent}
 use Rattle.codecall.proofs.CodeCalls.{accepted-call}

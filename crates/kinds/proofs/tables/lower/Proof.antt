@@ -1,6 +1,6 @@
 use borrow.Author.Needs.{needs}
 use Rattle.lists.specs.Lists.{table}
-use Rattle.settings.specs.Cells.{entry}
+use Rattle.partlengths.specs.Cells.{entry}
 use Rattle.kinds.specs.Carriers.{lowerTable, lower}
 use Rattle.kinds.proofs.Bands.{flat-at}
 use Rattle.kinds.proofs.tables.lower.Statement.{statement}

@@ -1,5 +1,5 @@
 -- `undamaged` meets its contract. Assumes nothing.
-use Rattle.settings.specs.Formulas.{facBits}
+use Rattle.partlengths.specs.Formulas.{facBits}
 use Rattle.measured.specs.Theorems.{Undamaged}
 use Rattle.measured.proofs.Undamaged.{decided, coded-points, fac-found}
 use Rattle.measured.proofs.theorems.undamaged.Statement.{statement}

@@ -2,11 +2,10 @@
 use Prim.Native.Nat.{_/_}
 use mathlib.Core.Path.{_∙_}
 use native.Mathlib.Omega.{arith}
-use borrow.Author.Needs.{needs}
 use lib.ListN.{length}
 use Rattle.block.specs.Block.{oneAxis}
 use Rattle.lists.proofs.Tables.{replicate-table}
-use Rattle.multilevel.proofs.Turns.{weight-low, next-near}
+use Rattle.multilevel.proofs.Turns.{one-less, weight-low, next-near}
 use Rattle.multilevel.proofs.Summing.{Summing, start, codes-at, turned, Over, over-start, over-turned, some-step, few-by, labels-done, coded-done}
 use Rattle.multilevel.proofs.code.code_levels.Statement.{statement}
 use Rattle.multilevel.proofs.code.code_levels.Tie as tie
@@ -43,7 +42,7 @@ same-length-2 : tie.Need-same-length-2 Inv-loop μ-loop
 same-length-2 c = c .before .loop .inv .0 .long ∙ c .before .before .before .before .before .before .clear .kept .0
 
 returns : tie.Need-returns Inv-loop μ-loop
-returns c = (labels-done _ (c .before .before .before .sharing .ensures) (c .before .loop .inv .0) (search needs) (c .before .before .before .before .before .before .clear .kept .0), coded-done _ (c .before .before .before .sharing .ensures) (c .before .loop .inv .1) (search needs))
+returns c = (labels-done _ (c .before .before .before .sharing .ensures) (c .before .loop .inv .0) (c .loop-test .left) (c .before .before .before .before .before .before .clear .kept .0), coded-done _ (c .before .before .before .sharing .ensures) (c .before .loop .inv .1) (c .loop-test .left))
 
 pub code-levels-spec : {M : Type 1} → statement M
-code-levels-spec = tie.close (tie.spec Inv-loop μ-loop (λ c κs. search needs) (λ c κs. search needs) div-left loop-holds code-at-requires add-l mul-weight (λ c. search needs) (λ c. search needs) loop-again same-length same-length-2 returns)
+code-levels-spec = tie.close (tie.spec Inv-loop μ-loop (λ c κs. tt) (λ c κs. tt) div-left loop-holds code-at-requires add-l mul-weight (λ c. c .before .before .before .before .before .before .before .loop-test .taken) (λ c. one-less (c .before .before .before .before .before .before .before .loop-test .taken)) loop-again same-length same-length-2 returns)

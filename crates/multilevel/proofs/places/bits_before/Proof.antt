@@ -10,10 +10,10 @@ use Rattle.multilevel.proofs.places.bits_before.Statement.{statement}
 use Rattle.multilevel.proofs.places.bits_before.Tie as tie
 
 abbrev Inv-loop : tie.InvT-loop
-Inv-loop b l levels sum₀ i₀ sum i = (sum ≡ bitsBefore levels b i) × (i ≤ l)
+Inv-loop b l k sum₀ i₀ sum i = (sum ≡ bitsBefore (k .levels) b i) × (i ≤ l)
 
 abbrev μ-loop : tie.MeasureT-loop
-μ-loop b l levels sum₀ i₀ sum i = l - i
+μ-loop b l k sum₀ i₀ sum i = l - i
 
 loop-holds : tie.Need-loop-holds Inv-loop μ-loop
 unfolding bitsBefore
@@ -23,7 +23,7 @@ add-sum : tie.Need-add-sum Inv-loop μ-loop
 unfolding levelAt
 add-sum c =
     let l = c .before .before .before in
-    omega (arith, l .loop .inv .0, before-fits (c .before .before .before .before .before .pre) (l .loop .i) (search needs), c .bits-in .ensures)
+    omega (arith, l .loop .inv .0, before-fits (c .before .before .before .before .pre) (l .loop .i) (search needs), c .bits-in .ensures)
 
 loop-again : tie.Need-loop-again Inv-loop μ-loop
 unfolding levelAt
@@ -34,7 +34,7 @@ loop-again c =
 returns : tie.Need-returns Inv-loop μ-loop
 returns c =
     let l = c .before .loop in
-    let e : l .i ≡ c .before .before .before .args .l = omega (arith, l .inv .1) in
+    let e : l .i ≡ c .before .before .args .l = omega (arith, l .inv .1) in
     l .inv .0 ∙ rw e
 
 pub bits-before-spec : {M : Type 1} → statement M

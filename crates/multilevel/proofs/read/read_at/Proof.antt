@@ -1,4 +1,5 @@
 -- `read::read_at` meets its contract. Assumes nothing.
+use native.Mathlib.Nat.{le-add-right}
 use native.Mathlib.Omega.{arith}
 use borrow.Author.Needs.{needs}
 use Rattle.blockplaces.specs.Contracts.{levelAt}
@@ -8,44 +9,32 @@ use Rattle.multilevel.proofs.LevelsRead.{whole, ends, reads-level, read
 use Rattle.multilevel.proofs.read.read_at.Statement.{statement}
 use Rattle.multilevel.proofs.read.read_at.Tie as tie
 
-bits-before-requires : tie.Need-bits-before-requires
-bits-before-requires c κs = sums-a (c .before .before .before .before .before .before .pre .level)
-
-bits-before-requires-2 : tie.Need-bits-before-requires-2
-bits-before-requires-2 c κs = sums-front (c .before .before .before .before .before .before .before .pre .fits)
-
-bits-before-requires-3 : tie.Need-bits-before-requires-3
-bits-before-requires-3 c κs = sums-b (c .before .before .before .before .before .before .before .before .pre .level)
-
 add-from : tie.Need-add-from
 add-from c =
-    let W = whole (c .before .before .before .before .before .before .before .before .before .pre) (c .before .before .bits-before .ensures) (c .before .bits-before2 .ensures) (c .bits-before3 .ensures) in
-    let E = ends (c .before .before .before .before .before .before .before .before .before .pre) (c .before .before .bits-before .ensures) (c .before .bits-before2 .ensures) (c .bits-before3 .ensures) in
+    let W = whole (c .before .before .before .before .before .before .before .before .pre) (c .before .before .bits-before .ensures) (c .before .bits-before2 .ensures) (c .bits-before3 .ensures) in
+    let E = ends (c .before .before .before .before .before .before .before .before .pre) (c .before .before .bits-before .ensures) (c .before .bits-before2 .ensures) (c .bits-before3 .ensures) in
     omega (arith, E .1, W .3)
 
-mul-read-level : tie.Need-mul-read-level
-mul-read-level c = omega (arith, place-fits (c .before .before .before .before .before .before .before .before .before .before .pre .level) (c .digit .ensures))
-
-mul-read-level-2 : tie.Need-mul-read-level-2
-mul-read-level-2 c = omega (arith, place-fits (c .before .before .before .before .before .before .before .before .before .before .pre .level) (c .digit .ensures))
-
-mul-read-level-3 : tie.Need-mul-read-level-3
-mul-read-level-3 c = omega (arith, place-fits (c .before .before .before .before .before .before .before .before .before .before .pre .level) (c .digit .ensures))
+mul-start : tie.Need-mul-start
+mul-start c = omega (arith, place-fits (c .before .before .before .before .before .before .before .before .before .pre .level) (c .digit .ensures))
 
 add-read-level : tie.Need-add-read-level
-add-read-level c = omega (arith, place-fits (c .before .before .before .before .before .before .before .before .before .before .pre .level) (c .digit .ensures), c .before .before .before .before .before .before .before .before .before .before .pre .level .high)
+add-read-level c = omega (arith, place-fits (c .before .before .before .before .before .before .before .before .before .pre .level) (c .digit .ensures), c .before .before .before .before .before .before .before .before .before .pre .level .high)
+
+mul-read-level : tie.Need-mul-read-level
+mul-read-level c = omega (arith, place-fits (c .before .before .before .before .before .before .before .before .before .pre .level) (c .digit .ensures))
 
 part-read-level-end : tie.Need-part-read-level-end
-part-read-level-end c = place-room (c .before .before .before .before .before .before .before .before .before .before .pre .level) (c .digit .ensures)
+part-read-level-end c = place-room (c .before .before .before .before .before .before .before .before .before .pre .level) (c .digit .ensures)
 
 read-level-requires : tie.Need-read-level-requires
 unfolding levelAt
-read-level-requires c κs = reads-level (c .before .before .before .before .before .before .before .before .before .before .before .before .before .pre) (c .before .before .before .before .before .before .bits-before .ensures) (c .before .before .before .before .before .bits-before2 .ensures) (c .before .before .before .before .bits-before3 .ensures) (c .before .before .before .digit .ensures)
+read-level-requires c κs = reads-level (c .before .before .before .before .before .before .before .before .before .before .before .before .pre) (c .before .before .before .before .before .before .bits-before .ensures) (c .before .before .before .before .before .bits-before2 .ensures) (c .before .before .before .before .bits-before3 .ensures) (c .before .before .before .digit .ensures)
 
 returns : tie.Need-returns
 unfolding levelAt
-returns c = (read-at (c .before .before .before .before .before .before .before .before .before .before .before .before .before .before .before .before .before .before .pre) (c .before .before .before .before .before .before .before .before .before .before .before .bits-before .ensures) (c .before .before .before .before .before .before .before .before .before .before .bits-before2 .ensures) (c .before .before .before .before .before .before .before .before .before .bits-before3 .ensures) (c .before .before .before .before .read-level .ensures .0), c .before .before .before .before .read-level .ensures .1)
+returns c = (read-at (c .before .before .before .before .before .before .before .before .before .before .before .before .before .before .before .before .before .pre) (c .before .before .before .before .before .before .before .before .before .before .before .bits-before .ensures) (c .before .before .before .before .before .before .before .before .before .before .bits-before2 .ensures) (c .before .before .before .before .before .before .before .before .before .bits-before3 .ensures) (c .before .before .before .before .read-level .ensures .0), c .before .before .before .before .read-level .ensures .1)
 
 pub read-at-spec : {M : Type 1} → statement M
 read-at-spec =
-    tie.close (tie.spec (λ c. search needs) (λ c. search needs) bits-before-requires bits-before-requires-2 bits-before-requires-3 add-from (λ c κs. search needs) mul-read-level mul-read-level-2 add-read-level mul-read-level-3 (λ c. search needs) (λ c. search needs) part-read-level-end read-level-requires (λ c. search needs) (λ c. search needs) returns)
+    tie.close (tie.spec (λ c. search needs) (λ c. c .before .before .before .before .pre .level .there) (λ c κs. sums-a (c .before .before .before .before .before .pre .level)) (λ c κs. sums-front (c .before .before .before .before .before .before .pre .fits)) (λ c κs. sums-b (c .before .before .before .before .before .before .before .pre .level)) add-from (λ c κs. tt) mul-start add-read-level mul-read-level (λ c. le-add-right _ _) (λ c. le-add-right _ _) part-read-level-end read-level-requires (λ c. c .before .before .before .before .read-level .kept .1 .1 .1 .1 .0) (λ c. c .before .before .before .before .read-level .kept .1 .1 .1 .1 .1 .0) returns)

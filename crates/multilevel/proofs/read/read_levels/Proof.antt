@@ -1,9 +1,8 @@
 -- `read::read_levels` meets its contract. Assumes nothing.
 use mathlib.Core.Path.{refl}
 use native.Mathlib.Omega.{arith}
-use borrow.Author.Needs.{needs}
 use Rattle.multilevel.proofs.Summing.{some-step}
-use Rattle.multilevel.proofs.Turns.{weight-low, next-near}
+use Rattle.multilevel.proofs.Turns.{one-less, weight-low, next-near}
 use Rattle.multilevel.proofs.LevelsRead.{Reading, start, reads-at, turned, done}
 use Rattle.multilevel.proofs.read.read_levels.Statement.{statement}
 use Rattle.multilevel.proofs.read.read_levels.Tie as tie
@@ -36,8 +35,8 @@ loop-again c =
     turned (c .before .before .before .before .before .before .before .before .before .before .before .before .before .before .before .pre) (c .before .before .before .before .before .before .before .before .loop .inv) (c .before .before .before .before .before .before .before .loop-test .taken) (r .kept .1 .1 .1 .1 .1 .1 .0) (r .kept .1 .1 .1 .1 .1 .0) (r .ensures .0) (r .ensures .1)
 
 returns : tie.Need-returns Inv-loop μ-loop
-returns c = done (c .before .before .before .before .before .before .before .before .pre) (c .before .loop .inv) (c .before .before .before .sharing .ensures) refl (search needs)
+returns c = done (c .before .before .before .before .before .before .before .before .pre) (c .before .loop .inv) (c .before .before .before .sharing .ensures) refl (c .loop-test .left)
 
 pub read-levels-spec : {M : Type 1} → statement M
 read-levels-spec =
-    tie.close (tie.spec Inv-loop μ-loop (λ c κs. search needs) div-left loop-holds read-at-requires add-l mul-weight (λ c. search needs) (λ c. search needs) loop-again (λ c. search needs) (λ c. search needs) returns)
+    tie.close (tie.spec Inv-loop μ-loop (λ c κs. tt) div-left loop-holds read-at-requires add-l mul-weight (λ c. c .before .before .before .before .before .before .before .loop-test .taken) (λ c. one-less (c .before .before .before .before .before .before .before .loop-test .taken)) loop-again (λ c. c .before .loop .inv .sameCoded) (λ c. c .before .loop .inv .same) returns)

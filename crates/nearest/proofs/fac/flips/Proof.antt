@@ -1,7 +1,7 @@
 -- `flips` meets its contract. Assumes nothing.
 use borrow.Author.Needs.{needs}
 use mathlib.Core.Path.{_∙_}
-use Rattle.settings.specs.Formulas.{facBits}
+use Rattle.partlengths.specs.Formulas.{facBits}
 use Rattle.nearest.specs.Coded.{facFlips}
 use Rattle.nearest.proofs.Blocks.{dispersed-zeros}
 use Rattle.nearest.proofs.fac.flips.Statement.{statement}

@@ -1,9 +1,9 @@
 -- `refusal` meets its contract. Assumes nothing.
 use Rattle.lists.specs.Bytes.{bytesFor}
 use borrow.Author.Tests.{eq-eqb, ne-eqb}
+use Rattle.partlengths.specs.Cells.{facCells}
+use Rattle.partlengths.specs.Formulas.{facBits}
 use Rattle.settings.specs.Refusal.{first}
-use Rattle.settings.specs.Cells.{facCells}
-use Rattle.settings.specs.Formulas.{facBits}
 use Rattle.nearest.specs.Fac.{nearestRefusalBy}
 use borrow.Author.Needs.{needs}
 use Rattle.nearest.proofs.fac.refusal.Statement.{statement}

@@ -1,7 +1,7 @@
 -- `nearest_blocks` meets its contract. Assumes nothing.
 use lib.ListN.{length}
-use Rattle.settings.specs.Cells.{facCells}
-use Rattle.settings.specs.Formulas.{facBits}
+use Rattle.partlengths.specs.Cells.{facCells}
+use Rattle.partlengths.specs.Formulas.{facBits}
 use Rattle.channels.specs.Fac.{facBlock}
 use Rattle.nearest.specs.Coded.{coded, facSent}
 use Rattle.nearest.specs.Fac.{facNearest}

@@ -2,7 +2,7 @@ use borrow.Author.Needs.{needs}
 use mathlib.Core.Path.{sym, subst}
 use Prim.Native.Nat.{_-_, _≤_}
 use native.Mathlib.Omega.{arith}
-use Rattle.settings.specs.Accepted.{Whole}
+use Rattle.partlengths.specs.Contracts.{Whole}
 use Rattle.settings.specs.Lengths.{nMux, n1}
 use Rattle.settings.proofs.Bounds.{Found, found, is-accepted, Short, short}
 use Rattle.settings.proofs.answers.all_lengths.Statement.{statement}

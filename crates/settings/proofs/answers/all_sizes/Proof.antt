@@ -1,9 +1,9 @@
 use borrow.Author.Needs.{needs}
 use mathlib.Core.Path.{_∙_, ap}
 use native.Mathlib.Omega.{arith}
-use Rattle.settings.specs.Formulas.{sdcBits}
-use Rattle.settings.specs.Lengths.{nSdc, nSfa, lSdc}
 use Rattle.lists.specs.Bytes.{bytesFor}
+use Rattle.partlengths.specs.Formulas.{sdcBits}
+use Rattle.settings.specs.Lengths.{nSdc, nSfa, lSdc}
 use Rattle.settings.specs.Sizes.{sdcBytes}
 use Rattle.settings.proofs.Buffers.{Sized, is-allSizes, Few, few}
 use Rattle.settings.proofs.answers.all_sizes.Statement.{statement}

@@ -1,6 +1,6 @@
 use borrow.Author.Needs.{needs}
 use Rattle.lists.specs.Bytes.{bytesFor}
-use Rattle.settings.specs.Formulas.{roundUp}
+use Rattle.partlengths.specs.Formulas.{roundUp}
 use Rattle.settings.proofs.answers.bytes_for.Statement.{statement}
 use Rattle.settings.proofs.answers.bytes_for.Tie as tie
 

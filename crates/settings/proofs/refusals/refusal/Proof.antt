@@ -3,9 +3,9 @@ use mathlib.Core.Path.{_≡_, _∙_, sym, ap₂}
 use Prim.Native.Nat.{ℕ, _-_}
 use native.Mathlib.Omega.{arith}
 use lib.Dec.{ltb}
+use Rattle.partlengths.specs.Formulas.{cellsA}
+use Rattle.partlengths.specs.Cells.{entry, muxTable}
 use Rattle.settings.specs.declared.Settings.{Settings}
-use Rattle.settings.specs.Formulas.{cellsA}
-use Rattle.settings.specs.Cells.{entry, muxTable}
 use Rattle.settings.specs.Lengths.{nMux, n1}
 use Rattle.settings.specs.Refusal.{first, refusal, rangeRefusal}
 use Rattle.settings.proofs.Chain.{ranges-of, refused-early, refused-late}

@@ -1,5 +1,5 @@
 use borrow.Author.Tests.{eq-eqb, ne-eqb}
-use Rattle.settings.specs.Refusal.{topLevel}
+use Rattle.partlengths.specs.Rates.{topLevel}
 use Rattle.settings.proofs.refusals.top_level.Statement.{statement}
 use Rattle.settings.proofs.refusals.top_level.Tie as tie
 

@@ -1,0 +1,2 @@
+mod CellsRead
+mod Packed

@@ -1,0 +1,2 @@
+// The call Code on the buffers of a job.
+pub mod code;

@@ -1,0 +1,4 @@
+pub mod Rates
+pub mod Cells
+pub mod Formulas
+pub mod Contracts
