@@ -1,4 +1,6 @@
 // Writes the counts of annex J, tables J.1 to J.24: a line for each row, `J.` with the table's number and then its counts.
+#![tactic(auto)]
+
 use libc::STDOUT_FILENO;
 use settings::Settings;
 

@@ -1,10 +1,12 @@
 // A block in general: dispersal, partition, component code, bit interleaving and mapping over its levels. Definitions and laws, and working buffers.
+#![tactic(auto)]
+
 use patterns::Pattern;
 
 pub mod buffers;
 
 // A level: its input bits in parts A and B, the puncturing patterns of both and of its tail, and the interleaver's t, 0 where it isn't interleaved.
-#[derive(Drop)]
+#[derive(Clone, Copy)]
 pub struct Level {
     pub bitsa: usize,
     pub bitsb: usize,
@@ -16,7 +18,7 @@ pub struct Level {
 
 // A block (FAC block, SDC block or multiplex frame): how many of its bits are dispersed by themselves in front, its levels (room for six, and
 // how many they are), its constellation, its cells, and how many of them are part A's.
-#[derive(Drop)]
+#[derive(Clone, Copy)]
 pub struct Block {
     pub vspp: usize,
     pub levels: [Level; 6],

@@ -1,2 +1,4 @@
 // A cell as a byte.
+#![tactic(auto)]
+
 pub mod cells;

@@ -1,11 +1,13 @@
 // FAC blocks, SDC blocks and multiplex frames as blocks.
+#![tactic(auto)]
+
 use settings::Settings;
 
 pub mod blocks;
 pub mod tables;
 
 // What a run's blocks are made by: its settings, and the puncturing table that it was begun with. 02 S-11.
-#[derive(Drop)]
+#[derive(Clone, Copy)]
 pub struct Scheme {
     pub settings: Settings,
     pub table: [u8; 196],

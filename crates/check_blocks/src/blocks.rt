@@ -25,7 +25,7 @@ pub const SDC: u8 = 1;
 pub const FRAME: u8 = 2;
 
 // The state of the draws after a block, and the digest of its cells.
-#[derive(Drop)]
+#[derive(Clone, Copy)]
 pub struct Drawn {
     pub x: u64,
     pub digest: u64,

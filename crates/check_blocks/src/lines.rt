@@ -4,7 +4,7 @@ use settings::{Lengths, Settings, answers, refusals};
 use vectors::{pairings, text};
 
 // The number of the next line, and how many settings have been gone through.
-#[derive(Drop)]
+#[derive(Clone, Copy)]
 struct Place {
     line: u64,
     counter: usize,

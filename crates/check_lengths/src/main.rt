@@ -1,4 +1,6 @@
 // Writes a digest of refusals, lengths and sizes for each mode, occupancy and MSC mode, to be compared with another program's.
+#![tactic(auto)]
+
 use libc::STDOUT_FILENO;
 use settings::{Lengths, Settings, Sizes};
 use vectors::digests::taken;

@@ -1,5 +1,7 @@
 // The general search at short lengths over all rates and tail rows, a line for each rate and length with the digest of what it finds, in the order of
 // second/README.md, "nearest". The stored lines are those of the second program, which tries all bits.
+#![tactic(auto)]
+
 ghost use Rattle.std.specs.Prelude.{◌≡◌, ◌≤◌, ◌<◌, length};
 ghost use Rattle.check_nearest.specs.Lists.{Below, Lends};
 
@@ -9,7 +11,7 @@ use patterns::table::{pattern, standard_table, tail_pattern};
 use vectors::{digests, draws, text};
 
 // The state of the generator, and the digest so far.
-#[derive(Drop)]
+#[derive(Clone, Copy)]
 struct Place {
     x: u64,
     digest: u64,

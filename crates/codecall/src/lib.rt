@@ -1,2 +1,4 @@
 // The call Code.
+#![tactic(auto)]
+
 pub mod code;

@@ -1,2 +1,4 @@
 // The call Code on the buffers of a job.
+#![tactic(auto)]
+
 pub mod code;

@@ -14,7 +14,7 @@ ghost use Rattle.component.specs.Coding.{Encodes, Encoded, Widths, Decodes, Deco
 use patterns::Pattern;
 
 // A coder's register, and the place of the next coded bit.
-#[derive(Drop)]
+#[derive(Clone, Copy)]
 pub struct Coder {
     pub register: u32,
     pub at: usize,

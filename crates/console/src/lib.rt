@@ -1,4 +1,6 @@
 // What the desk's program is asked.
+#![tactic(auto)]
+
 pub mod arguments;
 pub mod bytes;
 pub mod names;
@@ -6,7 +8,7 @@ pub mod names;
 use settings::Settings;
 
 // A job on super frames.
-#[derive(Drop)]
+#[derive(Clone, Copy)]
 pub enum Job {
     Code,
     Read,
@@ -16,21 +18,21 @@ pub enum Job {
 }
 
 // A job on multiplex frames: logical frames of streams into them, and out of them.
-#[derive(Drop)]
+#[derive(Clone, Copy)]
 pub enum MuxJob {
     Mux,
     Demux,
 }
 
 // A hold file from its old form to the new one, and back.
-#[derive(Drop)]
+#[derive(Clone, Copy)]
 pub enum TurnJob {
     ToNew,
     ToOld,
 }
 
 // A job on lines, with its settings where it has any.
-#[derive(Drop)]
+#[derive(Clone, Copy)]
 pub enum LineJob {
     Nearest,
     FacBuild(Settings),
@@ -38,7 +40,7 @@ pub enum LineJob {
 }
 
 // A job that has settings.
-#[derive(Drop)]
+#[derive(Clone, Copy)]
 pub enum SettingsJob {
     Frames(Job),
     FacBuild,
@@ -50,7 +52,7 @@ pub enum SettingsJob {
 }
 
 // What a job's name names.
-#[derive(Drop)]
+#[derive(Clone, Copy)]
 pub enum Named {
     Has(SettingsJob),
     Nearest,
@@ -59,7 +61,7 @@ pub enum Named {
 }
 
 // What the arguments ask for.
-#[derive(Drop)]
+#[derive(Clone, Copy)]
 pub enum Start {
     Usage,
     // Settings that are refused.

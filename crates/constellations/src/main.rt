@@ -1,4 +1,6 @@
 // Writes every point of the five constellations: the constellation, the numbers of level bits of its real and imaginary axis, and its coordinates.
+#![tactic(auto)]
+
 ghost use Rattle.std.specs.Prelude.{◌<◌};
 
 use libc::STDOUT_FILENO;

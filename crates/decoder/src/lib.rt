@@ -1,2 +1,4 @@
 // The bits of a segment from its coded ones.
+#![tactic(auto)]
+
 pub mod segment;

@@ -1,4 +1,6 @@
 // The desk's program: it reads, calls the jobs and writes. What is decided and what is said stands in `turns`, `console`, `words` and the crates of the jobs.
+#![tactic(auto)]
+
 mod super_frames;
 
 use console::{Start, arguments};

@@ -15,7 +15,7 @@ use turns::{End, Next, turn};
 use words::Counted;
 
 // A super frame, and the state after it.
-#[derive(Drop)]
+#[derive(Clone, Copy)]
 struct Turn {
     next: Next,
     state: State,
@@ -44,7 +44,7 @@ fn take(job: Job, state: State, bytes: &mut [u8], memory: &mut [u8], out: &mut [
 }
 
 // A run: how it ended, how many super frames went through, what it lost, and the state after them.
-#[derive(Drop)]
+#[derive(Clone, Copy)]
 struct Ran {
     end: End,
     count: u64,

@@ -1,2 +1,4 @@
 // Cells as bytes: 16-bit two's-complement numbers, low byte first.
+#![tactic(auto)]
+
 pub mod numbers;

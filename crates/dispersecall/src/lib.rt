@@ -1,4 +1,6 @@
 // The dispersal step on packed bits as a call. 02, S-6.
+#![tactic(auto)]
+
 ghost use Rattle.std.specs.Prelude.{◌≡◌};
 ghost use Rattle.dispersecall.specs.Calls.{dispersed_bytes, disperse_refusal, disperse_yield, disperse_of};
 ghost use Rattle.dispersecall.specs.Clauses.{Disperses};

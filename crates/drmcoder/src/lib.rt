@@ -1,4 +1,6 @@
 // The C interface. Settings are ten bytes, a state is those ten, position, count and the 196 numbers of its table.
+#![tactic(auto)]
+
 pub mod bytes;
 pub mod calls;
 pub mod decide;

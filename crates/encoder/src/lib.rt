@@ -1,2 +1,4 @@
 // The coded bits of a segment.
+#![tactic(auto)]
+
 pub mod segment;

@@ -1,10 +1,12 @@
 // FAC blocks from their fields, and the fields of a block. 02, S-1; 001 clauses 6.3.3 to 6.3.5.
+#![tactic(auto)]
+
 pub mod blocks;
 pub mod layout;
 pub mod word;
 
 // The fields of an FAC block, without the reserved ones. 001 clauses 6.3.3 and 6.3.4. Any value may come in.
-#[derive(Drop)]
+#[derive(Clone, Copy)]
 pub struct Fields {
     // base/enhancement flag
     pub enhancement: u32,

@@ -1,9 +1,11 @@
 // Cells onto the grid of symbols and carriers, and off it. 02, S-4.
+#![tactic(auto)]
+
 pub mod calls;
 pub mod theorems;
 
 // The answer of `sizes`: the refusal, or 0 and the symbols of a super frame, the carriers of a symbol and the numbers of a grid.
-#[derive(Drop)]
+#[derive(Clone, Copy)]
 pub struct GridSizes {
     pub refusal: u8,
     pub symbols: u32,

@@ -1,4 +1,6 @@
 // Writes the kinds of a super frame's places as `place` marks them, occupancy 3 of each mode: the mode's letter, and a line of digits for each symbol.
+#![tactic(auto)]
+
 ghost use Rattle.std.specs.Prelude.{◌<◌};
 
 use grid::calls::place;

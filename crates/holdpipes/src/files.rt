@@ -44,7 +44,7 @@ pub fn turn_input(job: TurnJob, s: Settings) {
 }
 
 // A state to begin from, or what is wrong with the file that it was to come from.
-#[derive(Drop)]
+#[derive(Clone, Copy)]
 pub struct Begun {
     pub next: Next,
     pub state: State,

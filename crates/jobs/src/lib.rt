@@ -1,4 +1,6 @@
 // The desk's jobs on super frames: their lengths and buffers, the refusals before a call, and what is written after it.
+#![tactic(auto)]
+
 pub mod buffers;
 pub mod output;
 pub mod refusal;
@@ -9,7 +11,7 @@ use superframe::State;
 use turns::Outcome;
 
 // What a job makes of a super frame: how it went, the state after it, and how many bytes are to be written.
-#[derive(Drop)]
+#[derive(Clone, Copy)]
 pub struct Step {
     pub outcome: Outcome,
     pub state: State,

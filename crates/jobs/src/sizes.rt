@@ -16,7 +16,7 @@ pub const FAC_CELLS_LENGTH: usize = 3 * FAC_NUMBERS;
 const LOST_BYTES: usize = 7;
 
 // What a program lends for a super frame of settings: bytes of input, and bytes of memory.
-#[derive(Drop)]
+#[derive(Clone, Copy)]
 pub struct Space {
     pub input: usize,
     pub memory: usize,

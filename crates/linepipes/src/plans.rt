@@ -42,7 +42,7 @@ fn next_rule(from: i32, rule: &mut [u8]) -> Next
 }
 
 // Rules of a file, and whether nothing is wrong with its lines.
-#[derive(Drop)]
+#[derive(Clone, Copy)]
 struct Rules {
     count: usize,
     good: bool,

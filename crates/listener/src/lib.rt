@@ -1,2 +1,4 @@
 // A listener who follows a week plan. 02, S-12: laws alone.
+#![tactic(auto)]
+
 pub mod theorems;

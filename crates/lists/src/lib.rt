@@ -1,3 +1,5 @@
 // Lists by their places, and buffers copied and compared.
+#![tactic(auto)]
+
 pub mod bytes;
 pub mod numbers;

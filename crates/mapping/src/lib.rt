@@ -1,2 +1,4 @@
 // Code of the mapping of level bits to coordinates and back.
+#![tactic(auto)]
+
 pub mod points;

@@ -8,7 +8,7 @@ ghost use Rattle.mapping.specs.Clauses.{labels_by, label_by, Maps, MapsAxes, Unm
 
 // An axis's labelling in numbers: coordinates go down from size - 1, by the label, by its bits that `twice` has once more, and by 7 more for each that
 // `odd` has.
-#[derive(Drop)]
+#[derive(Clone, Copy)]
 struct Labelling {
     size: u8,
     twice: u8,

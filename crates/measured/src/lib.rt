@@ -1,10 +1,12 @@
 // Measured cells of a channel decided to points and bits. 02, S-10.
+#![tactic(auto)]
+
 pub mod bytes;
 pub mod calls;
 pub mod theorems;
 
 // Whose cells they are.
-#[derive(Drop)]
+#[derive(Clone, Copy)]
 pub enum Channel {
     Fac,
     Sdc,

@@ -1,4 +1,6 @@
 // The desk's jobs on multiplex frames: what each makes of a frame. 02, S-8.
+#![tactic(auto)]
+
 pub mod argument;
 pub mod steps;
 
@@ -6,14 +8,14 @@ pub mod steps;
 pub const MOST_BYTES: usize = 4589;
 
 // The numbers of a description, of which the first `count` are given: none where the word is no description.
-#[derive(Drop)]
+#[derive(Clone, Copy)]
 pub struct Description {
     pub values: [u16; 8],
     pub count: usize,
 }
 
 // A word of decimal numbers joined by commas, as far as it is read.
-#[derive(Drop)]
+#[derive(Clone, Copy)]
 pub struct Reading {
     pub values: [u16; 8],
     // The place of the number at hand, and whether it has a digit.
@@ -24,7 +26,7 @@ pub struct Reading {
 }
 
 // How a run begins: not at all where there is no description, or where 19 refuses it.
-#[derive(Drop)]
+#[derive(Clone, Copy)]
 pub enum Begun {
     Usage,
     Refused(u8),
@@ -32,7 +34,7 @@ pub enum Begun {
 }
 
 // How a run begins, and the bytes of a frame's input and of its output.
-#[derive(Drop)]
+#[derive(Clone, Copy)]
 pub struct Plan {
     pub begun: Begun,
     pub input: usize,

@@ -62,7 +62,7 @@ pub fn begins(rate: usize) -> usize
 }
 
 // A place of a table: rate, row and column.
-#[derive(Drop)]
+#[derive(Clone, Copy)]
 struct Place {
     rate: usize,
     row: usize,

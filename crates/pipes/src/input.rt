@@ -12,7 +12,7 @@ pub fn fill(bytes: &mut [u8]) -> Next {
 }
 
 // How many bytes of a whole input came, and what follows.
-#[derive(Drop)]
+#[derive(Clone, Copy)]
 pub struct Taken {
     pub next: Next,
     pub got: usize,
@@ -31,7 +31,7 @@ pub fn take_all(from: i32, bytes: &mut [u8]) -> Taken
 }
 
 // A line, of which so many bytes count, and what ended it.
-#[derive(Drop)]
+#[derive(Clone, Copy)]
 pub struct Gathered {
     pub count: usize,
     pub seen: Seen,

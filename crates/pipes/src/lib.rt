@@ -1,3 +1,5 @@
 // The desk's pipes: what comes in, and what goes out. Nothing is decided here.
+#![tactic(auto)]
+
 pub mod input;
 pub mod output;

@@ -1,4 +1,6 @@
 // The call preview: what Code would give, on a copy of the memory. 02 S-3.
+#![tactic(auto)]
+
 ghost use Rattle.std.specs.Prelude.{◌≡◌};
 ghost use Rattle.previewcall.specs.Preview.{preview_of};
 ghost use Rattle.superframe.specs.Clauses.{code_call};

@@ -1,2 +1,4 @@
 // The call Reset. 01 "Operations".
+#![tactic(auto)]
+
 pub mod reset;

@@ -1,9 +1,11 @@
 // The settings of a run, their refusals, and the lengths and sizes that follow from them.
+#![tactic(auto)]
+
 pub mod answers;
 pub mod refusals;
 
 // 01 "Settings". All are unsigned numbers; any value may come in.
-#[derive(Drop)]
+#[derive(Clone, Copy)]
 pub struct Settings {
     // robustness mode, 0 to 3 for A to D
     pub mode: u8,
@@ -25,7 +27,7 @@ pub struct Settings {
 }
 
 // The answer of `lengths`: the refusal, or 0 and the five lengths.
-#[derive(Drop)]
+#[derive(Clone, Copy)]
 pub struct Lengths {
     pub refusal: u8,
     pub n1: u16,
@@ -36,7 +38,7 @@ pub struct Lengths {
 }
 
 // The answer of `sizes`: the refusal, or 0 and the length of every buffer that a caller lends.
-#[derive(Drop)]
+#[derive(Clone, Copy)]
 pub struct Sizes {
     pub refusal: u8,
     pub sdcbytes: u32,

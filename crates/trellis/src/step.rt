@@ -104,7 +104,7 @@ fn lower(x: u16, y: u16) -> u16
 }
 
 // The least disagreement after every register, and the choices that lead there, one binary digit for each two registers.
-#[derive(Drop)]
+#[derive(Clone, Copy)]
 pub struct Layer {
     pub costs: [u16; STATES],
     pub choices: u64,

@@ -1,10 +1,12 @@
 // What follows from a read and a write of the desk's program.
+#![tactic(auto)]
+
 pub mod answers;
 pub mod input;
 pub mod turn;
 
 // How a super frame or a line went: through, refused with the number and the block, or no line of the job.
-#[derive(Drop)]
+#[derive(Clone, Copy)]
 pub enum Outcome {
     Through,
     Refused(u8, u8),
@@ -12,14 +14,14 @@ pub enum Outcome {
 }
 
 // What a job makes of a line or a multiplex frame: how it went, and how many bytes are to be written.
-#[derive(Drop)]
+#[derive(Clone, Copy)]
 pub struct Made {
     pub outcome: Outcome,
     pub length: usize,
 }
 
 // How a run of super frames or a line ends.
-#[derive(Drop)]
+#[derive(Clone, Copy)]
 pub enum End {
     // The input ended after a whole super frame or line.
     Whole,
@@ -36,7 +38,7 @@ pub enum End {
 }
 
 // What a read of one byte found: a byte of the line, its line feed, the end of the input, or a failure.
-#[derive(Drop)]
+#[derive(Clone, Copy)]
 pub enum Seen {
     Byte,
     Feed,
@@ -45,7 +47,7 @@ pub enum Seen {
 }
 
 // What follows: the run goes on, or it is over.
-#[derive(Drop)]
+#[derive(Clone, Copy)]
 pub enum Next {
     On,
     Over(End),

@@ -1,9 +1,11 @@
 // What the desk's program says: every byte of it.
+#![tactic(auto)]
+
 pub mod report;
 pub mod texts;
 
 // What a run is counted by.
-#[derive(Drop)]
+#[derive(Clone, Copy)]
 pub enum Counted {
     SuperFrame,
     MultiplexFrame,
