@@ -1,6 +1,6 @@
 -- A drawn block comes back. Assumes nothing.
 use Rattle.std.proofs.Common.{◌≡◌, ℕ, suc, ◌+◌, ◌-◌, ◌*◌, ◌/◌, ◌%◌, ◌^◌, ◌<◌, ◌≤◌, Bool, true, false, cond, not, ◌⊎◌, List, length, get_or, set, replicate, ℤ, sym, ap, ◌∙◌, ap₂, inl, inr, mul_assoc, div-mul-le_self, arith, length-set, get_or-set_other, get_or-set_same, pow-add, eq-eqb}
-use borrow.Author.Tests.{not_true}
+use borrow.Author.Tests.{not-true}
 use lib.ListN.{get_or-eq_default}
 use lib.Pow.{shl-shr}
 use Rattle.lists.specs.Lists.{table, total}
@@ -22,7 +22,7 @@ use Rattle.check_blocks.specs.Kinds.{bytes_drawn, drawn_from}
 
 -- a test and its opposite
 pub apart : {A : Type 0} (b : Bool) → b ≡ true → not b ≡ true → A
-apart b p q = let f : b ≡ false = not_true b q in let z : ◌≡◌ {A = ℕ} 0 1 = cc in absurd (omega arith)
+apart b p q = let f : b ≡ false = not-true b q in let z : ◌≡◌ {A = ℕ} 0 1 = cc in absurd (omega arith)
 
 -- a multiple of a power of two has zeros below it
 low_zero : (q j m : ℕ) → q * 2 ^ (m + 1 + j) / 2 ^ j % 2 ≡ 0

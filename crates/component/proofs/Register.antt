@@ -20,7 +20,7 @@ next_low h k = omega arith
 pub after_low : {r : ℕ} {xs : List ℕ} → r < 128 → Bits xs → after r xs < 128
 unfolding after
 after_low {xs = []} h H = h
-after_low {xs = b ∷ xs} h H = after_low (next_low h (bits_head H)) (bits-rest H)
+after_low {r = r} {xs = b ∷ xs} h H = after_low {r = next r b} {xs = xs} (next_low h (bits_head H)) (bits-rest H)
 
 -- the register goes through two lists one after the other
 pub after-append : (r : ℕ) (xs ys : List ℕ) → after r (xs ++ ys) ≡ after (after r xs) ys

@@ -6,7 +6,7 @@ use Prim.Native.Nat.{ℕ, suc, ◌+◌, ◌-◌, ◌*◌, ◌≤◌, ◌<◌, �
 use native.Mathlib.Nat.{sub-zero, zero-add, add-zero}
 use native.Mathlib.Numerals.{add-one}
 use native.Mathlib.Omega.{arith}
-use borrow.Author.Tests.{ne_eqb, lt-ltb, le-ltb, not_true, not-false}
+use borrow.Author.Tests.{ne_eqb, lt-ltb, le-ltb, not-true, not-false}
 use lib.ListN.{length, take, drop, length-drop}
 use lib.IntN.{ℤ}
 use Rattle.lists.specs.Lists.{table}
@@ -81,7 +81,7 @@ module _ (f : ℕ → Bool) (n : ℕ) where
   pub faultless_stop : (i : ℕ) (b : Bool) → i < n → b ≡ f i → not b ≡ true → Faultless f n i → At i ≡ fault_of (table f 0 n)
   unfolding every first_fault fault_of
   faultless_stop i b h e t w =
-      let g : f i ≡ false = sym e ∙ not_true b t in
+      let g : f i ≡ false = sym e ∙ not-true b t in
       sym (rw (w.tests, w.rest, one_more i h, g, add-zero i))
 
   pub faultless_end : (i : ℕ) → n ≤ i → Faultless f n i → Nowhere ≡ fault_of (table f 0 n)

@@ -1,0 +1,34 @@
+-- `read_cells` meets its contract. Assumes nothing.
+use borrow.Author.Tests.{eq-eqb, ne_eqb}
+use Rattle.block.specs.Block.{one_axis}
+use Rattle.candidate.proofs.CellsRead.{some-axis, second_axis, same_room, both_bits, both_left, axes-bits, axes-left}
+use Rattle.candidate.proofs.read.read_cells.Goals as goal
+
+pub read_axis-requires : goal.read_axis-requires
+read_axis-requires c = let p = c.requires in record { reads_candidate = (p.reads_candidate, some-axis _); block_order = p.block_order }
+
+pub returns-then-k-ne-HMMIX : goal.returns-then-k-ne-HMMIX
+unfolding one_axis
+returns-then-k-ne-HMMIX c =
+    let b = c in
+    let p = b.requires.reads_candidate in
+    let r = b.read_axis.ensures in
+    let one = ne_eqb _ _ c.if-k-ne-HMMIX.true in
+    record { bits_after = both_bits p one r.levels_read; levels_taken = both_left p one r.labels_after.0 r.labels_after.1 }
+
+pub read_axis-requires-2 : goal.read_axis-requires-2
+unfolding one_axis
+read_axis-requires-2 c =
+    let p = c.requires in
+    let r = c.read_axis.auto.labels in
+    record { reads_candidate = (same_room p.reads_candidate r r.1.0 r.1.1.0, second_axis p.reads_candidate (eq-eqb _ _ c.if-k-ne-HMMIX.false)); block_order = p.block_order }
+
+pub returns : goal.returns
+unfolding one_axis
+returns c =
+    let b = c in
+    let p = b.requires.reads_candidate in
+    let r = b.read_axis.ensures in
+    let s = c.read_axis-2.ensures in
+    let one = eq-eqb _ _ c.if-k-ne-HMMIX.false in
+    record { bits_after = axes-bits p one r.levels_read s.levels_read; levels_taken = axes-left p one r.labels_after.0 s.labels_after.0 r.labels_after.1 s.labels_after.1 }

@@ -1,0 +1,67 @@
+-- `rows::take_row` meets its contract. The loop's invariant: `at` is where the slot of cell i begins, the delay is that of cell i, and what is left of the row
+-- leads to what the whole leads to. Assumes nothing.
+use native.Mathlib.Omega.{arith}
+use Rattle.superframe.specs.Interleaving.{taken}
+use Rattle.superframe.specs.Code.{progress_of}
+use Rattle.cellmemory.proofs.Turns.{row_goes, row-depth, row_pairs, half_row, slot_room, start_fits}
+use Rattle.cellmemory.proofs.Turns.{stepping_start, stepping_turn, cell_there, cell_fits, leading_start, leading_turn, leading_end}
+use Rattle.cellmemory.proofs.rows.take_row.Goals as goal
+
+pub loop-i-init : goal.loop-i-init
+loop-i-init c =
+    let p = c.requires in
+    let g = row_goes p.0 p.1 in
+    (stepping_start g, (row_pairs p.0, leading_start _ _ _ _ _ _ g.fits.within))
+
+pub take_cell-requires : goal.take_cell-requires
+take_cell-requires c =
+    let l = c.loop-i.invariant in
+    cell_fits l.0 c.loop-i-test.true l.1.0 l.1.1.long
+
+pub loop-i-preserved : goal.loop-i-preserved
+loop-i-preserved c =
+    let l = c.loop-i.invariant in
+    let t = c.loop-i-test.true in
+    let w = l.0 in
+    let h = cell_there w t in
+    let put = c.take_cell.ensures in (
+      stepping_turn w t _ c.slot_before-at.ensures,
+      (l.1.0, leading_turn _ _ _ _ _ _ _ _ _ _ _ _ _ h.cell_in w.ring h.place_is t l.1.1 put c.next_modulo-delay.ensures),
+    )
+
+pub returns : goal.returns
+unfolding taken progress_of
+returns c =
+    let w = c.loop-i.invariant in
+    let h = c.requires.0 in
+    leading_end _ _ _ _ _ _ _ _ _ w.0.upto c.loop-i-test.false w.1.1 _ (row-depth h) (half_row h)
+
+pub nonzero_div-depth : goal.nonzero_div-depth
+nonzero_div-depth c = let p = c.requires in omega (arith, (row_goes p.0 p.1).fits.low)
+
+pub overflow_sub-last : goal.overflow_sub-last
+overflow_sub-last c = let p = c.requires in slot_room (row_goes p.0 p.1).fits
+
+pub overflow_mul-at : goal.overflow_mul-at
+overflow_mul-at c = let p = c.requires in start_fits (row_goes p.0 p.1).fits
+
+pub offset_bounds-places-i : goal.offset_bounds-places-i
+offset_bounds-places-i c = (cell_there c.loop-i.invariant.0 c.loop-i-test.true).index_fits
+
+pub bounds-places-i : goal.bounds-places-i
+bounds-places-i c = (cell_there c.loop-i.invariant.0 c.loop-i-test.true).listed
+
+pub overflow_cast-p : goal.overflow_cast-p
+overflow_cast-p c = (cell_there c.loop-i.invariant.0 c.loop-i-test.true).place-fits
+
+pub overflow_mul-i : goal.overflow_mul-i
+overflow_mul-i c = let h = (cell_there c.loop-i.invariant.0 c.loop-i-test.true).index_fits in omega (arith, h.fits)
+
+pub overflow_add-at : goal.overflow_add-at
+overflow_add-at c = (cell_there c.loop-i.invariant.0 c.loop-i-test.true).sum_fits
+
+pub next_modulo-delay-requires : goal.next_modulo-delay-requires
+next_modulo-delay-requires c = c.loop-i.invariant.1.1.delayed.delay_low
+
+pub overflow_add-i : goal.overflow_add-i
+overflow_add-i c = let l = c in (cell_there l.loop-i.invariant.0 l.loop-i-test.true).next_fits

@@ -1,0 +1,4 @@
+use Rattle.channels.proofs.blocks.no_levels.Goals as goal
+
+pub returns : goal.returns
+returns c = rw c.no_level-none.ensures

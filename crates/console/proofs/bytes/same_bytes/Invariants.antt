@@ -1,0 +1,12 @@
+-- The loop's invariant: what is left is equal exactly if the whole is.
+use Prim.Native.Nat.{◌-◌}
+use mathlib.Core.Path.{◌≡◌}
+use lib.ListN.{length, drop}
+use Rattle.console.specs.Names.{same_bytes}
+use Rattle.console.proofs.bytes.same_bytes.Given as goal
+
+abbrev pub invariant-loop-i : goal.invariant-loop-i
+invariant-loop-i l = same_bytes (drop l.i l.x) (drop l.i l.y) ≡ same_bytes l.x l.y
+
+abbrev pub decreases-loop-i : goal.decreases-loop-i
+decreases-loop-i l = length l.x - l.i

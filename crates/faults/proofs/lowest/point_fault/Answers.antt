@@ -1,0 +1,23 @@
+-- `faults::point_fault` meets its contract. The loop's invariant: the tests before block i hold. Assumes nothing.
+use Rattle.faults.specs.Clauses.{point_test}
+use Rattle.faults.proofs.FaultTurns.{faultless_start, faultless_turn, faultless_stop, faultless_end}
+use Rattle.faults.proofs.lowest.point_fault.Goals as goal
+
+pub returns-then-not-point_test : goal.returns-then-not-point_test
+returns-then-not-point_test c =
+    let b = c in
+    faultless_stop _ 8 _ _ b.loop-i-test.true c.point_test.ensures c.if-not-point_test.true b.loop-i.invariant
+
+pub loop-i-preserved : goal.loop-i-preserved
+loop-i-preserved c =
+    let b = c in
+    faultless_turn _ 8 _ _ b.loop-i-test.true c.point_test.ensures c.if-not-point_test.false b.loop-i.invariant
+
+pub returns : goal.returns
+returns c = faultless_end _ 8 _ c.loop-i-test.false c.loop-i.invariant
+
+pub loop-i-init : goal.loop-i-init
+loop-i-init c = faultless_start _ 8
+
+pub point_test-requires : goal.point_test-requires
+point_test-requires c = (c.requires, c.loop-i-test.true)

@@ -1,0 +1,6 @@
+-- `theorems::stored_and_restored` meets its contract: S-7 of state and memory holds of the definitions.
+use Rattle.holdcalls.proofs.StoredAgain.{stored-and-restored}
+use Rattle.holdcalls.proofs.theorems.stored_and_restored.Goals as goal
+
+pub returns : goal.returns
+returns c = let both = stored-and-restored in record { None = both.0; None = both.1 }

@@ -1,0 +1,28 @@
+-- `convert` meets its contract. Assumes nothing.
+use mathlib.Core.Path.{◌∙◌, ap, sym}
+use borrow.Author.Tests.{not-true, not-false}
+use Rattle.settings.proofs.Bounds.{accepted_of}
+use Rattle.holdlines.specs.Files.{file_length}
+use Rattle.holdfile.proofs.Turning.{refused_settings, refused_room, refused_file, file_turned}
+use Rattle.holdfile.proofs.convert.convert.Goals as goal
+
+pub returns-then-number-ne0 : goal.returns-then-number-ne0
+returns-then-number-ne0 c = refused_settings _ _ _ _ _ c.refusal-number.ensures c.if-number-ne0.true
+
+pub returns-then-out-file_bytes : goal.returns-then-out-file_bytes
+returns-then-out-file_bytes c =
+    refused_room _ _ _ _ (sym c.refusal-number.ensures ∙ c.if-number-ne0.false) (λ e. c.if-out-file_bytes.true (e ∙ sym (c.file_bytes.ensures ∙ ap (λ k. file_length k c.args.s) c.other_form.ensures)))
+
+pub returns-then-not-turn_file : goal.returns-then-not-turn_file
+returns-then-not-turn_file c =
+    refused_file _ _ _ _ (sym c.refusal-number.ensures ∙ c.if-number-ne0.false) (c.if-out-file_bytes.false ∙ c.file_bytes.ensures ∙ ap (λ k. file_length k c.args.s) c.other_form.ensures) _ _ c.turn_file.ensures (not-true _ c.if-not-turn_file.true)
+
+pub returns : goal.returns
+returns c =
+    file_turned _ _ _ _ (sym c.refusal-number.ensures ∙ c.if-number-ne0.false) (c.if-out-file_bytes.false ∙ c.file_bytes.ensures ∙ ap (λ k. file_length k c.args.s) c.other_form.ensures) _ _ c.turn_file.ensures (not-false _ c.if-not-turn_file.false)
+
+pub file_bytes-requires : goal.file_bytes-requires
+file_bytes-requires c = accepted_of _ (sym c.refusal-number.ensures ∙ c.if-number-ne0.false)
+
+pub turn_file-requires : goal.turn_file-requires
+turn_file-requires c = (accepted_of _ (sym c.refusal-number.ensures ∙ c.if-number-ne0.false), c.if-out-file_bytes.false ∙ c.file_bytes.ensures ∙ ap (λ k. file_length k c.args.s) c.other_form.ensures)

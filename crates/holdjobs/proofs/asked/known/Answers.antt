@@ -1,0 +1,51 @@
+use borrow.Author.Rules.{rules}
+use Rattle.holdjobs.specs.Asked.{known}
+use Rattle.holdjobs.proofs.asked.known.Goals as goal
+
+pub enum_told-1 : goal.enum_told-1
+unfolding known
+enum_told-1 c = search rules
+
+pub enum_told-in-Inside : goal.enum_told-in-Inside
+unfolding known
+enum_told-in-Inside c = search rules
+
+pub enum_told-in-Unread : goal.enum_told-in-Unread
+unfolding known
+enum_told-in-Unread c = search rules
+
+pub enum_told-in-Unwritten : goal.enum_told-in-Unwritten
+unfolding known
+enum_told-in-Unwritten c = search rules
+
+pub enum_told-in-Stopped : goal.enum_told-in-Stopped
+unfolding known
+enum_told-in-Stopped c = search rules
+
+pub enum_told-in-BadLine : goal.enum_told-in-BadLine
+unfolding known
+enum_told-in-BadLine c = search rules
+
+pub returns-in-Whole : goal.returns-in-Whole
+unfolding known
+returns-in-Whole c = rw c.in-Whole.is
+
+pub returns-in-Inside : goal.returns-in-Inside
+unfolding known
+returns-in-Inside c = rw c.in-Inside.is
+
+pub returns-in-Unread : goal.returns-in-Unread
+unfolding known
+returns-in-Unread c = rw c.in-Unread.is
+
+pub returns-in-Unwritten : goal.returns-in-Unwritten
+unfolding known
+returns-in-Unwritten c = rw c.in-Unwritten.is
+
+pub returns-in-Stopped : goal.returns-in-Stopped
+unfolding known
+returns-in-Stopped c = rw c.in-Stopped.is
+
+pub returns-in-BadLine : goal.returns-in-BadLine
+unfolding known
+returns-in-BadLine c = rw c.in-BadLine.is

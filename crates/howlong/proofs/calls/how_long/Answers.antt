@@ -1,0 +1,43 @@
+-- `how_long` meets its contract. Assumes nothing.
+use mathlib.Core.Path.{sym, ap, ◌∙◌}
+use native.Mathlib.Omega.{arith}
+use borrow.Author.Rules.{rules}
+use lib.ListN.{length-set}
+use Rattle.howlong.specs.HowLong.{how_long_yield}
+use Rattle.howlong.proofs.Counting.{counts, depth_few, mux_few, product-fits, product-fits_32, l2_is, numbers-made, three, third_there}
+use Rattle.howlong.proofs.Refusals.{taken, refused, yields}
+use Rattle.howlong.proofs.calls.how_long.Goals as goal
+
+pub returns-then-number-ne0 : goal.returns-then-number-ne0
+returns-then-number-ne0 c = refused _ _ _ _ c.how_long_refusal-number.ensures c.if-number-ne0.true
+
+pub super_frames-requires : goal.super_frames-requires
+super_frames-requires c = let A = taken _ _ (sym c.how_long_refusal-number.ensures ∙ c.if-number-ne0.false) in counts _ A.settings A.no_a A.plain (l2_is _ A.settings c.lengths-l.ensures) (search rules)
+
+pub bounds-numbers-0 : goal.bounds-numbers-0
+bounds-numbers-0 c = let A = taken _ _ (sym c.how_long_refusal-number.ensures ∙ c.if-number-ne0.false) in omega (arith, A.three)
+
+pub overflow_mul-numbers : goal.overflow_mul-numbers
+overflow_mul-numbers c = let A = taken _ _ (sym c.how_long_refusal-number.ensures ∙ c.if-number-ne0.false) in product-fits _ _ (omega (arith, depth_few _ c.depth.ensures)) (mux_few _ A.settings c.n_mux.ensures)
+
+pub overflow_cast-numbers-2 : goal.overflow_cast-numbers-2
+overflow_cast-numbers-2 c = let A = taken _ _ (sym c.how_long_refusal-number.ensures ∙ c.if-number-ne0.false) in product-fits_32 _ _ (omega (arith, depth_few _ c.depth.ensures)) (mux_few _ A.settings c.n_mux.ensures)
+
+pub bounds-numbers-1 : goal.bounds-numbers-1
+bounds-numbers-1 c = let A = taken _ _ (sym c.how_long_refusal-number.ensures ∙ c.if-number-ne0.false) in omega (arith, A.three, length-set c.args.numbers.now 0 c.super_frames.result)
+
+pub zero_bits-requires : goal.zero_bits-requires
+zero_bits-requires c = let A = taken _ _ (sym c.how_long_refusal-number.ensures ∙ c.if-number-ne0.false) in counts _ A.settings A.no_a A.plain (l2_is _ A.settings c.lengths-l.ensures) (search rules)
+
+pub bounds-numbers-2 : goal.bounds-numbers-2
+bounds-numbers-2 c =
+    let A = taken _ _ (sym c.how_long_refusal-number.ensures ∙ c.if-number-ne0.false) in
+    third_there c.args.numbers.now _ _ A.three
+
+pub returns : goal.returns
+returns c =
+    let A = taken _ _ (sym c.how_long_refusal-number.ensures ∙ c.if-number-ne0.false) in
+    ap (how_long_yield 0)
+    (three c.args.numbers.now _ _ _ A.three
+    ∙ numbers-made _ _ (l2_is _ A.settings c.lengths-l.ensures) c.super_frames.ensures.0 c.depth.ensures c.n_mux.ensures c.zero_bits.ensures.0)
+    ∙ sym (yields _ _ c.args.numbers.now (sym c.how_long_refusal-number.ensures ∙ c.if-number-ne0.false))

@@ -1,0 +1,17 @@
+-- `count` meets its contract. Assumes nothing.
+use native.Mathlib.Omega.{arith}
+use borrow.Author.Rules.{rules}
+use Rattle.loadedtable.proofs.Tables.{counts_start, counts_turn, counts_end}
+use Rattle.loadedtable.proofs.test.count.Goals as goal
+
+pub loop-k-init : goal.loop-k-init
+loop-k-init c = counts_start _ _ _ _ c.requires.0 c.requires.1 c.begins-at.ensures.0 (search rules)
+
+pub overflow_add-sum : goal.overflow_add-sum
+overflow_add-sum c = omega (arith, c.wide-sum.ensures, c.loop-k.invariant.small, c.loop-k.invariant.within)
+
+pub loop-k-preserved : goal.loop-k-preserved
+loop-k-preserved c = counts_turn _ c.loop-k.invariant (search rules) c.wide-sum.ensures.0 c.wide-sum.ensures.1
+
+pub returns : goal.returns
+returns c = counts_end c.loop-k.invariant (search rules)

@@ -1,0 +1,17 @@
+-- `unmap_axis` meets its contract. Assumes nothing.
+use borrow.Author.Rules.{rules, sfits_of}
+use mir.Syntax.{w16}
+use Rattle.mapping.proofs.Labels.{number_read, axis-start, axis_turn, axis_done}
+use Rattle.mapping.proofs.points.unmap_axis.Goals as goal
+
+pub loop-k-preserved : goal.loop-k-preserved
+loop-k-preserved c =
+    let s = c in
+    axis_turn c.loop-k.invariant s.requires.axis (search rules) s.requires.same _
+    (number_read s.args.c s.args.a s.requires.axis _ _ _ (sfits_of {w = w16} c.label_of-arg-1.given) c.axis_labels-labels.ensures c.label_of.ensures)
+
+pub returns : goal.returns
+returns c = axis_done c.loop-k.invariant (search rules) c.requires.same
+
+pub loop-k-init : goal.loop-k-init
+loop-k-init c = axis-start _ _ _ _

@@ -1,0 +1,42 @@
+-- `decide_points` meets its contract. Assumes nothing.
+use native.Mathlib.Omega.{arith}
+use mathlib.Core.Path.{◌≡◌, ◌∙◌}
+use mir.Syntax.{w16}
+use mir.Val.{to_z, of_z}
+use mir.Facts.{to_z-of_z}
+use borrow.Author.Rules.{rules, sfits_of}
+use lib.IntN.{pos}
+use Rattle.lists.proofs.Tables.{filled-start, filled_turn}
+use Rattle.measured.specs.Calls.{point_at}
+use Rattle.measured.proofs.Accepts.{cell_passed, points_done}
+use Rattle.measured.proofs.calls.decide_points.Goals as goal
+
+pub cell_at-requires : goal.cell_at-requires
+cell_at-requires c =
+    let p = c.requires in
+    record { lent = p.lent; low = omega (arith, p.room, c.loop-m-test.true, c.loop-m.invariant.0.long) }
+
+pub point-requires : goal.point-requires
+point-requires c =
+    let p = c.requires in
+    record {
+      known = p.known;
+      passed = cell_passed _ _ _ _ p.passed (omega (arith, p.room, c.loop-m-test.true, c.loop-m.invariant.0.long)) c.Cell-at.ensures;
+    }
+
+pub loop-m-preserved : goal.loop-m-preserved
+unfolding point_at
+loop-m-preserved c =
+    let l = c in
+    let e : to_z w16 (of_z w16 c.point.result) ≡ c.point.result = to_z-of_z {w = w16} (sfits_of {w = w16} c.point.type_inv) in (
+      filled_turn (pos 0) _ _ l.loop-m.points l.loop-m.m _ (search rules) (e ∙ rw c.Cell-at.ensures at c.point.ensures) l.loop-m.invariant.0,
+      search rules,
+    )
+
+pub returns : goal.returns
+returns c =
+    let l = c in
+    points_done _ _ _ _ _ _ l.requires.room l.loop-m.invariant.1 c.loop-m-test.false l.loop-m.invariant.0
+
+pub loop-m-init : goal.loop-m-init
+loop-m-init c = (filled-start (pos 0) _ _, search rules)

@@ -1,0 +1,13 @@
+use Prim.Native.Nat.{◌-◌}
+use borrow.Author.Rules.{rules}
+use lib.ListN.{get_or}
+use Rattle.lists.proofs.Tests.{Tested}
+use Rattle.plan.specs.Rules.{rules_of, no_rule}
+use Rattle.plan.specs.Clauses.{first_once}
+use Rattle.plan.proofs.refusals.firsts_once.Given as goal
+
+abbrev pub invariant-loop-k : goal.invariant-loop-k
+invariant-loop-k l = Tested (λ i. first_once (rules_of l.rules) (get_or (rules_of l.rules) i no_rule)) l.n l.k
+
+abbrev pub decreases-loop-k : goal.decreases-loop-k
+decreases-loop-k l = l.n - l.k

@@ -1,0 +1,11 @@
+-- What the rules from k on say of the minute.
+use borrow.Author.Rules.{rules}
+use Rattle.plan.specs.Rules.{rules_of}
+use Rattle.plan.proofs.Loops.{Asked}
+use Rattle.plan.proofs.rules.find.Given as goal
+
+abbrev pub invariant-loop-k : goal.invariant-loop-k
+invariant-loop-k l = Asked (rules_of l.rules) l.minute l.k l.found
+
+abbrev pub decreases-loop-k : goal.decreases-loop-k
+decreases-loop-k l = l.k

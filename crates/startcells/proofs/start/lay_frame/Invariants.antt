@@ -1,0 +1,13 @@
+-- `start::lay_frame` meets its contract. The loop's invariant: the frame is in the slots before i. Assumes nothing.
+use Prim.Native.Nat.{◌-◌, ◌*◌, ◌/◌, ◌≤◌}
+use mathlib.Core.Path.{◌≡◌}
+use lib.ListN.{length}
+use Rattle.superframe.proofs.Laid.{Laid}
+use Rattle.startcells.proofs.start.lay_frame.Given as goal
+
+abbrev pub invariant-loop-i : goal.invariant-loop-i
+invariant-loop-i l = (l.i ≤ l.slots) × (l.n ≡ length l.frame / 2) × (length l.initial.memory ≡ l.slots * (length l.frame / 2))
+    × Laid l.n (frames l.frame 0 l.slots) l.initial.memory (frames l.frame l.i (l.slots - l.i)) l.i l.memory
+
+abbrev pub decreases-loop-i : goal.decreases-loop-i
+decreases-loop-i l = l.slots - l.i

@@ -1,0 +1,6 @@
+-- `superframe::theorems::single_calls` meets its contract: demand 2 holds of the definitions.
+use Rattle.superframe.proofs.Accepted.{single_calls}
+use Rattle.superframe.proofs.theorems.single_calls.Goals as goal
+
+pub returns : goal.returns
+returns c = let both = single_calls in record { None = both.0; None = both.1 }
