@@ -8,10 +8,8 @@ use mathlib.Core.List.{List}
 use lib.ListN.{length, get_or}
 use lib.Dec.{ltb}
 use Rattle.lists.proofs.Tests.{tested_start, tested_turn, tested_stop, tested_end}
+use Rattle.loadedtable.proofs.test.bits_only.Invariants.{test}
 use Rattle.loadedtable.proofs.test.bits_only.Goals as goal
-
-abbrev test : List ℕ → ℕ → Bool
-test kept k = ltb (get_or kept k 0) 2
 
 pub returns-then-kept-k-ge2 : goal.returns-then-kept-k-ge2
 returns-then-kept-k-ge2 c = let k = c.args.kept.now in let l = c.loop-k in tested_stop (test k) (length k) l.k false (search rules) (sym (le-ltb (get_or k l.k 0) 2 (search rules))) refl l.invariant

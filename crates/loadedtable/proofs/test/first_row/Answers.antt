@@ -9,10 +9,8 @@ use lib.Dec.{eqb}
 use Rattle.lists.proofs.Tests.{tested_start, tested_turn, tested_stop, tested_end}
 use Rattle.patterns.specs.Patterns.{RX, entry}
 use Rattle.loadedtable.proofs.Tables.{first_entry}
+use Rattle.loadedtable.proofs.test.first_row.Invariants.{test}
 use Rattle.loadedtable.proofs.test.first_row.Goals as goal
-
-abbrev test : List ℕ → ℕ → ℕ → Bool
-test kept rate i = eqb (entry kept rate 0 i) 1
 
 pub returns-then-kept-at-ne1 : goal.returns-then-kept-at-ne1
 returns-then-kept-at-ne1 c =
