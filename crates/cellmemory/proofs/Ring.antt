@@ -1,7 +1,7 @@
 -- Slots stand in a ring: from cell to cell the delay goes up by one and starts anew, and the slot goes down by one and starts anew. Assumes nothing.
 use mathlib.Core.Path.{◌≡◌, ◌∙◌}
 use mathlib.Core.Logic.{◌⊎◌, inl, inr}
-use Prim.Native.Nat.{ℕ, suc, ◌+◌, ◌-◌, ◌*◌, ◌/◌, ◌%◌, ◌≤◌, ◌<◌}
+use Prim.Native.Nat.{ℕ, zero, suc, ◌+◌, ◌-◌, ◌*◌, ◌/◌, ◌%◌, ◌≤◌, ◌<◌}
 use native.Mathlib.Nat.{mod-lt, mod-eq_of_lt, add-mod_right, mod_self, mul-le-mul_right, add-zero, zero-mul, suc-mul}
 use native.Mathlib.Omega.{arith}
 use borrow.Author.Tests.{lt-ltb, le-ltb}
@@ -36,6 +36,7 @@ previous-zero n last x h e = rw (e, zero-mul, lt-ltb 0 n h)
 
 pub previous_more : (n last x : ℕ) → 1 ≤ x → previous n last (x * n) ≡ (x - 1) * n
 unfolding previous
+previous_more n last zero h = elim h [ ]
 previous_more n last (suc x) h =
     let e : suc x * n ≡ x * n + n = suc-mul x n in
     let f : suc x - 1 ≡ x = omega arith in

@@ -165,7 +165,7 @@ given_means {k} r cells = (
 
 -- An element of a list's values.
 pub get_or_map : {A B : Type 0} (f : A → B) (l : List A) (i : ℕ) (d : A) (z : B) → i < length l → get_or (map f l) i z ≡ f (get_or l i d)
-get_or_map f l i d z h = get_or_any (map f l) i z (f d) (rw length-map h) ∙ ListN.get_d_map f l i d
+get_or_map f l i d z h = get_or_any (map f l) i z (f d) (rw length-map h) ∙ ListN.get_or-map f l i d
 
 -- 14 by block.
 module _ (s : Scheme) (C : Coding s) (q : Progress) (c : ReadCall) where

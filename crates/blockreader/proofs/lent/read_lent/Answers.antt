@@ -9,10 +9,9 @@ read_packed-requires c = let p = c.requires in record { block_lent = (p.block_le
 
 pub code_lent-requires : goal.code_lent-requires
 code_lent-requires c =
-    let b = c in
-    let p = b.requires in
-    let r = b.read_packed.auto.bits in
-    record { block_lent = (codes-again p.block_lent.0 r.1.1.1.0 p.block_lent.2, work_same p.block_lent.1 r r.1.0 r.1.1.0); block_order = p.block_order }
+    let p = c.requires in
+    let r = c.read_packed.auto in
+    record { block_lent = (codes-again p.block_lent.0 r.bytes p.block_lent.2, work_same p.block_lent.1 r.bits r.labels r.coded); block_order = p.block_order }
 
 pub keep_same-requires : goal.keep_same-requires
 keep_same-requires c = let p = c.requires.block_lent in c.code_lent.auto.out ∙ p.2 ∙ sym p.0.cells
@@ -32,7 +31,7 @@ shape_of-bytes c = c.keep_same.auto.bytes ∙ c.read_packed.auto.bytes
 pub returns : goal.returns
 returns c =
     let b = c in
-    lent-read b.requires.block_lent.0 b.read_packed.ensures.bytes_after c.code_lent.ensures.out_after b.read_packed.auto.bytes c.keep_same.ensures
+    lent-read b.requires.block_lent.0 b.read_packed.ensures.bytes_after c.code_lent.ensures.out_after b.read_packed.auto.bytes (c.keep_same.ensures.value, c.keep_same.ensures.bytes_after)
 
 pub shape_of-again : goal.shape_of-again
 shape_of-again c = c.code_lent.auto.out

@@ -3,4 +3,4 @@ use Rattle.superframe.proofs.Accepted.{single_calls}
 use Rattle.superframe.proofs.theorems.single_calls.Goals as goal
 
 pub returns : goal.returns
-returns c = let both = single_calls in record { None = both.0; None = both.1 }
+returns c = single_calls
