@@ -16,5 +16,5 @@ unfolding block_part bytes_in table
 returns c =
     let n = c.args.number in
     let a = put_more c.put-a.ensures c.put_decimal-b.ensures in
-    let b = put_more (put_more a c.put-c.ensures) c.Block-words.ensures in
+    let b = put_more (put_more a c.put-c.ensures) c.block_words.ensures in
     rw c.if-not-number.false (put_room 100 (omega arith) b)
