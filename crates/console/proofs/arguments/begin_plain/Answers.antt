@@ -1,12 +1,11 @@
 use mathlib.Core.Path.{sym, ◌∙◌}
-use borrow.Author.Tests.{not-true, not-false}
 use Rattle.console.specs.Arguments.{begun_plain}
 use Rattle.console.proofs.arguments.begin_plain.Goals as goal
 
 pub returns-then-not-counted : goal.returns-then-not-counted
 unfolding begun_plain
-returns-then-not-counted c = rw (sym c.counted.ensures ∙ not-true _ c.if-not-counted.true)
+returns-then-not-counted c = rw (sym c.counted.ensures ∙ c.if-not-counted.true)
 
 pub returns : goal.returns
 unfolding begun_plain
-returns c = rw (sym c.counted.ensures ∙ not-false _ c.if-not-counted.false)
+returns c = rw (sym c.counted.ensures ∙ c.if-not-counted.false)

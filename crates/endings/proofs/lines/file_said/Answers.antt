@@ -1,5 +1,4 @@
 use mathlib.Core.Path.{sym, ◌∙◌}
-use borrow.Author.Tests.{not-true, not-false}
 use native.Mathlib.Omega.{arith}
 use Rattle.lists.specs.Lists.{table}
 use Rattle.console.specs.Text.{bytes_in}
@@ -8,10 +7,10 @@ use Rattle.endings.proofs.Said.{whole_file, failed_file}
 use Rattle.endings.proofs.lines.file_said.Goals as goal
 
 pub returns-then-not-failed : goal.returns-then-not-failed
-returns-then-not-failed c = put_none 1024 _ _ 0 (whole_file _ (sym c.failed.ensures ∙ not-true _ c.if-not-failed.true))
+returns-then-not-failed c = put_none 1024 _ _ 0 (whole_file _ (sym c.failed.ensures ∙ c.if-not-failed.true))
 
 pub returns : goal.returns
 unfolding bytes_in table
 returns c =
-    put_as _ (failed_file _ (sym c.failed.ensures ∙ not-false _ c.if-not-failed.false))
+    put_as _ (failed_file _ (sym c.failed.ensures ∙ c.if-not-failed.false))
     (put_room 1024 (omega arith) (put_more (put_more c.put-a.ensures c.put_why-b.ensures) c.put.ensures))

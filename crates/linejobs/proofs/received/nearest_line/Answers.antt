@@ -1,5 +1,4 @@
 use native.Mathlib.Omega.{arith}
-use borrow.Author.Tests.{not-true, not-false}
 use Rattle.words.proofs.Answers.{answers}
 use Rattle.linejobs.proofs.Found.{line_short, line-bad, line-found}
 use Rattle.linejobs.proofs.received.nearest_line.Goals as goal
@@ -12,7 +11,7 @@ returns-then-not-find c =
     let b = c.bad-then-not-find.ensures in
     let f = c in
     let n = f in
-    let both = answers b (omega arith) (line-bad _ n.args.out.now _ _ _ n.if-line-ne-FAC_NUMBERS.false f.find.ensures (not-true _ c.if-not-find.true)) in record { out_after = both.0; length_bound = both.1 }
+    let both = answers b (omega arith) (line-bad _ n.args.out.now _ _ _ n.if-line-ne-FAC_NUMBERS.false f.find.ensures c.if-not-find.true) in record { out_after = both.0; length_bound = both.1 }
 
 pub returns : goal.returns
 returns c =
@@ -20,4 +19,4 @@ returns c =
     let p = c.put_found.ensures in
     let f = c in
     let n = f in
-    let both = answers b (omega (arith, p.within)) (line-found _ n.args.out.now _ _ _ n.if-line-ne-FAC_NUMBERS.false f.find.ensures (not-false _ c.if-not-find.false) _ _ p) in record { out_after = both.0; length_bound = both.1 }
+    let both = answers b (omega (arith, p.within)) (line-found _ n.args.out.now _ _ _ n.if-line-ne-FAC_NUMBERS.false f.find.ensures c.if-not-find.false _ _ p) in record { out_after = both.0; length_bound = both.1 }

@@ -1,5 +1,4 @@
 use mathlib.Core.Path.{sym, ap, ◌∙◌}
-use borrow.Author.Tests.{not-true, not-false}
 use Rattle.multiplex.specs.Description.{fits}
 use Rattle.multiplex.proofs.Layouts.{fitting}
 use Rattle.muxjobs.specs.Frames.{planned}
@@ -10,30 +9,30 @@ pub returns-then-not-described : goal.returns-then-not-described
 returns-then-not-described c =
     let a = c in
     let e = c.stopped.ensures in
-    record { value = e ∙ plan-usage _ _ _ (sym a.described.ensures ∙ not-true _ c.if-not-described.true); room = stopped_room _ _ e }
+    record { value = e ∙ plan-usage _ _ _ (sym a.described.ensures ∙ c.if-not-described.true); room = stopped_room _ _ e }
 
 pub returns-then-number-ne0 : goal.returns-then-number-ne0
 returns-then-number-ne0 c =
     let a = c in
-    let e = c.stopped-then-number-ne0.ensures in record { value = e ∙ plan-refused _ _ _ (sym a.described.ensures ∙ not-false _ c.if-not-described.false) _ c.refusal-number.ensures c.if-number-ne0.true; room = stopped_room _ _ e }
+    let e = c.stopped-then-number-ne0.ensures in record { value = e ∙ plan-refused _ _ _ (sym a.described.ensures ∙ c.if-not-described.false) _ c.refusal-number.ensures c.if-number-ne0.true; room = stopped_room _ _ e }
 
 pub layout-l-requires : goal.layout-l-requires
 layout-l-requires c =
-    record { s_value = sym c.refusal-number.ensures ∙ c.if-number-ne0.false; description_value = sym c.described.ensures ∙ not-false _ c.if-not-described.false }
+    record { s_value = sym c.refusal-number.ensures ∙ c.if-number-ne0.false; description_value = sym c.described.ensures ∙ c.if-not-described.false }
 
 pub returns-then-not-fits : goal.returns-then-not-fits
 returns-then-not-fits c =
     let r = c in
     let l = c in
     let e = c.stopped-then-not-fits.ensures in
-    let x = r.args.s.x in record { value = e ∙ plan_unfit _ _ _ (sym r.described.ensures ∙ not-false _ r.if-not-described.false) _ r.refusal-number.ensures c.if-number-ne0.false (sym (ap (λ k. fits k x) l.layout-l.ensures.value) ∙ sym c.fits2.ensures ∙ not-true _ c.if-not-fits.true); room = stopped_room _ _ e }
+    let x = r.args.s.x in record { value = e ∙ plan_unfit _ _ _ (sym r.described.ensures ∙ r.if-not-described.false) _ r.refusal-number.ensures c.if-number-ne0.false (sym (ap (λ k. fits k x) l.layout-l.ensures.value) ∙ sym c.fits2.ensures ∙ c.if-not-fits.true); room = stopped_room _ _ e }
 
 pub planned-requires : goal.planned-requires
-planned-requires c = fitting _ c.layout-l.ensures.small.frame (sym c.fits2.ensures ∙ not-false _ c.if-not-fits.false)
+planned-requires c = fitting _ c.layout-l.ensures.small.frame (sym c.fits2.ensures ∙ c.if-not-fits.false)
 
 pub returns : goal.returns
 returns c =
     let r = c in
     let l = c in
     let e = c.planned.ensures in
-    let a = r in record { value = e.value ∙ ap (planned a.args.job) l.layout-l.ensures.value ∙ plan-fit _ _ _ (sym r.described.ensures ∙ not-false _ r.if-not-described.false) _ r.refusal-number.ensures c.if-number-ne0.false (sym (ap (λ k. fits k a.args.s.x) l.layout-l.ensures.value) ∙ sym c.fits2.ensures ∙ not-false _ c.if-not-fits.false); room = e.room }
+    let a = r in record { value = e.value ∙ ap (planned a.args.job) l.layout-l.ensures.value ∙ plan-fit _ _ _ (sym r.described.ensures ∙ r.if-not-described.false) _ r.refusal-number.ensures c.if-number-ne0.false (sym (ap (λ k. fits k a.args.s.x) l.layout-l.ensures.value) ∙ sym c.fits2.ensures ∙ c.if-not-fits.false); room = e.room }

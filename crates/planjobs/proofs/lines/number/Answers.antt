@@ -1,7 +1,6 @@
 -- What the rest of the line leads to.
 use mathlib.Core.Path.{sym, ◌∙◌}
 use native.Mathlib.Omega.{arith}
-use borrow.Author.Tests.{not-true, not-false}
 use Rattle.numerals.proofs.Scanning.{digit_range}
 use Rattle.planjobs.proofs.Scanned.{scanning_start, scanning_turn, scanning_stop, scanning_end}
 use Rattle.planjobs.proofs.lines.number.Goals as goal
@@ -12,19 +11,19 @@ loop-next-init c = scanning_start _ _
 pub returns-then-not-is_digit : goal.returns-then-not-is_digit
 returns-then-not-is_digit c =
     let l = c in
-    record { value = scanning_stop _ _ _ _ c.loop-next-test.true (sym c.is_digit.ensures ∙ not-true _ c.if-not-is_digit.true) l.loop-next.invariant; next_in_bounds = l.loop-next.invariant.upto }
+    record { value = scanning_stop _ _ _ _ c.loop-next-test.true (sym c.is_digit.ensures ∙ c.if-not-is_digit.true) l.loop-next.invariant; next_in_bounds = l.loop-next.invariant.upto }
 
 pub overflow_sub-byte : goal.overflow_sub-byte
-overflow_sub-byte c = (digit_range _ (sym c.is_digit.ensures ∙ not-false _ c.if-not-is_digit.false)).0
+overflow_sub-byte c = (digit_range _ (sym c.is_digit.ensures ∙ c.if-not-is_digit.false)).0
 
 pub grown-value-requires : goal.grown-value-requires
-grown-value-requires c = omega (arith, digit_range _ (sym c.is_digit.ensures ∙ not-false _ c.if-not-is_digit.false))
+grown-value-requires c = omega (arith, digit_range _ (sym c.is_digit.ensures ∙ c.if-not-is_digit.false))
 
 pub loop-next-preserved : goal.loop-next-preserved
 loop-next-preserved c =
     let l = c in
     scanning_turn _ _ _ _ _ c.loop-next-test.true
-    (sym c.is_digit.ensures ∙ not-false _ c.if-not-is_digit.false) c.grown-value.ensures l.loop-next.invariant
+    (sym c.is_digit.ensures ∙ c.if-not-is_digit.false) c.grown-value.ensures l.loop-next.invariant
 
 pub returns : goal.returns
 returns c = record { value = scanning_end _ _ _ _ (omega (arith, c.loop-next-test.false)) c.loop-next.invariant; next_in_bounds = c.loop-next.invariant.upto }

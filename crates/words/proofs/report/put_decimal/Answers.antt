@@ -6,11 +6,11 @@ pub put-requires : goal.put-requires
 put-requires c =
     let d = c.decimal-k in
     let a = c in
-    omega (arith, a.requires, decimal-fits a.args.n _ _ a.ranges.n.fits d.ensures.len.0 d.ensures.in_bounds.1)
+    omega (arith, a.requires, decimal-fits a.args.n _ _ a.ranges.n.fits d.ensures.len d.ensures.in_bounds.1)
 
 pub returns : goal.returns
 returns c =
     let d = c.decimal-k in
     let a = c in
-    put_room 20 (decimal-fits a.args.n _ _ a.ranges.n.fits d.ensures.len.0 d.ensures.in_bounds.1)
-    (put_as _ (decimal_said a.args.n _ _ a.ranges.n.fits d.ensures.len.0 d.ensures.len.1) c.put.ensures)
+    put_room 20 (decimal-fits a.args.n _ _ a.ranges.n.fits d.ensures.len d.ensures.in_bounds.1)
+    (put_as _ (decimal_said a.args.n _ _ a.ranges.n.fits d.ensures.len d.ensures.digits) c.put.ensures)

@@ -24,7 +24,7 @@ returns-in-Unwritten c = put_as _ (sym (ap why c.in-Unwritten.is)) (put_room 200
 
 pub returns-in-Stopped : goal.returns-in-Stopped
 unfolding why
-returns-in-Stopped c = put_as _ (sym (ap why c.in-Stopped.is)) c.Put-refused.ensures
+returns-in-Stopped c = put_as _ (sym (ap why c.in-Stopped.is)) c.put_refused.ensures
 
 pub returns-in-BadLine : goal.returns-in-BadLine
 unfolding why bytes_in table
