@@ -18,7 +18,7 @@ loop-i-preserved c =
     let a = c.args in
     let h = c.loop-i-test.true in
     let x = a.bytes.now in
-    let e = to_z-of_z {w = w16} (sfits_of {w = w16} c.signed.type_inv) ∙ number-made x l.i _ _ c.number_of_lem.ensures c.signed.ensures in
+    let e = to_z-of_z {w = w16} (sfits_of {w = w16} c.signed.type_inv) ∙ number-made x l.i _ _ c.number_of.ensures c.signed.ensures in
     let m = copied_more (pos 0) a.cells.now (bytes_cells x) l.cells 0 l.i _ (omega (arith, h, bytes-cells_long x)) (number_there x l.i _ h e) i.0 in
     (rw zero-add at m, search rules, length-set l.cells _ _ ∙ i.2)
 
