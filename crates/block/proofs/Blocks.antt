@@ -11,7 +11,7 @@ use Rattle.component.specs.Bits.{Bits}
 use Rattle.component.proofs.Bits.{bits-drop}
 use Rattle.block.specs.Packing.{unpacked, packed}
 use Rattle.block.specs.Dispersal.{dispersed_parts}
-use Rattle.block.specs.Levels.{total_a, total_b, streams}
+use Rattle.block.specs.Levels.{total_a, total_b}
 use Rattle.block.specs.Mapping.{mapped, woven}
 use Rattle.block.specs.Points.{are_points}
 use Rattle.block.specs.declared.Level.{Level}

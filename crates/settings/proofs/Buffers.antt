@@ -12,7 +12,7 @@ use Rattle.partlengths.specs.Formulas.{round_up}
 use Rattle.settings.specs.declared.Settings.{Settings}
 use Rattle.settings.specs.declared.Lengths.{Lengths}
 use Rattle.settings.specs.Refusal.{refusal}
-use Rattle.settings.specs.Lengths.{n_mux, n_sfa, n_sdc, l1, l2, l_sdc, accepted}
+use Rattle.settings.specs.Lengths.{n_mux, n_sfa, n_sdc, l_sdc, accepted}
 use Rattle.settings.specs.Sizes.{depth, frame_bits, frame_bytes, sdc_bytes, no_sizes, all_sizes, sizes_of}
 use Rattle.settings.specs.Accepted.{Accepted}
 

@@ -2,7 +2,6 @@
 use native.Mathlib.Omega.{arith}
 use borrow.Author.Rules.{rules}
 use Rattle.lists.proofs.Tables.{filled-start, filled_turn}
-use Rattle.cellbytes.specs.CellBytes.{cell_byte}
 use Rattle.cellbytes.proofs.Loops.{byte_made, bytes_end}
 use Rattle.cellbytes.proofs.cells.to_bytes.Goals as goal
 

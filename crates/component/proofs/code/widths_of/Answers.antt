@@ -3,7 +3,6 @@ use mathlib.Core.Path.{◌≡◌, refl}
 use native.Mathlib.Omega.{arith}
 use borrow.Author.Rules.{rules}
 use lib.ListN.{replicate}
-use lib.Count.{ones}
 use Rattle.lists.proofs.Tables.{filled-start, filled_turn, filled_end}
 use Rattle.component.proofs.code.widths_of.Goals as goal
 

@@ -4,7 +4,6 @@ use native.Mathlib.Omega.{arith}
 use borrow.Author.Rules.{rules}
 use lib.ListN.{length}
 use Rattle.lists.proofs.Tables.{filled-start, filled_turn, filled_end}
-use Rattle.component.specs.Coding.{register_at}
 use Rattle.encoder.proofs.segment.registers_of.Goals as goal
 
 pub register_at-requires : goal.register_at-requires

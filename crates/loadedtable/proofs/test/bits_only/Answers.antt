@@ -1,12 +1,9 @@
 -- `bits_only` meets its contract. Assumes nothing.
-use Prim.Native.Nat.{ℕ}
 use mathlib.Core.Path.{refl, sym}
-use mathlib.Core.Bool.{Bool, true, false}
+use mathlib.Core.Bool.{true, false}
 use borrow.Author.Rules.{rules}
 use borrow.Author.Tests.{lt-ltb, le-ltb}
-use mathlib.Core.List.{List}
 use lib.ListN.{length, get_or}
-use lib.Dec.{ltb}
 use Rattle.lists.proofs.Tests.{tested_start, tested_turn, tested_stop, tested_end}
 use Rattle.loadedtable.proofs.test.bits_only.Invariants.{test}
 use Rattle.loadedtable.proofs.test.bits_only.Goals as goal

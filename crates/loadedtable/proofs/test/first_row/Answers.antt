@@ -1,13 +1,10 @@
 -- `first_row` meets its contract. Assumes nothing.
-use Prim.Native.Nat.{ℕ}
 use mathlib.Core.Path.{refl, sym, ◌∙◌}
-use mathlib.Core.Bool.{Bool, true, false}
-use mathlib.Core.List.{List}
+use mathlib.Core.Bool.{true, false}
 use borrow.Author.Rules.{rules}
 use borrow.Author.Tests.{eq-eqb, ne_eqb}
-use lib.Dec.{eqb}
 use Rattle.lists.proofs.Tests.{tested_start, tested_turn, tested_stop, tested_end}
-use Rattle.patterns.specs.Patterns.{RX, entry}
+use Rattle.patterns.specs.Patterns.{RX}
 use Rattle.loadedtable.proofs.Tables.{first_entry}
 use Rattle.loadedtable.proofs.test.first_row.Invariants.{test}
 use Rattle.loadedtable.proofs.test.first_row.Goals as goal
