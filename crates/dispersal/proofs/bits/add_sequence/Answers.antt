@@ -7,27 +7,23 @@ use lib.ListN.{length}
 use Rattle.dispersal.proofs.Periods.{add_start, add_turn, add_done, period_long, period_bit, period_low}
 use Rattle.dispersal.proofs.bits.add_sequence.Goals as goal
 
--- the turn is at one of the bits
-in-bits : (c : goal.After-shared_slice_known-1) → let b = c in b.loop-i.i < length b.args.bits.now
-in-bits c = search rules
-
 pub overflow_add-bits : goal.overflow_add-bits
 overflow_add-bits c = let b = c in omega (arith, b.requires.there, b.loop-i.invariant.turns)
 
 pub bounds-sequence-at : goal.bounds-sequence-at
 bounds-sequence-at c =
     let b = c in
-    omega (arith, period_long b.requires, b.requires.there, in-bits c)
+    omega (arith, period_long b.requires, b.requires.there, c.loop-i-test.true)
 
 pub overflow_add-bits-in-loop-i : goal.overflow_add-bits-in-loop-i
 overflow_add-bits-in-loop-i c =
     let b = c in
-    omega (arith, period_low b.requires b.loop-i.i (in-bits c))
+    omega (arith, period_low b.requires b.loop-i.i (search rules))
 
 pub loop-i-preserved : goal.loop-i-preserved
 loop-i-preserved c =
     let b = c in
-    add_turn b.loop-i.invariant (in-bits c) _ _ (period_bit b.requires b.loop-i.i (in-bits c)) refl
+    add_turn b.loop-i.invariant (search rules) _ _ (period_bit b.requires b.loop-i.i (search rules)) refl
 
 pub loop-i-init : goal.loop-i-init
 loop-i-init c = add_start _ _

@@ -6,13 +6,6 @@ use lib.ListN.{length}
 use Rattle.dispersal.proofs.Periods.{start, turn, done, piece_low, piece-some, piece-ends, piece_adds}
 use Rattle.dispersal.proofs.bits.disperse.Goals as goal
 
--- the piece ends within the bits and within the period
-ends : (c : goal.After-smaller-n) → c.loop-i.i + c.smaller-n.result ≤ length c.loop-i.bits
-ends c = piece-ends c.loop-i.invariant.0 (search rules) c.smaller-n.ensures
-
-some : (c : goal.After-smaller-n) → 0 < c.smaller-n.result
-some c = piece-some c.loop-i.invariant.0 (search rules) c.smaller-n.ensures
-
 pub add_sequence-requires : goal.add_sequence-requires
 add_sequence-requires c =
     let s = c in
@@ -30,19 +23,19 @@ pub overflow_sub-at : goal.overflow_sub-at
 overflow_sub-at c = omega (arith, c.loop-i.invariant.0.place)
 
 pub overflow_add-i : goal.overflow_add-i
-overflow_add-i c = let h = ends c.before in search rules
+overflow_add-i c = let h = piece-ends c.loop-i.invariant.0 (search rules) c.smaller-n.ensures in search rules
 
 pub slice_bounds-add_sequence-end-in-loop-i : goal.slice_bounds-add_sequence-end-in-loop-i
-slice_bounds-add_sequence-end-in-loop-i c = let h = ends c.before in search rules
+slice_bounds-add_sequence-end-in-loop-i c = let h = piece-ends c.loop-i.invariant.0 (search rules) c.smaller-n.ensures in search rules
 
 pub overflow_add-at : goal.overflow_add-at
 overflow_add-at c = let s = c in omega (arith, s.smaller-n.ensures, piece_low s.loop-i.invariant.0 (search rules) s.smaller-n.ensures)
 
 pub overflow_add-i-in-loop-i : goal.overflow_add-i-in-loop-i
-overflow_add-i-in-loop-i c = let h = ends c.before.before.before.before.before in search rules
+overflow_add-i-in-loop-i c = let h = piece-ends c.loop-i.invariant.0 (search rules) c.smaller-n.ensures in search rules
 
 pub loop-i-smaller : goal.loop-i-smaller
-loop-i-smaller c = let h = ends c.before.before.before.before.before in let g = some c.before.before.before.before.before in search rules
+loop-i-smaller c = let h = piece-ends c.loop-i.invariant.0 (search rules) c.smaller-n.ensures in let g = piece-some c.loop-i.invariant.0 (search rules) c.smaller-n.ensures in search rules
 
 pub returns : goal.returns
 returns c = done c.loop-i.invariant.0 (search rules)
