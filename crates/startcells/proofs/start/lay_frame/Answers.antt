@@ -1,23 +1,15 @@
 -- `start::lay_frame` meets its contract. The loop's invariant: the frame is in the slots before i. Assumes nothing.
-use Prim.Native.Nat.{ℕ, ◌+◌, ◌*◌, ◌/◌, ◌≤◌}
+use Prim.Native.Nat.{◌+◌, ◌*◌, ◌/◌, ◌≤◌}
 use native.Mathlib.Omega.{arith}
 use mathlib.Core.Path.{◌∙◌, ap}
-use mathlib.Core.List.{List}
 use borrow.Author.Rules.{rules}
 use lib.ListN.{length}
-use lib.IntN.{ℤ}
-use Rattle.lists.specs.Lists.{table}
 use Rattle.lists.proofs.Parts.{from_start}
-use Rattle.cellbytes.specs.CellBytes.{bytes}
 use Rattle.cellbytes.proofs.CellBytes.{length-bytes}
 use Rattle.superframe.specs.Call.{joined}
 use Rattle.superframe.proofs.Laid.{laid-start, laid-part, laid-parts, part-within, length_mid}
 use Rattle.startcells.proofs.ZeroFrames.{table_same}
 use Rattle.startcells.proofs.start.lay_frame.Goals as goal
-
--- The frame in so many slots, from slot i on.
-abbrev frames : List ℤ → ℕ → ℕ → List ℕ
-frames frame i n = joined (table (λ (_ : ℕ). bytes frame) i n)
 
 pub loop-i-preserved : goal.loop-i-preserved
 loop-i-preserved c =
