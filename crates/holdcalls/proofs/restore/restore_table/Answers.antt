@@ -16,7 +16,7 @@ take_memory-requires c =
 pub returns-then-not-take_memory : goal.returns-then-not-take_memory
 returns-then-not-take_memory c =
     let b = c in
-    refused_file _ _ (scheme_of _ _) _ _ _ b.reset_refusal-number.ensures b.if-number-ne0.false _ _ c.take_memory.ensures (not-true _ c.if-not-take_memory.true)
+    refused_file _ _ (scheme_of _ _) _ _ _ b.reset_refusal-number.ensures b.if-number-ne0.false _ _ c.take_memory.ensures c.if-not-take_memory.true
 
 pub scheme_of-requires : goal.scheme_of-requires
 scheme_of-requires c =
@@ -29,18 +29,18 @@ bounds-file-0 c =
     let t = c in
     let b = t in
     let a = b.args in
-    omega (arith, heading_there a.form a.old (scheme_of a.s a.table.now) a.file.now a.memory.now _ b.reset_refusal-number.ensures b.if-number-ne0.false _ _ t.take_memory.ensures (not-false _ t.if-not-take_memory.false))
+    omega (arith, heading_there a.form a.old (scheme_of a.s a.table.now) a.file.now a.memory.now _ b.reset_refusal-number.ensures b.if-number-ne0.false _ _ t.take_memory.ensures t.if-not-take_memory.false)
 
 pub bounds-file-1 : goal.bounds-file-1
 bounds-file-1 c =
     let t = c in
     let b = t in
     let a = b.args in
-    omega (arith, heading_there a.form a.old (scheme_of a.s a.table.now) a.file.now a.memory.now _ b.reset_refusal-number.ensures b.if-number-ne0.false _ _ t.take_memory.ensures (not-false _ t.if-not-take_memory.false))
+    omega (arith, heading_there a.form a.old (scheme_of a.s a.table.now) a.file.now a.memory.now _ b.reset_refusal-number.ensures b.if-number-ne0.false _ _ t.take_memory.ensures t.if-not-take_memory.false)
 
 pub returns : goal.returns
 returns c =
     let t = c in
     let b = t in
-    restored_file _ _ (scheme_of _ _) _ _ _ b.reset_refusal-number.ensures b.if-number-ne0.false _ _ t.take_memory.ensures _ _ _ (not-false _ t.if-not-take_memory.false)
+    restored_file _ _ (scheme_of _ _) _ _ _ b.reset_refusal-number.ensures b.if-number-ne0.false _ _ t.take_memory.ensures _ _ _ t.if-not-take_memory.false
     c.scheme_of.ensures c.digit_or.ensures c.digit_or-2.ensures

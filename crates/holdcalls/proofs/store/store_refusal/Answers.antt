@@ -1,4 +1,6 @@
 -- `store_refusal` meets its contract. Assumes nothing.
+use mathlib.Core.Bool.{not}
+use mathlib.Core.Path.{ap}
 use Rattle.holdcalls.proofs.StoreCalls.{early_settings, early_fits, store_early, store_ten, store_twelve, store_none}
 use Rattle.holdcalls.proofs.store.store_refusal.Goals as goal
 
@@ -20,10 +22,10 @@ pub returns-then-not-in_order : goal.returns-then-not-in_order
 returns-then-not-in_order c =
     let b = c in
     store_twelve _ _ _ _ _ b.reset_refusal-number.ensures b.if-number-ne0.false _ c.file_bytes.ensures _ c.if-file-file_bytes.false
-    c.in_order.ensures c.if-not-in_order.true
+    c.in_order.ensures (ap not c.if-not-in_order.true)
 
 pub returns : goal.returns
 returns c =
     let b = c in
     store_none _ _ _ _ _ b.reset_refusal-number.ensures b.if-number-ne0.false _ c.file_bytes.ensures _ c.if-file-file_bytes.false
-    c.in_order.ensures c.if-not-in_order.false
+    c.in_order.ensures (ap not c.if-not-in_order.false)

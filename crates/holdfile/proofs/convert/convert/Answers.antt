@@ -15,11 +15,11 @@ returns-then-out-file_bytes c =
 
 pub returns-then-not-turn_file : goal.returns-then-not-turn_file
 returns-then-not-turn_file c =
-    refused_file _ _ _ _ (sym c.refusal-number.ensures ∙ c.if-number-ne0.false) (c.if-out-file_bytes.false ∙ c.file_bytes.ensures ∙ ap (λ k. file_length k c.args.s) c.other_form.ensures) _ _ c.turn_file.ensures (not-true _ c.if-not-turn_file.true)
+    refused_file _ _ _ _ (sym c.refusal-number.ensures ∙ c.if-number-ne0.false) (c.if-out-file_bytes.false ∙ c.file_bytes.ensures ∙ ap (λ k. file_length k c.args.s) c.other_form.ensures) _ _ c.turn_file.ensures c.if-not-turn_file.true
 
 pub returns : goal.returns
 returns c =
-    file_turned _ _ _ _ (sym c.refusal-number.ensures ∙ c.if-number-ne0.false) (c.if-out-file_bytes.false ∙ c.file_bytes.ensures ∙ ap (λ k. file_length k c.args.s) c.other_form.ensures) _ _ c.turn_file.ensures (not-false _ c.if-not-turn_file.false)
+    file_turned _ _ _ _ (sym c.refusal-number.ensures ∙ c.if-number-ne0.false) (c.if-out-file_bytes.false ∙ c.file_bytes.ensures ∙ ap (λ k. file_length k c.args.s) c.other_form.ensures) _ _ c.turn_file.ensures c.if-not-turn_file.false
 
 pub file_bytes-requires : goal.file_bytes-requires
 file_bytes-requires c = accepted_of _ (sym c.refusal-number.ensures ∙ c.if-number-ne0.false)

@@ -18,7 +18,7 @@ heading_right-requires c =
 
 pub returns-then-not-heading_right : goal.returns-then-not-heading_right
 returns-then-not-heading_right c =
-    taken_heading _ _ _ _ _ _ c.depth-depth.ensures c.heading_right.ensures (not-true _ c.if-not-heading_right.true)
+    taken_heading _ _ _ _ _ _ c.depth-depth.ensures c.heading_right.ensures c.if-not-heading_right.true
     (c.if-file-file_bytes.false ∙ c.file_bytes.ensures)
 
 pub take_lines-requires : goal.take_lines-requires
@@ -32,14 +32,14 @@ pub returns-then-not-take_lines : goal.returns-then-not-take_lines
 unfolding n_mux
 returns-then-not-take_lines c =
     taken_lines _ _ _ _ _ c.n_mux.ensures c.depth-depth.ensures (c.if-file-file_bytes.false ∙ c.file_bytes.ensures)
-    _ _ (not-true _ c.if-not-take_lines.true) c.take_lines.ensures
+    _ _ c.if-not-take_lines.true c.take_lines.ensures
 
 pub returns : goal.returns
 unfolding n_mux
 returns c =
-    let after = c.take_lines.result.1.1.1.0 in
+    let after = c.take_lines.new.memory in
     taken-all _ _ _ _ _ c.n_mux.ensures c.depth-depth.ensures (c.if-file-file_bytes.false ∙ c.file_bytes.ensures)
-    after _ _ _ c.heading_right.ensures (not-false _ c.if-not-heading_right.false) (not-false _ c.if-not-take_lines.false) c.take_lines.ensures
+    after _ _ _ c.heading_right.ensures c.if-not-heading_right.false c.if-not-take_lines.false c.take_lines.ensures
     (c.bytes_pass.ensures ∙ ap (λ k. points_pass (points_only k) (numbers after)) c.msc_constellation.ensures)
 
 pub msc_constellation-requires : goal.msc_constellation-requires

@@ -19,10 +19,12 @@ take_line-requires c =
 pub returns-then-not-take_line : goal.returns-then-not-take_line
 returns-then-not-take_line c =
     let b = c in
-    lining_stop _ _ _ _ _ _ _ b.loop-k.k _ _ b.line_bytes-long.ensures (search rules) b.loop-k.invariant _ _ (not-true _ c.if-not-take_line.true) c.take_line.ensures
+    lining_stop _ _ _ _ _ _ _ b.loop-k.k _ _ b.line_bytes-long.ensures (search rules) b.loop-k.invariant _ _ c.if-not-take_line.true c.take_line.ensures
 
 pub overflow_add-at-in-loop-k : goal.overflow_add-at-in-loop-k
-overflow_add-at-in-loop-k c = let h = within c.before.before.before.before.before.before in search rules
+overflow_add-at-in-loop-k c =
+    let h = line-within _ _ _ _ _ _ c.loop-k.from c.loop-k.k _ _ c.line_bytes-long.ensures (search rules) c.loop-k.invariant in
+    search rules
 
 pub overflow_add-from : goal.overflow_add-from
 overflow_add-from c =
@@ -33,7 +35,7 @@ overflow_add-from c =
 pub loop-k-preserved : goal.loop-k-preserved
 loop-k-preserved c =
     let b = c in
-    lining_turn _ _ _ _ _ _ _ b.loop-k.k _ _ b.line_bytes-long.ensures (search rules) b.loop-k.invariant _ _ (not-false _ c.if-not-take_line.false) c.take_line.ensures
+    lining_turn _ _ _ _ _ _ _ b.loop-k.k _ _ b.line_bytes-long.ensures (search rules) b.loop-k.invariant _ _ c.if-not-take_line.false c.take_line.ensures
 
 pub returns : goal.returns
 returns c =

@@ -3,7 +3,7 @@ use borrow.Author.Rules.{rules}
 use Rattle.holdwriting.proofs.LinesPut.{writing_start, slot_within, line-within, line_room, writing_turn, writing_end}
 use Rattle.holdwriting.proofs.writing.put_lines.Goals as goal
 
--- slot k lies slice_bounds-put_line-end memory
+-- slot k lies within memory
 pub slice_bounds-put_line-end : goal.slice_bounds-put_line-end
 slice_bounds-put_line-end c = slot_within _ _ _ _ _ c.loop-k.at _ c.loop-k.k _ _ c.line_bytes-long.ensures (search rules) c.loop-k.invariant
 
@@ -30,7 +30,9 @@ pub overflow_add-from : goal.overflow_add-from
 overflow_add-from c = let h = slice_bounds-put_line-end c in search rules
 
 pub overflow_add-from-in-loop-k : goal.overflow_add-from-in-loop-k
-overflow_add-from-in-loop-k c = let h = slice_bounds-put_line-end c.before.before.before.before.before in search rules
+overflow_add-from-in-loop-k c =
+    let h = slot_within _ _ _ _ _ c.loop-k.at _ c.loop-k.k _ _ c.line_bytes-long.ensures (search rules) c.loop-k.invariant in
+    search rules
 
 pub returns : goal.returns
 returns c = writing_end _ _ _ _ _ _ _ c.loop-k.k _ (search rules) c.loop-k.invariant

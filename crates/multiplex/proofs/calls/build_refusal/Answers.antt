@@ -1,5 +1,6 @@
 -- `build_refusal` meets its contract. Assumes nothing.
-use mathlib.Core.Path.{sym, ◌∙◌}
+use mathlib.Core.Bool.{not}
+use mathlib.Core.Path.{sym, ◌∙◌, ap}
 use native.Mathlib.Omega.{arith}
 use borrow.Author.Tests.{not-false}
 use Rattle.settings.proofs.Chain.{hold, pass}
@@ -11,10 +12,10 @@ pub returns-then-number-ne0 : goal.returns-then-number-ne0
 returns-then-number-ne0 c = build_settings _ _ _ _ c.refusal-number.ensures c.if-number-ne0.true
 
 pub returns-then-not-described : goal.returns-then-not-described
-returns-then-not-described c = build_numbers _ _ _ _ (sym c.refusal-number.ensures ∙ c.if-number-ne0.false) c.described.ensures c.if-not-described.true
+returns-then-not-described c = build_numbers _ _ _ _ (sym c.refusal-number.ensures ∙ c.if-number-ne0.false) c.described.ensures (ap not c.if-not-described.true)
 
 pub layout-l-requires : goal.layout-l-requires
-layout-l-requires c = record { s_value = sym c.refusal-number.ensures ∙ c.if-number-ne0.false; description_value = sym c.described.ensures ∙ not-false _ c.if-not-described.false }
+layout-l-requires c = record { s_value = sym c.refusal-number.ensures ∙ c.if-number-ne0.false; description_value = sym c.described.ensures ∙ c.if-not-described.false }
 
 pub overflow_add-l : goal.overflow_add-l
 overflow_add-l c = omega (arith, c.layout-l.ensures.small.a, c.layout-l.ensures.small.b)
@@ -25,7 +26,7 @@ overflow_add-l-2 c = omega (arith, c.layout-l.ensures.small.a, c.layout-l.ensure
 pub returns-then-streams-l : goal.returns-then-streams-l
 returns-then-streams-l c =
     let ok = sym c.refusal-number.ensures ∙ c.if-number-ne0.false in
-    let n = sym c.described.ensures ∙ not-false _ c.if-not-described.false in
+    let n = sym c.described.ensures ∙ c.if-not-described.false in
     let e = c.layout-l.ensures.value in
     build_streams _ _ _ _ ok n (λ z. c.if-streams-l.true (z ∙ wanted_streams _ _ e))
 
@@ -38,7 +39,7 @@ bytes_for-requires c = omega (arith, c.layout-l.ensures.small.frame)
 pub returns-then-frame-bytes_for : goal.returns-then-frame-bytes_for
 returns-then-frame-bytes_for c =
     let ok = sym c.refusal-number.ensures ∙ c.if-number-ne0.false in
-    let n = sym c.described.ensures ∙ not-false _ c.if-not-described.false in
+    let n = sym c.described.ensures ∙ c.if-not-described.false in
     let e = c.layout-l.ensures.value in
     let m = c.if-streams-l.false ∙ sym (wanted_streams _ _ e) in
     build_frame_lem _ _ _ _ ok n m (λ z. c.if-frame-bytes_for.true (z ∙ wanted_frame _ _ e ∙ sym c.bytes_for.ensures))
@@ -46,17 +47,17 @@ returns-then-frame-bytes_for c =
 pub returns-then-not-fits : goal.returns-then-not-fits
 returns-then-not-fits c =
     let ok = sym c.refusal-number.ensures ∙ c.if-number-ne0.false in
-    let n = sym c.described.ensures ∙ not-false _ c.if-not-described.false in
+    let n = sym c.described.ensures ∙ c.if-not-described.false in
     let e = c.layout-l.ensures.value in
     let m = c.if-streams-l.false ∙ sym (wanted_streams _ _ e) in
     let f = c.if-frame-bytes_for.false ∙ c.bytes_for.ensures ∙ sym (wanted_frame _ _ e) in
-    hold _ 19 0 c.if-not-fits.true ∙ build_test _ _ _ _ ok n m f (c.fits2.ensures ∙ wanted_fit _ _ e)
+    hold _ 19 0 (ap not c.if-not-fits.true) ∙ build_test _ _ _ _ ok n m f (c.fits.ensures ∙ wanted_fit _ _ e)
 
 pub returns : goal.returns
 returns c =
     let ok = sym c.refusal-number.ensures ∙ c.if-number-ne0.false in
-    let n = sym c.described.ensures ∙ not-false _ c.if-not-described.false in
+    let n = sym c.described.ensures ∙ c.if-not-described.false in
     let e = c.layout-l.ensures.value in
     let m = c.if-streams-l.false ∙ sym (wanted_streams _ _ e) in
     let f = c.if-frame-bytes_for.false ∙ c.bytes_for.ensures ∙ sym (wanted_frame _ _ e) in
-    pass _ 19 0 c.if-not-fits.false ∙ build_test _ _ _ _ ok n m f (c.fits2.ensures ∙ wanted_fit _ _ e)
+    pass _ 19 0 (ap not c.if-not-fits.false) ∙ build_test _ _ _ _ ok n m f (c.fits.ensures ∙ wanted_fit _ _ e)

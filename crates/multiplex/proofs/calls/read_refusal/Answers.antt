@@ -1,4 +1,5 @@
 -- `read_refusal` meets its contract. Assumes nothing.
+use mathlib.Core.Bool.{not}
 use mathlib.Core.Path.{sym, ap, ◌∙◌}
 use native.Mathlib.Omega.{arith}
 use borrow.Author.Tests.{not-false}
@@ -12,10 +13,10 @@ pub returns-then-number-ne0 : goal.returns-then-number-ne0
 returns-then-number-ne0 c = read_settings _ _ _ _ c.refusal-number.ensures c.if-number-ne0.true
 
 pub returns-then-not-described : goal.returns-then-not-described
-returns-then-not-described c = read-numbers _ _ _ _ (sym c.refusal-number.ensures ∙ c.if-number-ne0.false) c.described.ensures c.if-not-described.true
+returns-then-not-described c = read-numbers _ _ _ _ (sym c.refusal-number.ensures ∙ c.if-number-ne0.false) c.described.ensures (ap not c.if-not-described.true)
 
 pub layout-l-requires : goal.layout-l-requires
-layout-l-requires c = record { s_value = sym c.refusal-number.ensures ∙ c.if-number-ne0.false; description_value = sym c.described.ensures ∙ not-false _ c.if-not-described.false }
+layout-l-requires c = record { s_value = sym c.refusal-number.ensures ∙ c.if-number-ne0.false; description_value = sym c.described.ensures ∙ c.if-not-described.false }
 
 pub overflow_add-l : goal.overflow_add-l
 overflow_add-l c = omega (arith, c.layout-l.ensures.small.frame)
@@ -26,7 +27,7 @@ bytes_for-requires c = omega (arith, c.layout-l.ensures.small.frame)
 pub returns-then-frame-bytes_for : goal.returns-then-frame-bytes_for
 returns-then-frame-bytes_for c =
     let ok = sym c.refusal-number.ensures ∙ c.if-number-ne0.false in
-    let n = sym c.described.ensures ∙ not-false _ c.if-not-described.false in
+    let n = sym c.described.ensures ∙ c.if-not-described.false in
     let e = c.layout-l.ensures.value in
     read_frame _ _ _ _ ok n (λ z. c.if-frame-bytes_for.true (z ∙ wanted_frame _ _ e ∙ sym c.bytes_for.ensures))
 
@@ -39,7 +40,7 @@ overflow_add-l-3 c = omega (arith, c.layout-l.ensures.small.a, c.layout-l.ensure
 pub returns-then-streams-l : goal.returns-then-streams-l
 returns-then-streams-l c =
     let ok = sym c.refusal-number.ensures ∙ c.if-number-ne0.false in
-    let n = sym c.described.ensures ∙ not-false _ c.if-not-described.false in
+    let n = sym c.described.ensures ∙ c.if-not-described.false in
     let e = c.layout-l.ensures.value in
     let f = c.if-frame-bytes_for.false ∙ c.bytes_for.ensures ∙ sym (wanted_frame _ _ e) in
     read-streams _ _ _ _ ok n f (λ z. c.if-streams-l.true (z ∙ wanted_streams _ _ e))
@@ -53,43 +54,43 @@ spare_zero-requires c = few_bytes c.if-frame-bytes_for.false c.bytes_for.ensures
 pub returns-then-not-spare_zero : goal.returns-then-not-spare_zero
 returns-then-not-spare_zero c =
     let ok = sym c.refusal-number.ensures ∙ c.if-number-ne0.false in
-    let n = sym c.described.ensures ∙ not-false _ c.if-not-described.false in
+    let n = sym c.described.ensures ∙ c.if-not-described.false in
     let e = c.layout-l.ensures.value in
     let f = c.if-frame-bytes_for.false ∙ c.bytes_for.ensures ∙ sym (wanted_frame _ _ e) in
     let m = c.if-streams-l.false ∙ sym (wanted_streams _ _ e) in
-    read_spare c.args.s c.args.description.now c.args.frame.now c.args.streams.now ok n f m (c.spare_zero.ensures ∙ ap (λ k. spare_zero k c.args.frame.now) (sym (wanted_bits _ _ e))) c.if-not-spare_zero.true
+    read_spare c.args.s c.args.description.now c.args.frame.now c.args.streams.now ok n f m (c.spare_zero.ensures ∙ ap (λ k. spare_zero k c.args.frame.now) (sym (wanted_bits _ _ e))) (ap not c.if-not-spare_zero.true)
 
 pub returns-then-not-fits : goal.returns-then-not-fits
 returns-then-not-fits c =
     let ok = sym c.refusal-number.ensures ∙ c.if-number-ne0.false in
-    let n = sym c.described.ensures ∙ not-false _ c.if-not-described.false in
+    let n = sym c.described.ensures ∙ c.if-not-described.false in
     let e = c.layout-l.ensures.value in
     let f = c.if-frame-bytes_for.false ∙ c.bytes_for.ensures ∙ sym (wanted_frame _ _ e) in
     let m = c.if-streams-l.false ∙ sym (wanted_streams _ _ e) in
-    let z = sym (c.spare_zero.ensures ∙ ap (λ k. spare_zero k c.args.frame.now) (sym (wanted_bits _ _ e))) ∙ not-false _ c.if-not-spare_zero.false in
-    read-fit c.args.s c.args.description.now c.args.frame.now c.args.streams.now ok n f m z (c.fits2.ensures ∙ wanted_fit _ _ e) c.if-not-fits.true
+    let z = sym (c.spare_zero.ensures ∙ ap (λ k. spare_zero k c.args.frame.now) (sym (wanted_bits _ _ e))) ∙ c.if-not-spare_zero.false in
+    read-fit c.args.s c.args.description.now c.args.frame.now c.args.streams.now ok n f m z (c.fits.ensures ∙ wanted_fit _ _ e) (ap not c.if-not-fits.true)
 
 pub filling_zero-requires : goal.filling_zero-requires
-filling_zero-requires c = fitting _ c.layout-l.ensures.small.frame (sym c.fits2.ensures ∙ not-false _ c.if-not-fits.false)
+filling_zero-requires c = fitting _ c.layout-l.ensures.small.frame (sym c.fits.ensures ∙ c.if-not-fits.false)
 
 pub returns-then-not-filling_zero : goal.returns-then-not-filling_zero
 returns-then-not-filling_zero c =
     let ok = sym c.refusal-number.ensures ∙ c.if-number-ne0.false in
-    let n = sym c.described.ensures ∙ not-false _ c.if-not-described.false in
+    let n = sym c.described.ensures ∙ c.if-not-described.false in
     let e = c.layout-l.ensures.value in
     let f = c.if-frame-bytes_for.false ∙ c.bytes_for.ensures ∙ sym (wanted_frame _ _ e) in
     let m = c.if-streams-l.false ∙ sym (wanted_streams _ _ e) in
-    let z = sym (c.spare_zero.ensures ∙ ap (λ k. spare_zero k c.args.frame.now) (sym (wanted_bits _ _ e))) ∙ not-false _ c.if-not-spare_zero.false in
-    let t = sym (c.fits2.ensures ∙ wanted_fit _ _ e) ∙ not-false _ c.if-not-fits.false in
-    hold _ 20 0 c.if-not-filling_zero.true ∙ read_test c.args.s c.args.description.now c.args.frame.now c.args.streams.now ok n f m z t (c.filling_zero.ensures ∙ wanted_zero _ _ e _)
+    let z = sym (c.spare_zero.ensures ∙ ap (λ k. spare_zero k c.args.frame.now) (sym (wanted_bits _ _ e))) ∙ c.if-not-spare_zero.false in
+    let t = sym (c.fits.ensures ∙ wanted_fit _ _ e) ∙ c.if-not-fits.false in
+    hold _ 20 0 (ap not c.if-not-filling_zero.true) ∙ read_test c.args.s c.args.description.now c.args.frame.now c.args.streams.now ok n f m z t (c.filling_zero.ensures ∙ wanted_zero _ _ e _)
 
 pub returns : goal.returns
 returns c =
     let ok = sym c.refusal-number.ensures ∙ c.if-number-ne0.false in
-    let n = sym c.described.ensures ∙ not-false _ c.if-not-described.false in
+    let n = sym c.described.ensures ∙ c.if-not-described.false in
     let e = c.layout-l.ensures.value in
     let f = c.if-frame-bytes_for.false ∙ c.bytes_for.ensures ∙ sym (wanted_frame _ _ e) in
     let m = c.if-streams-l.false ∙ sym (wanted_streams _ _ e) in
-    let z = sym (c.spare_zero.ensures ∙ ap (λ k. spare_zero k c.args.frame.now) (sym (wanted_bits _ _ e))) ∙ not-false _ c.if-not-spare_zero.false in
-    let t = sym (c.fits2.ensures ∙ wanted_fit _ _ e) ∙ not-false _ c.if-not-fits.false in
-    pass _ 20 0 c.if-not-filling_zero.false ∙ read_test c.args.s c.args.description.now c.args.frame.now c.args.streams.now ok n f m z t (c.filling_zero.ensures ∙ wanted_zero _ _ e _)
+    let z = sym (c.spare_zero.ensures ∙ ap (λ k. spare_zero k c.args.frame.now) (sym (wanted_bits _ _ e))) ∙ c.if-not-spare_zero.false in
+    let t = sym (c.fits.ensures ∙ wanted_fit _ _ e) ∙ c.if-not-fits.false in
+    pass _ 20 0 (ap not c.if-not-filling_zero.false) ∙ read_test c.args.s c.args.description.now c.args.frame.now c.args.streams.now ok n f m z t (c.filling_zero.ensures ∙ wanted_zero _ _ e _)
