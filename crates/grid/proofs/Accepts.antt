@@ -105,15 +105,15 @@ module _ (s : Settings) (z : GridSizes) (e : z ≡ grid_sizes s) where
         rw (lt-ltb 0 (refusal s) some) is_refusal
 
     module _ (a b : ℕ) (h : z.refusal ≡ 0) (i : a ≡ n_sdc s) (j : b ≡ n_sfa s) where
-      pub refused-cells : not (eqb f 390 && (eqb d (2 * a) && eqb m (2 * b))) ≡ true → n ≡ lengths_refusal n s f d m g
+      pub refused-cells : eqb f 390 && (eqb d (2 * a) && eqb m (2 * b)) ≡ false → n ≡ lengths_refusal n s f d m g
       unfolding lengths_refusal first
       refused-cells t = rw (sized h, ← i, ← j, t)
 
-      pub refused_grid : not (eqb f 390 && (eqb d (2 * a) && eqb m (2 * b))) ≡ false → (g ≡ z.numbers → ⊥) → 17 ≡ lengths_refusal n s f d m g
+      pub refused_grid : eqb f 390 && (eqb d (2 * a) && eqb m (2 * b)) ≡ true → (g ≡ z.numbers → ⊥) → 17 ≡ lengths_refusal n s f d m g
       unfolding lengths_refusal first
       refused_grid t k = rw (sized h, ← i, ← j, t, ne_eqb g (grid_numbers s) (λ q. k (q ∙ sym (is_numbers (sized h)))))
 
-      pub not-refused : not (eqb f 390 && (eqb d (2 * a) && eqb m (2 * b))) ≡ false → g ≡ z.numbers → 0 ≡ lengths_refusal n s f d m g
+      pub not-refused : eqb f 390 && (eqb d (2 * a) && eqb m (2 * b)) ≡ true → g ≡ z.numbers → 0 ≡ lengths_refusal n s f d m g
       unfolding lengths_refusal first
       not-refused t k = rw (sized h, ← i, ← j, t, eq-eqb g (grid_numbers s) (k ∙ is_numbers (sized h)))
 

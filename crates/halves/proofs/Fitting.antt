@@ -63,11 +63,11 @@ module _ (s : Scheme) (cut : ℕ) (one two : List ℕ) (numbers : ℕ) where
   of_settings {r} e h = rw (← e, lt-ltb 0 r (omega arith))
 
   module _ (z : scheme_refusal s ≡ 0) {b : Bool} (l : b ≡ halves_long (frame_bits s.settings) cut (length one) (length two)) where
-    pub nine : not b ≡ true → 9 ≡ halves_refusal s cut one two numbers
+    pub nine : b ≡ false → 9 ≡ halves_refusal s cut one two numbers
     unfolding halves_refusal first
     nine h = rw (z, ← l, h)
 
-    module _ (h : not b ≡ false) where
+    module _ (h : b ≡ true) where
       pub ten : (numbers ≡ 2 * n_mux s.settings → ⊥) → 10 ≡ halves_refusal s cut one two numbers
       unfolding halves_refusal first
       ten n = rw (z, ← l, h, ne_eqb numbers (2 * n_mux s.settings) n)

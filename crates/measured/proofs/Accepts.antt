@@ -134,26 +134,26 @@ bits-some (suc (suc (suc zero))) w h e = omega arith
 bits-some (suc (suc (suc (suc zero)))) w h e = omega arith
 bits-some (suc (suc (suc (suc (suc c))))) w h e = absurd (omega arith)
 
-pub lent_two : (kinds : List ℕ) (values : List Float) (a : Bool) → a ≡ eqb (length values) (2 * length kinds) → not a ≡ false → Lent kinds values
-lent_two kinds values a e f = record { two = eqb-true _ _ (sym e ∙ not-false _ f) }
+pub lent_two : (kinds : List ℕ) (values : List Float) (a : Bool) → a ≡ eqb (length values) (2 * length kinds) → a ≡ true → Lent kinds values
+lent_two kinds values a e f = record { two = eqb-true _ _ (sym e ∙ f) }
 
 -- the number that is given, by the first test that fails
 module _ (c : ℕ) (kinds : List ℕ) (values : List Float) (points bits : ℕ) (a : Bool) (ea : a ≡ eqb (length values) (2 * length kinds)) where
-  pub refused-values : not a ≡ true → 9 ≡ decide_refusal c kinds values points bits
+  pub refused-values : a ≡ false → 9 ≡ decide_refusal c kinds values points bits
   unfolding decide_refusal first
   refused-values t = rw (← ea, t)
 
-  module _ (f : not a ≡ false) (w : ℕ) (b d : Bool) (ew : w ≡ axis_bits c) (eb : b ≡ eqb points (2 * length kinds)) (ed : d ≡ eqb bits (2 * w * length kinds)) where
-    pub refused_room : not (b && d) ≡ true → 10 ≡ decide_refusal c kinds values points bits
+  module _ (f : a ≡ true) (w : ℕ) (b d : Bool) (ew : w ≡ axis_bits c) (eb : b ≡ eqb points (2 * length kinds)) (ed : d ≡ eqb bits (2 * w * length kinds)) where
+    pub refused_room : b && d ≡ false → 10 ≡ decide_refusal c kinds values points bits
     unfolding decide_refusal first
     refused_room t = rw (← ea, f, ← ew, ← eb, ← ed, t)
 
-    module _ (g : not (b && d) ≡ false) (p : Bool) (ep : p ≡ pass kinds values) where
-      pub refused-cells : not p ≡ true → 22 ≡ decide_refusal c kinds values points bits
+    module _ (g : b && d ≡ true) (p : Bool) (ep : p ≡ pass kinds values) where
+      pub refused-cells : p ≡ false → 22 ≡ decide_refusal c kinds values points bits
       unfolding decide_refusal first
       refused-cells t = rw (← ea, f, ← ew, ← eb, ← ed, g, ← ep, t)
 
-      pub not-refused : not p ≡ false → 0 ≡ decide_refusal c kinds values points bits
+      pub not-refused : p ≡ true → 0 ≡ decide_refusal c kinds values points bits
       unfolding decide_refusal first
       not-refused t = rw (← ea, f, ← ew, ← eb, ← ed, g, ← ep, t)
 

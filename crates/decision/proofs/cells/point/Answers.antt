@@ -12,7 +12,7 @@ decide_axis-requires c =
     let s = c in
     record {
       known = s.requires.known;
-      finite = rw c.Value-on.ensures (pair_finite _ s.args.m (rw c.in-Pair.is at s.requires.passed));
+      finite = rw c.value_on.ensures (pair_finite _ s.args.m (rw c.in-Pair.is at s.requires.passed));
     }
 
 pub returns-in-Pair : goal.returns-in-Pair
@@ -20,7 +20,7 @@ unfolding point_on
 returns-in-Pair c =
     let s = c in
     rw c.in-Pair.is
-    (to_z-of_z {w = w16} (sfits_of {w = w16} c.decide_axis.type_inv) ∙ rw c.Value-on.ensures at (c.decide_axis.ensures.point s.args.m))
+    (to_z-of_z {w = w16} (sfits_of {w = w16} c.decide_axis.type_inv) ∙ rw c.value_on.ensures at (c.decide_axis.ensures.point s.args.m))
 
 pub returns-in-Fade : goal.returns-in-Fade
 unfolding point_on

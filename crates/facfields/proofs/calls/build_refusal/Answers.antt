@@ -21,18 +21,14 @@ returns-then-block-ne-BLOCK_BYTES c =
     let b = c in
     build_bytes_lem _ _ _ (sym b.refusal-number.ensures ∙ b.if-number-ne0.false) c.if-numbers-ne-FIELDS.false c.if-block-ne-BLOCK_BYTES.true
 
--- the test of the fields gives the number that is left
-tested : (c : goal.After-agrees)
-    → let a = c.args in
-    first (not (c.within.result && c.agrees.result)) 15 0 ≡ build_refusal a.s a.numbers.now a.block.now
-tested c =
-    let f = c in
-    let b = f in
-    build_test _ _ _ _ (sym b.refusal-number.ensures ∙ b.if-number-ne0.false) f.if-numbers-ne-FIELDS.false f.if-block-ne-BLOCK_BYTES.false
-    (ap₂ ◌&&◌ (c.within.ensures ∙ ap within f.fields_of-f.ensures) (c.agrees.ensures ∙ ap (agrees _) f.fields_of-f.ensures))
-
 pub returns-then-not-within-agrees : goal.returns-then-not-within-agrees
-returns-then-not-within-agrees c = hold _ 15 0 c.if-not-within-agrees.true ∙ tested c.before
+returns-then-not-within-agrees c =
+    hold _ 15 0 (ap not c.if-not-within-agrees.true)
+    ∙ build_test _ _ _ _ (sym c.refusal-number.ensures ∙ c.if-number-ne0.false) c.if-numbers-ne-FIELDS.false c.if-block-ne-BLOCK_BYTES.false
+    (ap₂ ◌&&◌ (c.within.ensures ∙ ap within c.fields_of-f.ensures) (c.agrees.ensures ∙ ap (agrees _) c.fields_of-f.ensures))
 
 pub returns : goal.returns
-returns c = pass _ 15 0 c.if-not-within-agrees.false ∙ tested c.before
+returns c =
+    pass _ 15 0 (ap not c.if-not-within-agrees.false)
+    ∙ build_test _ _ _ _ (sym c.refusal-number.ensures ∙ c.if-number-ne0.false) c.if-numbers-ne-FIELDS.false c.if-block-ne-BLOCK_BYTES.false
+    (ap₂ ◌&&◌ (c.within.ensures ∙ ap within c.fields_of-f.ensures) (c.agrees.ensures ∙ ap (agrees _) c.fields_of-f.ensures))

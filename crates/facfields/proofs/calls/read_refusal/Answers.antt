@@ -21,21 +21,22 @@ returns-then-numbers-ne-FIELDS c =
     let b = c in
     read_fields_lem _ _ _ (sym b.refusal-number.ensures ∙ b.if-number-ne0.false) c.if-block-ne-BLOCK_BYTES.false c.if-numbers-ne-FIELDS.true
 
--- the tests of the fields and of the CRC give the number that is left
-tested : (c : goal.After-crc_right-right)
-    → let a = c.args in
-    first (not c.agrees-agreed.result) 15 (first (not c.crc_right-right.result) 16 0) ≡ read_refusal a.s a.block.now a.numbers.now
-tested c =
-    let f = c in
-    let b = f in
-    read_test _ _ _ _ _ (sym b.refusal-number.ensures ∙ b.if-number-ne0.false) f.if-block-ne-BLOCK_BYTES.false f.if-numbers-ne-FIELDS.false
-    (c.agrees-agreed.ensures ∙ ap (agrees _) f.fields_in.ensures) c.crc_right-right.ensures
-
 pub returns-then-not-agreed : goal.returns-then-not-agreed
-returns-then-not-agreed c = hold _ 15 _ c.if-not-agreed.true ∙ tested c.before
+returns-then-not-agreed c =
+    hold _ 15 _ (ap not c.if-not-agreed.true)
+    ∙ read_test _ _ _ _ _ (sym c.refusal-number.ensures ∙ c.if-number-ne0.false) c.if-block-ne-BLOCK_BYTES.false c.if-numbers-ne-FIELDS.false
+    (c.agrees-agreed.ensures ∙ ap (agrees _) c.fields_in.ensures) c.crc_right-right.ensures
 
 pub returns-then-not-right : goal.returns-then-not-right
-returns-then-not-right c = hold _ 16 0 c.if-not-right.true ∙ pass _ 15 _ c.if-not-agreed.false ∙ tested c.before.before
+returns-then-not-right c =
+    hold _ 16 0 (ap not c.if-not-right.true)
+    ∙ pass _ 15 _ (ap not c.if-not-agreed.false)
+    ∙ read_test _ _ _ _ _ (sym c.refusal-number.ensures ∙ c.if-number-ne0.false) c.if-block-ne-BLOCK_BYTES.false c.if-numbers-ne-FIELDS.false
+    (c.agrees-agreed.ensures ∙ ap (agrees _) c.fields_in.ensures) c.crc_right-right.ensures
 
 pub returns : goal.returns
-returns c = pass _ 16 0 c.if-not-right.false ∙ pass _ 15 _ c.if-not-agreed.false ∙ tested c.before.before
+returns c =
+    pass _ 16 0 (ap not c.if-not-right.false)
+    ∙ pass _ 15 _ (ap not c.if-not-agreed.false)
+    ∙ read_test _ _ _ _ _ (sym c.refusal-number.ensures ∙ c.if-number-ne0.false) c.if-block-ne-BLOCK_BYTES.false c.if-numbers-ne-FIELDS.false
+    (c.agrees-agreed.ensures ∙ ap (agrees _) c.fields_in.ensures) c.crc_right-right.ensures

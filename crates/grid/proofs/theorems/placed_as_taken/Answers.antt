@@ -3,4 +3,4 @@ use Rattle.grid.proofs.Inverses.{placed_as_taken}
 use Rattle.grid.proofs.theorems.placed_as_taken.Goals as goal
 
 pub returns : goal.returns
-returns c = let both = placed_as_taken in record { None = both.0; None = both.1 }
+returns c = placed_as_taken

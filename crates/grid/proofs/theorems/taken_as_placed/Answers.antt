@@ -3,4 +3,4 @@ use Rattle.grid.proofs.Inverses.{taken_as_placed}
 use Rattle.grid.proofs.theorems.taken_as_placed.Goals as goal
 
 pub returns : goal.returns
-returns c = let both = taken_as_placed in record { None = both.0; None = both.1; None = both.2 }
+returns c = taken_as_placed

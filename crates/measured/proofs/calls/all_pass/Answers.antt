@@ -8,12 +8,12 @@ use Rattle.measured.proofs.calls.all_pass.Goals as goal
 pub returns-then-refused : goal.returns-then-refused
 returns-then-refused c =
     let t = c in
-    pass_stop _ _ _ _ _ (search rules) t.Cell-at.ensures c.refused.ensures t.loop-k.invariant c.if-refused.true
+    pass_stop _ _ _ _ _ (search rules) t.cell_at.ensures c.refused.ensures t.loop-k.invariant c.if-refused.true
 
 pub loop-k-preserved : goal.loop-k-preserved
 loop-k-preserved c =
     let t = c in
-    pass_turn _ _ _ _ _ (search rules) t.Cell-at.ensures c.refused.ensures t.loop-k.invariant c.if-refused.false
+    pass_turn _ _ _ _ _ (search rules) t.cell_at.ensures c.refused.ensures t.loop-k.invariant c.if-refused.false
 
 pub returns : goal.returns
 unfolding pass

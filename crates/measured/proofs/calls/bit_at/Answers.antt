@@ -20,9 +20,9 @@ bit-requires c =
     record {
       known = p.known;
       low = p.low;
-      is = rw (to_z-of_z {w = w16} (sfits_of {w = w16} c.bit-arg-1.given)) (point_is _ _ _ _ _ _ p.are p.number t.Cell-at.ensures);
+      is = rw (to_z-of_z {w = w16} (sfits_of {w = w16} c.bit-arg-1.given)) (point_is _ _ _ _ _ _ p.are p.number t.cell_at.ensures);
     }
 
 pub returns : goal.returns
 unfolding bit_at
-returns c = rw (c.bit.ensures, c.Cell-at.ensures)
+returns c = rw (c.bit.ensures, c.cell_at.ensures)

@@ -9,10 +9,8 @@ returns-in-Fac c = search rules
 
 pub returns-in-Sdc : goal.returns-in-Sdc
 unfolding constellation_of
-
-pub returns-in-Sdc : goal.returns-in-Sdc
+returns-in-Sdc c = search rules
 
 pub returns-in-Msc : goal.returns-in-Msc
 unfolding constellation_of
-
-pub returns-in-Msc : goal.returns-in-Msc
+returns-in-Msc c = search rules

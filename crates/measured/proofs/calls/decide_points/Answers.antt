@@ -21,7 +21,7 @@ point-requires c =
     let p = c.requires in
     record {
       known = p.known;
-      passed = cell_passed _ _ _ _ p.passed (omega (arith, p.room, c.loop-m-test.true, c.loop-m.invariant.0.long)) c.Cell-at.ensures;
+      passed = cell_passed _ _ _ _ p.passed (omega (arith, p.room, c.loop-m-test.true, c.loop-m.invariant.0.long)) c.cell_at.ensures;
     }
 
 pub loop-m-preserved : goal.loop-m-preserved
@@ -29,7 +29,7 @@ unfolding point_at
 loop-m-preserved c =
     let l = c in
     let e : to_z w16 (of_z w16 c.point.result) ≡ c.point.result = to_z-of_z {w = w16} (sfits_of {w = w16} c.point.type_inv) in (
-      filled_turn (pos 0) _ _ l.loop-m.points l.loop-m.m _ (search rules) (e ∙ rw c.Cell-at.ensures at c.point.ensures) l.loop-m.invariant.0,
+      filled_turn (pos 0) _ _ l.loop-m.points l.loop-m.m _ (search rules) (e ∙ rw c.cell_at.ensures at c.point.ensures) l.loop-m.invariant.0,
       search rules,
     )
 

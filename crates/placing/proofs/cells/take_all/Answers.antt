@@ -4,5 +4,4 @@ use Rattle.placing.proofs.cells.take_all.Goals as goal
 
 pub returns : goal.returns
 returns c =
-    let b = c in
-    all-taken _ _ _ _ _ b.take-Cells.ensures b.take_cells-2.ensures c.take_cells-3.ensures
+    all-taken _ _ _ _ _ c.take_cells.ensures c.take_cells-2.ensures c.take_cells-3.ensures

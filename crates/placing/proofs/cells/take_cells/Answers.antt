@@ -13,17 +13,13 @@ loop-n-init c = take-start _ _ _ _ c.requires
 pub next_place-q-requires : goal.next_place-q-requires
 next_place-q-requires c = let l = c.loop-n in ahead _ _ _ _ _ l.p l.n l.invariant c.loop-n-test.true
 
--- what is known of the place found
-here : (c : goal.After-next_place-q) → Next c.args.kind c.args.kinds.now c.args.grid.now c.loop-n.out c.loop-n.n c.next_place-q.result
-here c = let l = c.loop-n in next _ _ _ _ _ l.p l.n l.invariant c.loop-n-test.true _ c.next_place-q.ensures
-
 pub bounds-out-n-in-loop-n : goal.bounds-out-n-in-loop-n
-bounds-out-n-in-loop-n c = rw length-set (let h = here c.before.before in omega arith)
+bounds-out-n-in-loop-n c = rw length-set (let h = next _ _ _ _ _ c.loop-n.p c.loop-n.n c.loop-n.invariant c.loop-n-test.true _ c.next_place-q.ensures in omega arith)
 
 pub loop-n-smaller : goal.loop-n-smaller
 loop-n-smaller c =
     let l = c in
-    omega (arith, (here c.before.before).room, l.loop-n.invariant.filled.long)
+    omega (arith, (next _ _ _ _ _ c.loop-n.p c.loop-n.n c.loop-n.invariant c.loop-n-test.true _ c.next_place-q.ensures).room, l.loop-n.invariant.filled.long)
 
 pub loop-n-preserved : goal.loop-n-preserved
 loop-n-preserved c =
@@ -40,43 +36,43 @@ pub returns : goal.returns
 returns c = take_done _ _ _ _ _ c.loop-n.p c.loop-n.n c.loop-n.invariant c.loop-n-test.false
 
 pub overflow_mul-out : goal.overflow_mul-out
-overflow_mul-out c = let h = here c in omega arith
+overflow_mul-out c = let h = next _ _ _ _ _ c.loop-n.p c.loop-n.n c.loop-n.invariant c.loop-n-test.true _ c.next_place-q.ensures in omega arith
 
 pub overflow_add-out : goal.overflow_add-out
-overflow_add-out c = let h = here c in omega arith
+overflow_add-out c = let h = next _ _ _ _ _ c.loop-n.p c.loop-n.n c.loop-n.invariant c.loop-n-test.true _ c.next_place-q.ensures in omega arith
 
 pub offset_bounds-grid-q : goal.offset_bounds-grid-q
-offset_bounds-grid-q c = let h = here c in omega arith
+offset_bounds-grid-q c = let h = next _ _ _ _ _ c.loop-n.p c.loop-n.n c.loop-n.invariant c.loop-n-test.true _ c.next_place-q.ensures in omega arith
 
 pub bounds-grid-q : goal.bounds-grid-q
-bounds-grid-q c = let h = here c in omega arith
+bounds-grid-q c = let h = next _ _ _ _ _ c.loop-n.p c.loop-n.n c.loop-n.invariant c.loop-n-test.true _ c.next_place-q.ensures in omega arith
 
 pub offset_bounds-out-n : goal.offset_bounds-out-n
-offset_bounds-out-n c = let h = here c.before in omega arith
+offset_bounds-out-n c = let h = next _ _ _ _ _ c.loop-n.p c.loop-n.n c.loop-n.invariant c.loop-n-test.true _ c.next_place-q.ensures in omega arith
 
 pub bounds-out-n : goal.bounds-out-n
-bounds-out-n c = let h = here c.before in omega arith
+bounds-out-n c = let h = next _ _ _ _ _ c.loop-n.p c.loop-n.n c.loop-n.invariant c.loop-n-test.true _ c.next_place-q.ensures in omega arith
 
 pub overflow_mul-out-in-loop-n : goal.overflow_mul-out-in-loop-n
-overflow_mul-out-in-loop-n c = let h = here c.before in omega arith
+overflow_mul-out-in-loop-n c = let h = next _ _ _ _ _ c.loop-n.p c.loop-n.n c.loop-n.invariant c.loop-n-test.true _ c.next_place-q.ensures in omega arith
 
 pub overflow_add-out-in-loop-n : goal.overflow_add-out-in-loop-n
-overflow_add-out-in-loop-n c = let h = here c.before in omega arith
+overflow_add-out-in-loop-n c = let h = next _ _ _ _ _ c.loop-n.p c.loop-n.n c.loop-n.invariant c.loop-n-test.true _ c.next_place-q.ensures in omega arith
 
 pub offset_bounds-grid-q-in-loop-n : goal.offset_bounds-grid-q-in-loop-n
-offset_bounds-grid-q-in-loop-n c = let h = here c.before in omega arith
+offset_bounds-grid-q-in-loop-n c = let h = next _ _ _ _ _ c.loop-n.p c.loop-n.n c.loop-n.invariant c.loop-n-test.true _ c.next_place-q.ensures in omega arith
 
 pub bounds-grid-q-in-loop-n : goal.bounds-grid-q-in-loop-n
-bounds-grid-q-in-loop-n c = let h = here c.before in omega arith
+bounds-grid-q-in-loop-n c = let h = next _ _ _ _ _ c.loop-n.p c.loop-n.n c.loop-n.invariant c.loop-n-test.true _ c.next_place-q.ensures in omega arith
 
 pub overflow_add-n : goal.overflow_add-n
-overflow_add-n c = let h = here c.before.before in omega arith
+overflow_add-n c = let h = next _ _ _ _ _ c.loop-n.p c.loop-n.n c.loop-n.invariant c.loop-n-test.true _ c.next_place-q.ensures in omega arith
 
 pub offset_bounds-out-n-in-loop-n : goal.offset_bounds-out-n-in-loop-n
-offset_bounds-out-n-in-loop-n c = let h = here c.before.before in omega arith
+offset_bounds-out-n-in-loop-n c = let h = next _ _ _ _ _ c.loop-n.p c.loop-n.n c.loop-n.invariant c.loop-n-test.true _ c.next_place-q.ensures in omega arith
 
 pub overflow_add-n-in-loop-n : goal.overflow_add-n-in-loop-n
-overflow_add-n-in-loop-n c = let h = here c.before.before in omega arith
+overflow_add-n-in-loop-n c = let h = next _ _ _ _ _ c.loop-n.p c.loop-n.n c.loop-n.invariant c.loop-n-test.true _ c.next_place-q.ensures in omega arith
 
 pub overflow_add-p : goal.overflow_add-p
-overflow_add-p c = let h = here c.before.before in omega arith
+overflow_add-p c = let h = next _ _ _ _ _ c.loop-n.p c.loop-n.n c.loop-n.invariant c.loop-n-test.true _ c.next_place-q.ensures in omega arith

@@ -1,6 +1,5 @@
 use mathlib.Core.Path.{sym, ◌∙◌}
 use borrow.Author.Rules.{rules}
-use borrow.Author.Tests.{not-true, not-false}
 use Rattle.plan.specs.Rules.{rules_of}
 use Rattle.plan.proofs.Loops.{ends_covered_lem}
 use Rattle.plan.proofs.Chain.{refused_settings, refused_range, refused-gap, refused_twice, not-refused}
@@ -33,7 +32,7 @@ returns-then-not-firsts_once c =
     refused_twice plan _ (sym s.settings_refusal-number.ensures ∙ s.if-number-ne0.false)
     (rw (r.count.ensures, r.all_ordered.ensures) at r.if-count-all_ordered.false)
     (ends_covered_lem plan _ _ _ e.find.ensures e.afters_covered.ensures e.if-find-afters_covered.false)
-    (sym c.firsts_once.ensures ∙ not-true _ c.if-not-firsts_once.true)
+    (sym c.firsts_once.ensures ∙ c.if-not-firsts_once.true)
 
 pub returns : goal.returns
 returns c =
@@ -44,4 +43,4 @@ returns c =
     not-refused plan _ (sym s.settings_refusal-number.ensures ∙ s.if-number-ne0.false)
     (rw (r.count.ensures, r.all_ordered.ensures) at r.if-count-all_ordered.false)
     (ends_covered_lem plan _ _ _ e.find.ensures e.afters_covered.ensures e.if-find-afters_covered.false)
-    (sym c.firsts_once.ensures ∙ not-false _ c.if-not-firsts_once.false)
+    (sym c.firsts_once.ensures ∙ c.if-not-firsts_once.false)

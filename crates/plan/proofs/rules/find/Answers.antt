@@ -1,9 +1,10 @@
 -- What the rules from k on say of the minute.
+use mathlib.Core.Path.{◌≡◌}
 use native.Mathlib.Omega.{arith}
 use borrow.Author.Rules.{rules}
 use Rattle.plan.specs.Rules.{has}
 use Rattle.plan.proofs.Bytes.{rules_long}
-use Rattle.plan.proofs.Loops.{asked_start, asked_has, asked_not}
+use Rattle.plan.proofs.Loops.{asked_start, asked_has, asked_not, asked_end}
 use Rattle.plan.proofs.rules.find.Goals as goal
 
 pub loop-k-init : goal.loop-k-init
@@ -33,5 +34,6 @@ loop-k-preserved c =
     asked_not _ _ _ _ (search rules) l.loop-k.invariant _ c.rule_at-r.ensures c.if-r-minute.false
 
 pub returns : goal.returns
-
-pub returns : goal.returns
+returns c =
+    let k : c.loop-k.k ≡ 0 = omega (arith, c.loop-k-test.false) in
+    asked_end _ _ _ (rw k at c.loop-k.invariant)

@@ -7,7 +7,7 @@ use Rattle.trellis.specs.Clauses.{along}
 use Rattle.trellis.proofs.step.tail_costs.Given as goal
 
 abbrev pub invariant-loop-s : goal.invariant-loop-s
-invariant-loop-s l = Filled 0 (λ l.s. along (2 * l.s) tail_bits (drop l.at l.values)) l.initial.costs l.costs l.s × (l.s ≤ 64)
+invariant-loop-s l = Filled 0 (λ s. along (2 * s) tail_bits (drop l.at l.values)) l.initial.costs l.costs l.s × (l.s ≤ 64)
 
 abbrev pub decreases-loop-s : goal.decreases-loop-s
 decreases-loop-s l = 64 - l.s
