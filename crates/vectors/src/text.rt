@@ -1,6 +1,8 @@
 // Lines of text on standard output. The functions promise nothing: what they print is compared by the gate with the stored text.
-use libc::STDOUT_FILENO;
 use settings::Settings;
+
+// The descriptor of standard output.
+const STDOUT_FILENO: i32 = 1;
 
 const DIGITS: [u8; 16] = [
     48, 49, 50, 51, 52, 53, 54, 55, 56, 57, 65, 66, 67, 68, 69, 70,

@@ -17,6 +17,6 @@ returns-then-answer-ne0 c =
 pub returns : goal.returns
 returns c =
     let e = c.count-c.ensures in
-    let p = c.put-Fit.ensures in
+    let p = c.put_fit.ensures in
     let both = answers c.through.ensures (omega (arith, p.within))
     (fit-through c.args.s _ _ _ _ _ (word_test _ _ _ e c.if-not-c-word.false) e c.how_long-answer.ensures c.if-answer-ne0.false _ _ p) in record { out_after = both.0; length_bound = both.1 }

@@ -13,4 +13,4 @@ pub returns-in-2 : goal.returns-in-2
 returns-in-2 c = record { value = few_frames _ 2 c.args.all (2 * (c.args.all / 3)) c.in-2.is (omega arith) (omega arith); upper_bound = omega arith }
 
 pub returns-in_default : goal.returns-in_default
-returns-in_default c = record { value = all-frames c.args.n _ (omega (arith, c.in_default.rest)); upper_bound = omega arith }
+returns-in_default c = record { value = all-frames c.args.n _ (omega (arith, c.in_default.in_default-own.rest)); upper_bound = omega arith }

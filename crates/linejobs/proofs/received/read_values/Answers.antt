@@ -15,7 +15,7 @@ loop-i-preserved c =
     let i = l.invariant in
     let x = c.args.line.now in
     let h = c.loop-i-test.true in
-    let m = copied_more 0 _ (values_in x) l.values 0 l.i _ (omega (arith, h, values_long x)) (value_there x l.i _ h c.value_of_lem.ensures) i.0 in
+    let m = copied_more 0 _ (values_in x) l.values 0 l.i _ (omega (arith, h, values_long x)) (value_there x l.i _ h c.value_of.ensures) i.0 in
     (rw zero-add at m, search rules, length-set l.values _ _ ∙ i.2)
 
 pub returns : goal.returns

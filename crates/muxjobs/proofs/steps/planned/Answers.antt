@@ -15,4 +15,6 @@ returns-in-Mux c =
     record { value = e.value ∙ plan_mux a.args.l a.requires _ c.bytes_for-frame.ensures _ c.in-Mux.is; room = e.room }
 
 pub returns-in-Demux : goal.returns-in-Demux
-returns-in-Demux c = let a = c in plan_demux a.args.l a.requires _ c.bytes_for-frame.ensures _ c.inlet both = -Demux.is in record { value = both.0; room = both.1 }
+returns-in-Demux c =
+    let both = plan_demux c.args.l c.requires _ c.bytes_for-frame.ensures _ c.in-Demux.is in
+    record { value = both.0; room = both.1 }

@@ -13,7 +13,7 @@ pub rule_byte-requires : goal.rule_byte-requires
 rule_byte-requires c =
     let l = c in
     let a = l in
-    record { settings_value = a.requires.settings_value; in_bounds = a.requires.in_bounds.0; k_bound = omega (arith, c.loop-k-test.true, l.loop-k.invariant.0.long, a.requires.in_bounds.1) }
+    record { settings_value = a.requires.settings_value; in_bounds = a.requires.in_bounds; k_bound = omega (arith, c.loop-k-test.true, l.loop-k.invariant.0.long, a.requires.out_len) }
 
 pub loop-k-preserved : goal.loop-k-preserved
 loop-k-preserved c =
@@ -28,5 +28,5 @@ pub returns : goal.returns
 returns c =
     let l = c.loop-k in
     let a = c in
-    let e : l.k ≡ 14 = omega (arith, c.loop-k-test.false, l.invariant.0.long, l.invariant.1, a.requires.in_bounds.1) in
-    filled_end 0 _ _ l.out _ a.requires.in_bounds.1 (rw e at l.invariant.0)
+    let e : l.k ≡ 14 = omega (arith, c.loop-k-test.false, l.invariant.0.long, l.invariant.1, a.requires.out_len) in
+    filled_end 0 _ _ l.out _ a.requires.out_len (rw e at l.invariant.0)

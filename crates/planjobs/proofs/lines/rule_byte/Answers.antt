@@ -9,7 +9,7 @@ use Rattle.planjobs.proofs.lines.rule_byte.Goals as goal
 pub byte_at-requires : goal.byte_at-requires
 byte_at-requires c =
     let a = c in
-    hex_byte _ 20 (a.args.k - 4) a.requires.settings_value a.requires.in_bounds.0 (omega (arith, a.requires.in_bounds.1, c.if-k-ge4.true))
+    hex_byte _ 20 (a.args.k - 4) a.requires.settings_value a.requires.in_bounds (omega (arith, a.requires.k_bound, c.if-k-ge4.true))
 
 pub returns-then-k-ge4 : goal.returns-then-k-ge4
 unfolding rule_byte

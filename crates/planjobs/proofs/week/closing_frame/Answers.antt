@@ -5,7 +5,7 @@ use Rattle.planjobs.specs.Week.{closing_frame}
 use Rattle.planjobs.proofs.week.closing_frame.Goals as goal
 
 pub mark-requires : goal.mark-requires
-mark-requires c = let a = c in record { covered = a.requires.covered; t_bound = omega (arith, a.requires.le_after.0, a.requires.le_after.1) }
+mark-requires c = let a = c in record { covered = a.requires.covered; t_bound = omega (arith, a.requires.le_after, a.requires.after_bound) }
 
 pub returns-then-mark-eq1 : goal.returns-then-mark-eq1
 unfolding closing_frame

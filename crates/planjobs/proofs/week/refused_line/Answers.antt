@@ -7,4 +7,4 @@ use Rattle.planjobs.proofs.week.refused_line.Goals as goal
 
 pub returns : goal.returns
 unfolding refused_line bytes_in table
-returns c = put_room 1024 (omega arith) (put_more (put_more c.put-a.ensures c.Put-refused.ensures) c.put.ensures)
+returns c = put_room 1024 (omega arith) (put_more (put_more c.put-a.ensures c.put_refused-b.ensures) c.put.ensures)
