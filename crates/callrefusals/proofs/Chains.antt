@@ -1,6 +1,6 @@
 -- The refusals found one after the other are the lowest number that applies. Assumes nothing.
 use mathlib.Core.Path.{◌≡◌, refl, sym, ◌∙◌}
-use mathlib.Core.Bool.{Bool, true, false, not, and_false}
+use mathlib.Core.Bool.{Bool, true, false, not, and-false}
 use mathlib.Core.List.{List}
 use Prim.Native.Nat.{ℕ, ◌*◌, ◌≤◌, ◌<◌}
 use native.Mathlib.Omega.{arith}
@@ -63,7 +63,7 @@ module _ (empties : Bool) (state : State) (memory : List ℕ) (d : ℕ) (e : d �
   pub order_count : d ≤ state.count → false ≡ in_order empties state memory
   unfolding in_order
   order_count h =
-      rw (le-ltb state.count (depth state.scheme.settings) (omega arith)) (sym (and_false (ltb state.position (depth state.scheme.settings))))
+      rw (le-ltb state.count (depth state.scheme.settings) (omega arith)) (sym (and-false (ltb state.position (depth state.scheme.settings))))
 
   pub order_cells : length memory ≡ memory_length state.scheme.settings → state.position < d → state.count < d → (k : ℕ) (b : Bool)
       → k ≡ msc_constellation state.scheme.settings.msc → b ≡ points_pass (all_cells k empties) (numbers memory) → b ≡ in_order empties state memory

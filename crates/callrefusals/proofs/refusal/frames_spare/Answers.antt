@@ -1,7 +1,6 @@
 -- `refusal::frames_spare` meets its contract. The loop's invariant: passed tells whether the frames before i have no spare bit set. Assumes nothing.
 use Prim.Native.Nat.{ℕ, ◌+◌, ◌*◌, ◌≤◌}
 use mathlib.Core.Path.{◌≡◌, ◌∙◌, sym, ap}
-use mathlib.Core.Bool.{Bool}
 use mathlib.Core.List.{List, map}
 use borrow.Author.Rules.{rules}
 use lib.ListN.{length}
@@ -12,10 +11,8 @@ use Rattle.superframe.specs.Call.{part, parts}
 use Rattle.lists.proofs.Tables.{map-table}
 use Rattle.lists.proofs.Tests.{passed_start, passed_turn, passed_end}
 use Rattle.superframe.proofs.Laid.{part-within, part_is}
+use Rattle.callrefusals.proofs.refusal.frames_spare.Invariants.{frame-spare}
 use Rattle.callrefusals.proofs.refusal.frames_spare.Goals as goal
-
-abbrev frame-spare : ℕ → ℕ → List ℕ → ℕ → Bool
-frame-spare bits bytes msc i = spare_zero bits (part bytes msc i)
 
 -- Frame i lies within the three.
 within : (c : goal.In-loop-i)
@@ -56,4 +53,5 @@ pub slice_bounds-spare_zero-end : goal.slice_bounds-spare_zero-end
 slice_bounds-spare_zero-end c = let h = within c in search rules
 
 pub spare_zero-passed-requires : goal.spare_zero-passed-requires
-spare_zero-passed-requires c = let h = within c.before in search rules
+spare_zero-passed-requires c =
+    let h : c.args.bytes * c.loop-i.i + c.args.bytes ≤ length c.args.msc.now = part-within _ _ 3 _ (search rules) c.requires.0 in search rules

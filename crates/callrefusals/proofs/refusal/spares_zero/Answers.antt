@@ -1,6 +1,5 @@
 -- `refusal::spares_zero` meets its contract. Assumes nothing.
 use native.Mathlib.Omega.{arith}
-use borrow.Author.Tests.{not-true, not-false}
 use Rattle.settings.proofs.Bounds.{accepted_of}
 use Rattle.settings.proofs.Buffers.{few}
 use Rattle.superframe.specs.Code.{spares_zero}
@@ -13,7 +12,7 @@ spare_zero-requires c =
 
 pub returns-then-not-spare_zero : goal.returns-then-not-spare_zero
 unfolding spares_zero
-returns-then-not-spare_zero c = rw (← c.sdc_bits.ensures, ← c.spare_zero.ensures, not-true c.spare_zero.result c.if-not-spare_zero.true)
+returns-then-not-spare_zero c = rw (← c.sdc_bits.ensures, ← c.spare_zero.ensures, c.if-not-spare_zero.true)
 
 pub frame_bytes-requires : goal.frame_bytes-requires
 frame_bytes-requires c = accepted_of _ c.requires.settings
@@ -27,7 +26,7 @@ pub returns : goal.returns
 unfolding spares_zero
 returns c =
     let b = c in
-    rw (← b.sdc_bits.ensures, ← b.spare_zero.ensures, not-false b.spare_zero.result c.if-not-spare_zero.false, ← c.frame_bits.ensures, ← c.frame_bytes.ensures)
+    rw (← b.sdc_bits.ensures, ← b.spare_zero.ensures, c.if-not-spare_zero.false, ← c.frame_bits.ensures, ← c.frame_bytes.ensures)
     c.frames_spare.ensures
 
 pub sdc_bits-requires : goal.sdc_bits-requires
