@@ -57,6 +57,7 @@ module _ (ls : List Level) (b : Bool) where
     levels-read : 0 < s → (w m l : ℕ) (v : List ℕ) (i : ℕ) → i < m → bits_before ls b (suc (l + s * i)) ≤ length v
         → own (read_over ls b labels l s w m v) (l + s * i) ≡ input_in b (level_at ls (l + s * i)) (taken (w * 2 ^ i) labels)
     unfolding read_over
+    levels-read p w zero l v i k h = elim k [ ]
     levels-read p w (suc m) l v zero k h =
         let x = input_in b (level_at ls l) (taken w labels) in
         let e : l + s * 0 ≡ l = omega arith in

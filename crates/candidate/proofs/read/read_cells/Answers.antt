@@ -14,14 +14,14 @@ returns-then-k-ne-HMMIX c =
     let p = b.requires.reads_candidate in
     let r = b.read_axis.ensures in
     let one = ne_eqb _ _ c.if-k-ne-HMMIX.true in
-    record { bits_after = both_bits p one r.levels_read; levels_taken = both_left p one r.labels_after.0 r.labels_after.1 }
+    record { bits_after = both_bits p one r.levels_read; levels_taken = both_left p one r.labels_after r.coded_after }
 
 pub read_axis-requires-2 : goal.read_axis-requires-2
 unfolding one_axis
 read_axis-requires-2 c =
     let p = c.requires in
-    let r = c.read_axis.auto.labels in
-    record { reads_candidate = (same_room p.reads_candidate r r.1.0 r.1.1.0, second_axis p.reads_candidate (eq-eqb _ _ c.if-k-ne-HMMIX.false)); block_order = p.block_order }
+    let r = c.read_axis.auto in
+    record { reads_candidate = (same_room p.reads_candidate r.labels r.coded r.bits, second_axis p.reads_candidate (eq-eqb _ _ c.if-k-ne-HMMIX.false)); block_order = p.block_order }
 
 pub returns : goal.returns
 unfolding one_axis
@@ -31,4 +31,4 @@ returns c =
     let r = b.read_axis.ensures in
     let s = c.read_axis-2.ensures in
     let one = eq-eqb _ _ c.if-k-ne-HMMIX.false in
-    record { bits_after = axes-bits p one r.levels_read s.levels_read; levels_taken = axes-left p one r.labels_after.0 s.labels_after.0 r.labels_after.1 s.labels_after.1 }
+    record { bits_after = axes-bits p one r.levels_read s.levels_read; levels_taken = axes-left p one r.labels_after s.labels_after r.coded_after s.coded_after }
