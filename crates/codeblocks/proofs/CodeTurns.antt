@@ -123,13 +123,13 @@ module _ (s : Settings) where
       → after_frames s q (fs ++ (f ∷ [])) ≡ (let r = after_frames s q fs in advanced (depth s) (stored (slot_size s) r.memory r.position f) r)
   unfolding after_frames
   after_more q [] f = refl
-  after_more q (g ∷ fs) f = after_more _ fs f
+  after_more q (g ∷ fs) f = after_more (advanced (depth s) (stored (slot_size s) q.memory q.position g) q) fs f
 
   sent_more : (q : Progress) (fs : List (List ℤ)) (f : List ℤ)
       → sent_rows s q (fs ++ (f ∷ [])) ≡ (let r = after_frames s q fs in sent_rows s q fs ++ sent_row s (stored (slot_size s) r.memory r.position f) r.position)
   unfolding after_frames sent_rows
   sent_more q [] f = append-nil _
-  sent_more q (g ∷ fs) f = rw (sent_more _ fs f, append_assoc)
+  sent_more q (g ∷ fs) f = rw (sent_more (advanced (depth s) (stored (slot_size s) q.memory q.position g) q) fs f, append_assoc)
 
 -- The first i frames of a call.
 abbrev pub frames_to : Scheme → List ℕ → ℕ → List (List ℤ)
