@@ -43,7 +43,7 @@ sets_low (a ∷ vs) l i v b = sets_low vs (set l i a) (suc i) (record { low = λ
 frames_low : (s : Settings) (q : Progress) (fs : List (List ℤ)) → AllBytes q.memory → AllBytes (after_frames s q fs).memory
 unfolding after_frames advanced stored
 frames_low s q [] b = b
-frames_low s q (f ∷ fs) b = frames_low s _ fs (sets_low (bytes f) q.memory _ (bytes_low f) b)
+frames_low s q (f ∷ fs) b = frames_low s (advanced (depth s) (stored (slot_size s) q.memory q.position f) q) fs (sets_low (bytes f) q.memory _ (bytes_low f) b)
 
 -- A call of a run keeps memory bytes,
 call_low : (state : State) (memory : List ℕ) (c : CodeCall) → AllBytes memory → AllBytes (code_of state memory c).memory

@@ -96,7 +96,7 @@ module _ (s : Settings) (d : List ℕ) (P : Passes s d) where
   room : l.vspp + ((sums (in_bits ss)).a + (sums (in_bits ss)).b) ≤ frame_bits s
   room = let r = sums-bits ss in omega (arith, r.0, r.1, sum_a, sum_b, fit.parts, n_is)
 
-  -- splitting is one_to_one_lem and onto
+  -- splitting is one-to-one and onto
   pub one_to_one_lem : OneToOne s d
   unfolding split_of split_by
   one_to_one_lem =
