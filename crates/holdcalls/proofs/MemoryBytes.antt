@@ -10,11 +10,12 @@ use lib.Seq.{sets, get_or-set_same, get_or-set_other}
 use lib.IntN.{ℤ}
 use Rattle.lists.proofs.Counting.{below_or}
 use Rattle.settings.specs.declared.Settings.{Settings}
+use Rattle.settings.specs.Sizes.{depth}
 use Rattle.cellbytes.specs.CellBytes.{bytes}
 use Rattle.cellbytes.specs.Clauses.{AllBytes}
 use Rattle.cellbytes.proofs.CellBytes.{bytes_low}
 use Rattle.superframe.specs.declared.State.{State}
-use Rattle.superframe.specs.Memory.{stored}
+use Rattle.superframe.specs.Memory.{slot_size, stored}
 use Rattle.superframe.specs.Interleaving.{Progress, advanced, after_frames}
 use Rattle.superframe.specs.Reset.{start_memory}
 use Rattle.superframe.specs.Code.{CodeCall, code_refusal, code_accepted, code_refused, code_of, progress_of}

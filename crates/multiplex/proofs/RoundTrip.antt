@@ -29,7 +29,7 @@ use Rattle.frameparts.specs.Split.{Split, frame_of, split_at}
 use Rattle.frameparts.proofs.Streams.{lent_in_lem, of_lent, shares-lent, length-lent}
 use Rattle.frameparts.proofs.Split.{same_split, split_frame, split_lengths, frame_long, frame_split}
 use Rattle.multiplex.specs.declared.Layout.{Layout}
-use Rattle.multiplex.specs.Description.{uncounted, streams_of, layout_of, fits, stream_bytes}
+use Rattle.multiplex.specs.Description.{uncounted, streams_of, layout_of, stream_bytes}
 use Rattle.multiplex.specs.Frame.{split_by, split_in, zero_filled, built, handed, filling_zero}
 use Rattle.multiplex.specs.Clauses.{Fitting, Buffers}
 use Rattle.multiplex.specs.Build.{build_yield, build_of}
