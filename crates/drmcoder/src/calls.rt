@@ -29,8 +29,7 @@ fn reset_bytes(state: &mut [u8], settings: &[u8], table: &[u8], memory: &mut [u8
 }
 
 // Begins a run with the standard's table.
-#[unsafe(no_mangle)]
-pub extern "C" fn drm_reset(state: &mut [u8], settings: &[u8], memory: &mut [u8]) -> u8
+pub fn drm_reset(state: &mut [u8], settings: &[u8], memory: &mut [u8]) -> u8
     ensures { reset_yields result state.new memory.new
         ≡ reset_bytes state.old settings.now table65 memory.old }
 {
@@ -39,8 +38,7 @@ pub extern "C" fn drm_reset(state: &mut [u8], settings: &[u8], memory: &mut [u8]
 }
 
 // Begins a run with a table of its own. 02 S-11.
-#[unsafe(no_mangle)]
-pub extern "C" fn drm_reset_table(
+pub fn drm_reset_table(
     state: &mut [u8],
     settings: &[u8],
     table: &[u8],
@@ -53,8 +51,7 @@ pub extern "C" fn drm_reset_table(
 }
 
 // Three FAC blocks, an SDC block and three multiplex frames to the cells of a super frame.
-#[unsafe(no_mangle)]
-pub extern "C" fn drm_code(
+pub fn drm_code(
     state: &mut [u8],
     memory: &mut [u8],
     fac: &[u8],
@@ -85,8 +82,7 @@ pub extern "C" fn drm_code(
 }
 
 // The cells of a super frame to three FAC blocks, an SDC block and the multiplex frames that it finishes.
-#[unsafe(no_mangle)]
-pub extern "C" fn drm_read(
+pub fn drm_read(
     state: &mut [u8],
     memory: &mut [u8],
     faccells: &[i16],

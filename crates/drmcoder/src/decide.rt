@@ -8,8 +8,7 @@ use measured::Channel;
 use measured::bytes::decide_cells;
 
 // Measured FAC cells to points and bits.
-#[unsafe(no_mangle)]
-pub extern "C" fn drm_decide_fac(
+pub fn drm_decide_fac(
     settings: &[u8],
     kinds: &[u8],
     values: &[f32],
@@ -23,8 +22,7 @@ pub extern "C" fn drm_decide_fac(
 }
 
 // Measured SDC cells to points and bits.
-#[unsafe(no_mangle)]
-pub extern "C" fn drm_decide_sdc(
+pub fn drm_decide_sdc(
     settings: &[u8],
     kinds: &[u8],
     values: &[f32],
@@ -38,8 +36,7 @@ pub extern "C" fn drm_decide_sdc(
 }
 
 // Measured MSC cells to points and bits.
-#[unsafe(no_mangle)]
-pub extern "C" fn drm_decide_msc(
+pub fn drm_decide_msc(
     settings: &[u8],
     kinds: &[u8],
     values: &[f32],

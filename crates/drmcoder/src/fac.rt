@@ -10,8 +10,7 @@ use facfields::calls::{build, read};
 use nearest::fac::fac_nearest;
 
 // An FAC block from fourteen fields.
-#[unsafe(no_mangle)]
-pub extern "C" fn drm_fac_build(settings: &[u8], fields: &[u32], block: &mut [u8]) -> u8
+pub fn drm_fac_build(settings: &[u8], fields: &[u32], block: &mut [u8]) -> u8
     ensures { build_yield result block.new ≡ build_bytes settings.now fields.now block.old }
 {
     if settings.len() != 10 {
@@ -21,8 +20,7 @@ pub extern "C" fn drm_fac_build(settings: &[u8], fields: &[u32], block: &mut [u8
 }
 
 // The fourteen fields of an FAC block.
-#[unsafe(no_mangle)]
-pub extern "C" fn drm_fac_read(settings: &[u8], block: &[u8], fields: &mut [u32]) -> u8
+pub fn drm_fac_read(settings: &[u8], block: &[u8], fields: &mut [u32]) -> u8
     ensures { read_yield result fields.new ≡ read_fields settings.now block.now fields.old }
 {
     if settings.len() != 10 {
@@ -32,8 +30,7 @@ pub extern "C" fn drm_fac_read(settings: &[u8], block: &[u8], fields: &mut [u32]
 }
 
 // 130 received values in the order of the mapped cells to the nearest FAC block and its number of disagreements.
-#[unsafe(no_mangle)]
-pub extern "C" fn drm_fac_nearest(received: &[u8], block: &mut [u8], disagreement: &mut [u16]) -> u8
+pub fn drm_fac_nearest(received: &[u8], block: &mut [u8], disagreement: &mut [u16]) -> u8
     ensures { nearest_yield result block.new disagreement.new
         ≡ nearest_of received.now block.old disagreement.old }
 {

@@ -9,8 +9,7 @@ use crate::bytes::settings_of;
 use grid::calls;
 
 // Symbols of a super frame, carriers of a symbol, numbers of a grid.
-#[unsafe(no_mangle)]
-pub extern "C" fn drm_grid_sizes(settings: &[u8], sizes: &mut [u32]) -> u8
+pub fn drm_grid_sizes(settings: &[u8], sizes: &mut [u32]) -> u8
     ensures { yielded result sizes.new ≡ grid_sizes_bytes settings.now sizes.old }
 {
     if settings.len() != 10 {
@@ -23,8 +22,7 @@ pub extern "C" fn drm_grid_sizes(settings: &[u8], sizes: &mut [u32]) -> u8
 }
 
 // The cells of a super frame onto a grid.
-#[unsafe(no_mangle)]
-pub extern "C" fn drm_grid_place(
+pub fn drm_grid_place(
     settings: &[u8],
     faccells: &[i16],
     sdccells: &[i16],
@@ -41,8 +39,7 @@ pub extern "C" fn drm_grid_place(
 }
 
 // The cells of a super frame off a grid.
-#[unsafe(no_mangle)]
-pub extern "C" fn drm_grid_take(
+pub fn drm_grid_take(
     settings: &[u8],
     grid: &[i16],
     faccells: &mut [i16],

@@ -11,8 +11,7 @@ use holdfile::convert;
 use holdlines::Form;
 
 // The bytes of an old and of a new file.
-#[unsafe(no_mangle)]
-pub extern "C" fn drm_hold_sizes(settings: &[u8], sizes: &mut [u32]) -> u8
+pub fn drm_hold_sizes(settings: &[u8], sizes: &mut [u32]) -> u8
     ensures { yielded result sizes.new ≡ hold_sizes_bytes settings.now sizes.old }
 {
     if settings.len() != 10 {
@@ -25,16 +24,14 @@ pub extern "C" fn drm_hold_sizes(settings: &[u8], sizes: &mut [u32]) -> u8
 }
 
 // An old file to its new form.
-#[unsafe(no_mangle)]
-pub extern "C" fn drm_to_new(settings: &[u8], oldfile: &[u8], newfile: &mut [u8]) -> u8
+pub fn drm_to_new(settings: &[u8], oldfile: &[u8], newfile: &mut [u8]) -> u8
     ensures { convert_yield result newfile.new ≡ convert_bytes Old settings.now oldfile.now newfile.old }
 {
     convert_file(Form::Old, settings, oldfile, newfile)
 }
 
 // A new file to its old form.
-#[unsafe(no_mangle)]
-pub extern "C" fn drm_to_old(settings: &[u8], newfile: &[u8], oldfile: &mut [u8]) -> u8
+pub fn drm_to_old(settings: &[u8], newfile: &[u8], oldfile: &mut [u8]) -> u8
     ensures { convert_yield result oldfile.new ≡ convert_bytes New settings.now newfile.now oldfile.old }
 {
     convert_file(Form::New, settings, newfile, oldfile)

@@ -7,8 +7,7 @@ use crate::bytes::settings_of;
 use howlong::calls::how_long;
 
 // Super frames with the closing, bytes of memory, and zero bits after the last byte, for so many bytes.
-#[unsafe(no_mangle)]
-pub extern "C" fn drm_how_long(settings: &[u8], bytes: u32, numbers: &mut [u32]) -> u8
+pub fn drm_how_long(settings: &[u8], bytes: u32, numbers: &mut [u32]) -> u8
     ensures { how_long_yield result numbers.new ≡ how_long_bytes settings.now bytes numbers.old }
 {
     if settings.len() != 10 {

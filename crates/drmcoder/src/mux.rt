@@ -8,8 +8,7 @@ use crate::bytes::settings_of;
 use multiplex::calls::{build, read};
 
 // A multiplex frame from the logical frames of its streams.
-#[unsafe(no_mangle)]
-pub extern "C" fn drm_mux_build(
+pub fn drm_mux_build(
     settings: &[u8],
     description: &[u16],
     streams: &[u8],
@@ -25,8 +24,7 @@ pub extern "C" fn drm_mux_build(
 }
 
 // The logical frames of the streams of a multiplex frame.
-#[unsafe(no_mangle)]
-pub extern "C" fn drm_mux_read(
+pub fn drm_mux_read(
     settings: &[u8],
     description: &[u16],
     frame: &[u8],

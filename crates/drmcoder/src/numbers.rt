@@ -7,8 +7,7 @@ use settingbytes::numbers::{put_lengths, put_sizes};
 use settings::answers;
 
 // N1, N2, L1, L2 and L_VSPP of ten bytes of settings.
-#[unsafe(no_mangle)]
-pub extern "C" fn drm_lengths(settings: &[u8], lengths: &mut [u16]) -> u8
+pub fn drm_lengths(settings: &[u8], lengths: &mut [u16]) -> u8
     ensures { yielded result lengths.new ≡ lengths_bytes settings.now lengths.old }
 {
     if settings.len() != 10 {
@@ -21,8 +20,7 @@ pub extern "C" fn drm_lengths(settings: &[u8], lengths: &mut [u16]) -> u8
 }
 
 // The bytes of SDC and MSC, the numbers of FAC, SDC and MSC cells, and the bytes of memory.
-#[unsafe(no_mangle)]
-pub extern "C" fn drm_sizes(settings: &[u8], sizes: &mut [u32]) -> u8
+pub fn drm_sizes(settings: &[u8], sizes: &mut [u32]) -> u8
     ensures { yielded result sizes.new ≡ sizes_bytes settings.now sizes.old }
 {
     if settings.len() != 10 {

@@ -7,8 +7,7 @@ use plan::answers::{answer, put_answer};
 use plan::rules::RULE_BYTES;
 
 // The rule's place in the list and the mark of a super frame of the week.
-#[unsafe(no_mangle)]
-pub extern "C" fn drm_plan(rules: &[u8], superframe: u32, bytes: &mut [u8]) -> u8
+pub fn drm_plan(rules: &[u8], superframe: u32, bytes: &mut [u8]) -> u8
     ensures { yielded result bytes.new ≡ plan_bytes rules.now superframe bytes.old }
 {
     if rules.len() % RULE_BYTES != 0 {

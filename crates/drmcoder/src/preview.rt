@@ -8,8 +8,7 @@ use statebytes::answers::finish;
 use statebytes::bytes::state_of;
 
 // The cells of the next super frame, and the state after it, with state and memory only read.
-#[unsafe(no_mangle)]
-pub extern "C" fn drm_preview(
+pub fn drm_preview(
     state: &[u8],
     memory: &[u8],
     fac: &[u8],

@@ -8,8 +8,7 @@ use statebytes::answers::finish_read;
 use statebytes::bytes::state_of;
 
 // The cells of a super frame to its blocks and the multiplex frames that it finishes, each with its bits or lost.
-#[unsafe(no_mangle)]
-pub extern "C" fn drm_read_on(
+pub fn drm_read_on(
     state: &mut [u8],
     memory: &mut [u8],
     faccells: &[i16],

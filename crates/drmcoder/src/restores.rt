@@ -10,24 +10,21 @@ use holdbytes::restores::{restore_bytes, restore_standard, store_bytes};
 use holdlines::Form;
 
 // A state and its memory to an old file.
-#[unsafe(no_mangle)]
-pub extern "C" fn drm_store_old(state: &[u8], memory: &[u8], file: &mut [u8]) -> u8
+pub fn drm_store_old(state: &[u8], memory: &[u8], file: &mut [u8]) -> u8
     ensures { convert_yield result file.new ≡ store_bytes Old state.now memory.now file.old }
 {
     store_bytes(Form::Old, state, memory, file)
 }
 
 // A state and its memory to a new file.
-#[unsafe(no_mangle)]
-pub extern "C" fn drm_store_new(state: &[u8], memory: &[u8], file: &mut [u8]) -> u8
+pub fn drm_store_new(state: &[u8], memory: &[u8], file: &mut [u8]) -> u8
     ensures { convert_yield result file.new ≡ store_bytes New state.now memory.now file.old }
 {
     store_bytes(Form::New, state, memory, file)
 }
 
 // A run from an old file, with the standard's table.
-#[unsafe(no_mangle)]
-pub extern "C" fn drm_restore_old(
+pub fn drm_restore_old(
     state: &mut [u8],
     settings: &[u8],
     file: &[u8],
@@ -40,8 +37,7 @@ pub extern "C" fn drm_restore_old(
 }
 
 // A run from a new file, with the standard's table.
-#[unsafe(no_mangle)]
-pub extern "C" fn drm_restore_new(
+pub fn drm_restore_new(
     state: &mut [u8],
     settings: &[u8],
     file: &[u8],
@@ -54,8 +50,7 @@ pub extern "C" fn drm_restore_new(
 }
 
 // A run from an old file, with a table of its own.
-#[unsafe(no_mangle)]
-pub extern "C" fn drm_restore_old_table(
+pub fn drm_restore_old_table(
     state: &mut [u8],
     settings: &[u8],
     table: &[u8],
@@ -69,8 +64,7 @@ pub extern "C" fn drm_restore_old_table(
 }
 
 // A run from a new file, with a table of its own.
-#[unsafe(no_mangle)]
-pub extern "C" fn drm_restore_new_table(
+pub fn drm_restore_new_table(
     state: &mut [u8],
     settings: &[u8],
     table: &[u8],

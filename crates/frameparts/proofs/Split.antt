@@ -1,4 +1,4 @@
--- Splitting a frame is one_to_one_lem and onto: frames of n bits and splits of their lengths. Assumes nothing.
+-- Splitting a frame is one-to-one and onto: frames of n bits and splits of their lengths. Assumes nothing.
 use Prim.Native.Nat.{ℕ, ◌+◌, ◌-◌, ◌≤◌}
 use mathlib.Core.Path.{◌≡◌, sym, ap, ap₂, ◌∙◌}
 use mathlib.Core.List.{List, ◌++◌, append_assoc}

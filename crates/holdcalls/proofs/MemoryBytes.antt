@@ -10,11 +10,12 @@ use lib.Seq.{sets, get_or-set_same, get_or-set_other}
 use lib.IntN.{ℤ}
 use Rattle.lists.proofs.Counting.{below_or}
 use Rattle.settings.specs.declared.Settings.{Settings}
+use Rattle.settings.specs.Sizes.{depth}
 use Rattle.cellbytes.specs.CellBytes.{bytes}
 use Rattle.cellbytes.specs.Clauses.{AllBytes}
 use Rattle.cellbytes.proofs.CellBytes.{bytes_low}
 use Rattle.superframe.specs.declared.State.{State}
-use Rattle.superframe.specs.Memory.{stored}
+use Rattle.superframe.specs.Memory.{slot_size, stored}
 use Rattle.superframe.specs.Interleaving.{Progress, advanced, after_frames}
 use Rattle.superframe.specs.Reset.{start_memory}
 use Rattle.superframe.specs.Code.{CodeCall, code_refusal, code_accepted, code_refused, code_of, progress_of}
@@ -43,7 +44,7 @@ sets_low (a ∷ vs) l i v b = sets_low vs (set l i a) (suc i) (record { low = λ
 frames_low : (s : Settings) (q : Progress) (fs : List (List ℤ)) → AllBytes q.memory → AllBytes (after_frames s q fs).memory
 unfolding after_frames advanced stored
 frames_low s q [] b = b
-frames_low s q (f ∷ fs) b = frames_low s _ fs (sets_low (bytes f) q.memory _ (bytes_low f) b)
+frames_low s q (f ∷ fs) b = frames_low s (advanced (depth s) (stored (slot_size s) q.memory q.position f) q) fs (sets_low (bytes f) q.memory _ (bytes_low f) b)
 
 -- A call of a run keeps memory bytes,
 call_low : (state : State) (memory : List ℕ) (c : CodeCall) → AllBytes memory → AllBytes (code_of state memory c).memory

@@ -4,7 +4,7 @@ use Rattle.std.proofs.lemmas.List.Edits.{sets}
 use Rattle.lists.specs.Lists.{table}
 use Rattle.lists.specs.Same.{same_number}
 use Rattle.lists.specs.Bools.{every}
-use Rattle.cellbytes.specs.CellBytes.{signed, four_bits, numbers, bytes}
+use Rattle.cellbytes.specs.CellBytes.{signed, four_bits, bytes}
 use Rattle.holdlines.specs.declared.Form.{Form}
 use Rattle.holdlines.specs.Hexadecimal.{is_digit}
 use Rattle.settings.specs.declared.Settings.{Settings}

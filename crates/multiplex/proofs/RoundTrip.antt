@@ -29,7 +29,7 @@ use Rattle.frameparts.specs.Split.{Split, frame_of, split_at}
 use Rattle.frameparts.proofs.Streams.{lent_in_lem, of_lent, shares-lent, length-lent}
 use Rattle.frameparts.proofs.Split.{same_split, split_frame, split_lengths, frame_long, frame_split}
 use Rattle.multiplex.specs.declared.Layout.{Layout}
-use Rattle.multiplex.specs.Description.{uncounted, streams_of, layout_of, fits, stream_bytes}
+use Rattle.multiplex.specs.Description.{uncounted, streams_of, layout_of, stream_bytes}
 use Rattle.multiplex.specs.Frame.{split_by, split_in, zero_filled, built, handed, filling_zero}
 use Rattle.multiplex.specs.Clauses.{Fitting, Buffers}
 use Rattle.multiplex.specs.Build.{build_yield, build_of}
@@ -96,7 +96,7 @@ module _ (s : Settings) (d : List ℕ) (P : Passes s d) where
   room : l.vspp + ((sums (in_bits ss)).a + (sums (in_bits ss)).b) ≤ frame_bits s
   room = let r = sums-bits ss in omega (arith, r.0, r.1, sum_a, sum_b, fit.parts, n_is)
 
-  -- splitting is one_to_one_lem and onto
+  -- splitting is one-to-one and onto
   pub one_to_one_lem : OneToOne s d
   unfolding split_of split_by
   one_to_one_lem =

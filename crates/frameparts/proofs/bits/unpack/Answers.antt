@@ -4,7 +4,7 @@ use native.Mathlib.Omega.{arith}
 use borrow.Author.Rules.{rules}
 use lib.ListN.{length}
 use Rattle.lists.proofs.Tables.{filled-start, filled_turn, filled_end}
-use Rattle.block.specs.Packing.{bit_at, unpacked}
+use Rattle.block.specs.Packing.{unpacked}
 use Rattle.frameparts.proofs.bits.unpack.Goals as goal
 
 pub loop-i-preserved : goal.loop-i-preserved

@@ -3,4 +3,4 @@ use Rattle.holdcalls.proofs.StoredAgain.{stored-and-restored}
 use Rattle.holdcalls.proofs.theorems.stored_and_restored.Goals as goal
 
 pub returns : goal.returns
-returns c = let both = stored-and-restored in record { None = both.0; None = both.1 }
+returns c = stored-and-restored

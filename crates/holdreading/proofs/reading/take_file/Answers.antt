@@ -1,7 +1,6 @@
 -- `take_file` meets its contract. Assumes nothing.
 use native.Mathlib.Omega.{arith}
 use mathlib.Core.Path.{◌∙◌, sym, ap}
-use borrow.Author.Tests.{not-true, not-false}
 use Rattle.cellbytes.specs.CellBytes.{numbers}
 use Rattle.pointtests.specs.PointTests.{points_pass, points_only}
 use Rattle.settings.specs.Lengths.{n_mux}

@@ -1,7 +1,6 @@
 -- `take_lines` meets its contract. Assumes nothing.
 use Prim.Native.Nat.{◌+◌, ◌≤◌}
 use borrow.Author.Rules.{rules}
-use borrow.Author.Tests.{not-true, not-false}
 use lib.ListN.{length}
 use Rattle.holdreading.proofs.Lining.{lining_start, line-within, slot_within, line-lent, lining_turn, lining_stop, lining_end}
 use Rattle.holdreading.proofs.reading.take_lines.Goals as goal

@@ -14,7 +14,7 @@ loop-k-init c = (putting_start _ _ _ _, omega (arith, c.line_bytes-last.ensures)
 pub line_digit-requires : goal.line_digit-requires
 line_digit-requires c = omega (arith, c.loop-k.invariant.1, c.loop-k-test.true)
 
--- digit k and the line feed lie bounds-out-at the room
+-- digit k and the line feed lie within the room
 pub bounds-out-at : goal.bounds-out-at
 bounds-out-at c =
     let l = c.loop-k in

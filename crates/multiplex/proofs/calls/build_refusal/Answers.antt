@@ -2,7 +2,6 @@
 use mathlib.Core.Bool.{not}
 use mathlib.Core.Path.{sym, ◌∙◌, ap}
 use native.Mathlib.Omega.{arith}
-use borrow.Author.Tests.{not-false}
 use Rattle.settings.proofs.Chain.{hold, pass}
 use Rattle.multiplex.proofs.Layouts.{wanted_streams, wanted_frame, wanted_fit}
 use Rattle.multiplex.proofs.Refusals.{build_settings, build_numbers, build_streams, build_frame_lem, build_test}

@@ -2,7 +2,6 @@
 use mathlib.Core.Bool.{not}
 use mathlib.Core.Path.{sym, ap, ◌∙◌}
 use native.Mathlib.Omega.{arith}
-use borrow.Author.Tests.{not-false}
 use Rattle.settings.proofs.Chain.{hold, pass}
 use Rattle.block.specs.Packing.{spare_zero}
 use Rattle.multiplex.proofs.Layouts.{fitting, few_bytes, wanted_streams, wanted_frame, wanted_bits, wanted_fit, wanted_zero}

@@ -1,0 +1,67 @@
+// The calls drm_reset, drm_reset_table, drm_code and drm_read.
+ghost use Rattle.std.specs.Prelude.{◌≡◌};
+ghost use Rattle.patterns.specs.Patterns.{table65};
+ghost use Rattle.superframe.specs.Clauses.{code_call, read_call};
+ghost use Rattle.statebytes.specs.Answers.{reset_yields};
+ghost use Rattle.drmcoder.specs.Calls.{code_yields, read_yields, reset_bytes, code_bytes, read_bytes};
+
+// Begins a run with the standard's table.
+#[unsafe(no_mangle)]
+pub extern "C" fn drm_reset(state: &mut [u8], settings: &[u8], memory: &mut [u8]) -> u8
+    ensures { reset_yields result state.new memory.new
+        ≡ reset_bytes state.old settings.now table65 memory.old }
+{
+    drmcoder::calls::drm_reset(state, settings, memory)
+}
+
+// Begins a run with a table of its own. 02 S-11.
+#[unsafe(no_mangle)]
+pub extern "C" fn drm_reset_table(
+    state: &mut [u8],
+    settings: &[u8],
+    table: &[u8],
+    memory: &mut [u8],
+) -> u8
+    ensures { reset_yields result state.new memory.new
+        ≡ reset_bytes state.old settings.now table.now memory.old }
+{
+    drmcoder::calls::drm_reset_table(state, settings, table, memory)
+}
+
+// Three FAC blocks, an SDC block and three multiplex frames to the cells of a super frame.
+#[unsafe(no_mangle)]
+pub extern "C" fn drm_code(
+    state: &mut [u8],
+    memory: &mut [u8],
+    fac: &[u8],
+    sdc: &[u8],
+    msc: &[u8],
+    faccells: &mut [i16],
+    sdccells: &mut [i16],
+    msccells: &mut [i16],
+) -> u8
+    ensures { code_yields result state.new memory.new faccells.new sdccells.new msccells.new
+        ≡ code_bytes state.old memory.old
+        (code_call fac.now sdc.now msc.now faccells.old sdccells.old msccells.old) }
+{
+    drmcoder::calls::drm_code(state, memory, fac, sdc, msc, faccells, sdccells, msccells)
+}
+
+// The cells of a super frame to three FAC blocks, an SDC block and the multiplex frames that it finishes.
+#[unsafe(no_mangle)]
+pub extern "C" fn drm_read(
+    state: &mut [u8],
+    memory: &mut [u8],
+    faccells: &[i16],
+    sdccells: &[i16],
+    msccells: &[i16],
+    fac: &mut [u8],
+    sdc: &mut [u8],
+    msc: &mut [u8],
+) -> u16
+    ensures { read_yields result state.new memory.new fac.new sdc.new msc.new
+        ≡ read_bytes state.old memory.old
+        (read_call faccells.now sdccells.now msccells.now fac.old sdc.old msc.old) }
+{
+    drmcoder::calls::drm_read(state, memory, faccells, sdccells, msccells, fac, sdc, msc)
+}

@@ -1,0 +1,25 @@
+// The call drm_preview. 02, S-3.
+ghost use Rattle.std.specs.Prelude.{◌≡◌};
+ghost use Rattle.superframe.specs.Clauses.{code_call};
+ghost use Rattle.drmcoder.specs.Preview.{preview_yields, preview_bytes};
+
+// The cells of the next super frame, and the state after it, with state and memory only read.
+#[unsafe(no_mangle)]
+pub extern "C" fn drm_preview(
+    state: &[u8],
+    memory: &[u8],
+    fac: &[u8],
+    sdc: &[u8],
+    msc: &[u8],
+    faccells: &mut [i16],
+    sdccells: &mut [i16],
+    msccells: &mut [i16],
+    next: &mut [u8],
+) -> u8
+    ensures { preview_yields result faccells.new sdccells.new msccells.new next.new
+        ≡ preview_bytes state.now memory.now
+        (code_call fac.now sdc.now msc.now faccells.old sdccells.old msccells.old)
+        next.old }
+{
+    drmcoder::preview::drm_preview(state, memory, fac, sdc, msc, faccells, sdccells, msccells, next)
+}
