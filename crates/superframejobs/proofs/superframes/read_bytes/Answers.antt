@@ -33,7 +33,7 @@ returns-then-on c =
       out_after = either_called a.args.on true c.if-on.true a.args.state a.args.z _ _ a.args.bytes.now a.args.out.now _ _ _ _ a.requires.sizes c.numbers_in-numbers.ensures.front h
           m.fac_bytes-fac.ensures m.sdc_bytes-most_sdc.ensures m.msc_bytes-most_msc.ensures
           w.out_after;
-      length_in_bounds = w.length_in_bounds.0;
+      length_in_bounds = w.length_in_bounds;
     }
 
 pub read_with-requires : goal.read_with-requires
@@ -51,5 +51,5 @@ returns c =
       out_after = either_called a.args.on false c.if-on.false a.args.state a.args.z _ _ a.args.bytes.now a.args.out.now _ _ _ _ a.requires.sizes c.numbers_in-numbers.ensures.front h
           m.fac_bytes-fac.ensures m.sdc_bytes-most_sdc.ensures m.msc_bytes-most_msc.ensures
           w.out_after;
-      length_in_bounds = w.length_in_bounds.0;
+      length_in_bounds = w.length_in_bounds;
     }
