@@ -1,8 +1,9 @@
 // Writes the counts of annex J, tables J.1 to J.24: a line for each row, `J.` with the table's number and then its counts.
 #![tactic(auto)]
 
-use libc::STDOUT_FILENO;
 use settings::Settings;
+
+const STDOUT_FILENO: i32 = 1;
 
 // The tables come in groups of four, for modes A to D: the MSC with SM, HMsym's very strongly protected part and its
 // standard protected part, HMmix's two, and the SDC.

@@ -1,9 +1,10 @@
 // Writes a digest of refusals, lengths and sizes for each mode, occupancy and MSC mode, to be compared with another program's.
 #![tactic(auto)]
 
-use libc::STDOUT_FILENO;
 use settings::{Lengths, Settings, Sizes};
 use vectors::digests::taken;
+
+const STDOUT_FILENO: i32 = 1;
 
 const XS: [u16; 8] = [0, 1, 2, 285, 1000, 2000, 3577, 65535];
 

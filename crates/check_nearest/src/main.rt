@@ -5,10 +5,11 @@
 ghost use Rattle.std.specs.Prelude.{◌≡◌, ◌≤◌, ◌<◌, length};
 ghost use Rattle.check_nearest.specs.Lists.{Below, Lends};
 
-use libc::STDOUT_FILENO;
 use nearest::search::search_with;
 use patterns::table::{pattern, standard_table, tail_pattern};
 use vectors::{digests, draws, text};
+
+const STDOUT_FILENO: i32 = 1;
 
 // The state of the generator, and the digest so far.
 #[derive(Clone, Copy)]

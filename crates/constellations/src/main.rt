@@ -3,8 +3,9 @@
 
 ghost use Rattle.std.specs.Prelude.{◌<◌};
 
-use libc::STDOUT_FILENO;
 use mapping::points::map_axes;
+
+const STDOUT_FILENO: i32 = 1;
 
 fn write_number(n: u64) {
     io::print_decimal(STDOUT_FILENO, n);

@@ -4,9 +4,8 @@ use endings::Lost;
 use endings::marks::lost_after;
 use holdpipes::files::{begin_from, store_at};
 use jobs::{buffers, sizes};
-use libc::STDOUT_FILENO;
 use pipes::input::fill;
-use pipes::output::{say_file, say_lost, say_run};
+use pipes::output::{STDOUT_FILENO, say_file, say_lost, say_run};
 use settings::Settings;
 use superframe::State;
 use superframejobs::superframes;
@@ -35,8 +34,15 @@ fn pass(job: Job, state: State, bytes: &[u8], memory: &mut [u8], out: &mut [u8])
 }
 
 // The next super frame.
-fn take(job: Job, state: State, bytes: &mut [u8], memory: &mut [u8], out: &mut [u8]) -> Turn {
-    let got = fill(bytes);
+fn take(
+    rt: HostRuntime,
+    job: Job,
+    state: State,
+    bytes: &mut [u8],
+    memory: &mut [u8],
+    out: &mut [u8],
+) -> Turn {
+    let got = fill(rt, bytes);
     match got {
         Next::On => pass(job, state, bytes, memory, out),
         Next::Over(_) => Turn { next: got, state },
@@ -61,7 +67,14 @@ fn count_lost(job: Job, lost: Lost, out: &[u8]) -> Lost {
 }
 
 // Super frames up to the first end. A loop that is proved to end counts its turns.
-fn run(job: Job, start: State, bytes: &mut [u8], memory: &mut [u8], out: &mut [u8]) -> Ran {
+fn run(
+    rt: HostRuntime,
+    job: Job,
+    start: State,
+    bytes: &mut [u8],
+    memory: &mut [u8],
+    out: &mut [u8],
+) -> Ran {
     let mut state = start;
     let mut count: u64 = 0;
     let mut lost = Lost {
@@ -70,7 +83,7 @@ fn run(job: Job, start: State, bytes: &mut [u8], memory: &mut [u8], out: &mut [u
         frames: 0,
     };
     while count < u64::MAX {
-        let turn = take(job, state, bytes, memory, out);
+        let turn = take(rt, job, state, bytes, memory, out);
         let next = turn.next;
         state = turn.state;
         match next {
@@ -97,12 +110,19 @@ fn run(job: Job, start: State, bytes: &mut [u8], memory: &mut [u8], out: &mut [u
 }
 
 // A run from a state, and what is stored and said at its end.
-fn run_from(job: Job, start: State, bytes: &mut [u8], memory: &mut [u8], out: &mut [u8]) {
-    let ran = run(job, start, bytes, memory, out);
+fn run_from(
+    rt: HostRuntime,
+    job: Job,
+    start: State,
+    bytes: &mut [u8],
+    memory: &mut [u8],
+    out: &mut [u8],
+) {
+    let ran = run(rt, job, start, bytes, memory, out);
     let end = ran.end;
     let state = ran.state;
     let lost = ran.lost;
-    store_at(end, state, memory);
+    store_at(rt, end, state, memory);
     say_run(Counted::SuperFrame, end, ran.count);
     if reads_on(job) {
         say_lost(lost);
@@ -110,23 +130,30 @@ fn run_from(job: Job, start: State, bytes: &mut [u8], memory: &mut [u8], out: &m
 }
 
 // A run from where the arguments say.
-fn run_settings(job: Job, s: Settings, bytes: &mut [u8], memory: &mut [u8], out: &mut [u8]) {
-    let begun = begin_from(s, memory);
+fn run_settings(
+    rt: HostRuntime,
+    job: Job,
+    s: Settings,
+    bytes: &mut [u8],
+    memory: &mut [u8],
+    out: &mut [u8],
+) {
+    let begun = begin_from(rt, s, memory);
     let next = begun.next;
     let start = begun.state;
     match next {
-        Next::On => run_from(job, start, bytes, memory, out),
+        Next::On => run_from(rt, job, start, bytes, memory, out),
         Next::Over(end) => say_file(end),
     }
 }
 
 // The same on the part of the largest buffers that the settings need.
-pub fn begin(job: Job, s: Settings) {
+pub fn begin(rt: HostRuntime, job: Job, s: Settings) {
     let space = sizes::room(job, s);
     let mut bytes = buffers::number_bytes();
     let mut memory = buffers::memory();
     let mut out = buffers::number_bytes();
     let n = space.input;
     let m = space.memory;
-    run_settings(job, s, &mut bytes[0..n], &mut memory[0..m], &mut out);
+    run_settings(rt, job, s, &mut bytes[0..n], &mut memory[0..m], &mut out);
 }

@@ -4,9 +4,10 @@
 ghost use Rattle.std.specs.Prelude.{◌<◌};
 
 use grid::calls::place;
-use libc::STDOUT_FILENO;
 use partlengths::tables::FAC_NUMBERS;
 use settings::Settings;
+
+const STDOUT_FILENO: i32 = 1;
 
 // The mode with occupancy 3; no other setting moves a place.
 fn settings_of(mode: u8) -> Settings {

@@ -1,5 +1,5 @@
 // Hold files: turned into the other form, begun from, and stored. 02, S-7.
-ghost use Rattle.std.specs.Prelude.{◌≡◌};
+ghost use Rattle.std.specs.Prelude.{◌≡◌, ◌≤◌, length};
 ghost use Rattle.channels.specs.Scheme.{standard_scheme};
 ghost use Rattle.holdlines.specs.declared.Form.TheVariants.{New};
 ghost use Rattle.holdcalls.specs.Restore.{restore_of};
@@ -10,11 +10,13 @@ use console::TurnJob;
 use holdcalls::restore::restore;
 use holdjobs::{asked, files};
 use holdlines::Form;
-use libc::{STDIN_FILENO, STDOUT_FILENO};
-use pipes::input::take_all;
-use pipes::output::say_file;
+use pipes::arguments::{argument, argument_count};
+use pipes::input::{Taken, take_all, take_none};
+use pipes::output::{STDOUT_FILENO, say_file};
 use resetcall::reset::reset;
 use settings::Settings;
+use std::fs::File;
+use std::os::fd::AsRawFd;
 use superframe::State;
 use turns::{End, Next, Outcome, turn};
 
@@ -32,9 +34,9 @@ fn pass_file(job: TurnJob, s: Settings, file: &[u8]) {
 }
 
 // The job `to-new` or `to-old` on the whole input.
-pub fn turn_input(job: TurnJob, s: Settings) {
+pub fn turn_input(rt: HostRuntime, job: TurnJob, s: Settings) {
     let mut file = files::file_buffer();
-    let taken = take_all(STDIN_FILENO, &mut file);
+    let taken = take_all(&mut rt.stdin(), &mut file);
     let next = taken.next;
     let n = taken.got;
     match next {
@@ -74,14 +76,33 @@ fn restore_file(s: Settings, file: &[u8], memory: &mut [u8]) -> Begun
     }
 }
 
+// The whole of the file of a name. A name that is no text names no file that can be opened.
+fn take_file(rt: HostRuntime, path: &[u8], bytes: &mut [u8]) -> Taken
+    ensures { result.got ≤ length bytes.new }
+{
+    let Ok(name) = str::from_utf8(path) else {
+        return take_none(bytes);
+    };
+    match File::open(&rt, name) {
+        Ok(from) => take_open(from, bytes),
+        Err(_) => take_none(bytes),
+    }
+}
+
+// The same of an open file, which is closed after it.
+fn take_open(from: File, bytes: &mut [u8]) -> Taken
+    ensures { result.got ≤ length bytes.new }
+{
+    let mut from = from;
+    take_all(&mut from, bytes)
+}
+
 // From the new hold file of a name.
-pub fn restore_from(path: &[u8], s: Settings, memory: &mut [u8]) -> Begun
+pub fn restore_from(rt: HostRuntime, path: &[u8], s: Settings, memory: &mut [u8]) -> Begun
     ensures { FromFile s memory.old (begun_yield result memory.new) }
 {
     let mut file = files::file_buffer();
-    let from = os::open_read(path);
-    let taken = take_all(from, &mut file);
-    libc::close(from);
+    let taken = take_file(rt, path, &mut file);
     let next = taken.next;
     let n = taken.got;
     match next {
@@ -94,12 +115,12 @@ pub fn restore_from(path: &[u8], s: Settings, memory: &mut [u8]) -> Begun
 }
 
 // From a reset, or from the file that the third argument names; settings that a reset refuses are refused at the first super frame too.
-pub fn begin_from(s: Settings, memory: &mut [u8]) -> Begun
+pub fn begin_from(rt: HostRuntime, s: Settings, memory: &mut [u8]) -> Begun
     ensures { Begins s memory.old (begun_yield result memory.new) }
 {
     let mut path = io::buffer();
-    let n = os::arg(3, &mut path);
-    if asked::from_reset(os::arg_count(), &path[..n]) {
+    let n = argument(rt, 3, &mut path);
+    if asked::from_reset(argument_count(rt), &path[..n]) {
         let done = reset(blank(s), s, memory);
         let state = done.state;
         return Begun {
@@ -107,38 +128,53 @@ pub fn begin_from(s: Settings, memory: &mut [u8]) -> Begun
             state,
         };
     }
-    restore_from(&path[..n], s, memory)
+    restore_from(rt, &path[..n], s, memory)
+}
+
+// Whether a file keeps what was written to it. What closing it answers is lost, so that a regular file is asked to be on its disk before.
+fn keeps(to: &File) -> bool {
+    if to.sync_all().is_ok() {
+        return true;
+    }
+    match to.metadata() {
+        Ok(found) => !found.is_file(),
+        Err(_) => false,
+    }
 }
 
 // Whether bytes were written to the file of a name.
-fn write_file(path: &[u8], file: &[u8]) -> bool {
-    let to = os::open_overwrite(path);
-    let written = io::write_all(to, file);
-    let closed = libc::close(to);
-    written & (closed == 0)
+fn write_file(rt: HostRuntime, path: &[u8], file: &[u8]) -> bool {
+    let Ok(name) = str::from_utf8(path) else {
+        return false;
+    };
+    let Ok(to) = File::create(&rt, name) else {
+        return false;
+    };
+    let written = io::write_all(to.as_raw_fd(), file);
+    written && keeps(&to)
 }
 
 // The state and its memory to a new file of a name.
-fn store_to(path: &[u8], state: State, memory: &[u8]) -> Next {
+fn store_to(rt: HostRuntime, path: &[u8], state: State, memory: &[u8]) -> Next {
     let mut file = files::file_buffer();
     let made = files::store_file(state, memory, &mut file);
     let n = made.length;
     let outcome = made.outcome;
     let next = turn::after_write(outcome, true);
     match next {
-        Next::On => turn::after_write(Outcome::Through, write_file(path, &file[0..n])),
+        Next::On => turn::after_write(Outcome::Through, write_file(rt, path, &file[0..n])),
         Next::Over(end) => Next::Over(end),
     }
 }
 
 // Stores a run's state and memory in the file that the fourth argument names, where there is one.
-pub fn store_at(end: End, state: State, memory: &[u8]) {
-    if !asked::stores(os::arg_count(), end) {
+pub fn store_at(rt: HostRuntime, end: End, state: State, memory: &[u8]) {
+    if !asked::stores(argument_count(rt), end) {
         return;
     }
     let mut path = io::buffer();
-    let n = os::arg(4, &mut path);
-    let next = store_to(&path[..n], state, memory);
+    let n = argument(rt, 4, &mut path);
+    let next = store_to(rt, &path[..n], state, memory);
     if let Next::Over(end) = next {
         say_file(end);
     }

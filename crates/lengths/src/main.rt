@@ -3,7 +3,11 @@
 
 ghost use Rattle.std.specs.Prelude.{◌≤◌};
 
-use libc::{STDERR_FILENO, STDIN_FILENO, STDOUT_FILENO};
+use std::io::Read;
+
+const STDOUT_FILENO: i32 = 1;
+
+const STDERR_FILENO: i32 = 2;
 
 // A byte of the input as a number that leaves room for the end of the input.
 fn wide(byte: u8) -> u16
@@ -13,20 +17,19 @@ fn wide(byte: u8) -> u16
 }
 
 // One byte of the input, or 256 where there is none.
-fn next_byte() -> u16 {
+fn next_byte(rt: HostRuntime) -> u16 {
     let mut one = [0u8; 1];
-    let got = libc::read(STDIN_FILENO, &mut one);
-    if got < 1 {
-        return 256;
+    match rt.stdin().read(&mut one) {
+        Ok(1) => wide(one[0]),
+        _ => 256,
     }
-    wide(one[0])
 }
 
 // Reads up to the first line feed, the end of the input or 21 bytes, and answers how many.
-fn read_line(bytes: &mut [u8; 21]) -> usize {
+fn read_line(rt: HostRuntime, bytes: &mut [u8; 21]) -> usize {
     let mut n = 0;
     while n < 21 {
-        let byte = next_byte();
+        let byte = next_byte(rt);
         if 255 < byte {
             return n;
         }
@@ -59,8 +62,8 @@ fn respond(bytes: &[u8; 21], n: usize) {
     }
 }
 
-fn main() {
+fn main(rt: HostRuntime) {
     let mut bytes = [0u8; 21];
-    let n = read_line(&mut bytes);
+    let n = read_line(rt, &mut bytes);
     respond(&bytes, n);
 }

@@ -2,8 +2,8 @@
 ghost use Rattle.std.specs.Prelude.{◌≤◌};
 
 use fitjobs::text;
-use libc::STDOUT_FILENO;
-use pipes::output::{say_line, say_settings, say_usage, write_front};
+use pipes::arguments::argument;
+use pipes::output::{STDOUT_FILENO, say_line, say_settings, say_usage, write_front};
 use settings::Settings;
 use turns::{End, Outcome};
 
@@ -29,8 +29,8 @@ fn answer(s: Settings, word: &[u8]) {
 }
 
 // The same with the third argument.
-pub fn begin(s: Settings) {
+pub fn begin(rt: HostRuntime, s: Settings) {
     let mut word = [0u8; 32];
-    let n = os::arg(3, &mut word);
+    let n = argument(rt, 3, &mut word);
     answer(s, &word[..n]);
 }

@@ -2,10 +2,9 @@
 ghost use Rattle.std.specs.Prelude.{◌≤◌};
 
 use console::LineJob;
-use libc::{STDIN_FILENO, STDOUT_FILENO};
 use linejobs::steps;
 use pipes::input::read_line;
-use pipes::output::{say_line, write_front};
+use pipes::output::{STDOUT_FILENO, say_line, write_front};
 use turns::{Next, input, turn};
 
 // A line that has come.
@@ -26,9 +25,9 @@ fn pass_front(job: LineJob, line: &[u8; 256], n: usize) -> Next
 }
 
 // The next line.
-fn take_line(job: LineJob) -> Next {
+fn take_line(rt: HostRuntime, job: LineJob) -> Next {
     let mut line = [0u8; 256];
-    let gathered = read_line(STDIN_FILENO, &mut line);
+    let gathered = read_line(&mut rt.stdin(), &mut line);
     let seen = gathered.seen;
     let next = input::after_line(gathered.count, seen);
     match next {
@@ -38,10 +37,10 @@ fn take_line(job: LineJob) -> Next {
 }
 
 // Lines up to the first end; what is wrong with a line is said with its number, counted from 1.
-pub fn run_lines(job: LineJob) {
+pub fn run_lines(rt: HostRuntime, job: LineJob) {
     let mut index: u64 = 1;
     while index < u64::MAX {
-        let next = take_line(job);
+        let next = take_line(rt, job);
         if let Next::Over(end) = next {
             say_line(end, index);
             if input::line_over(end) {

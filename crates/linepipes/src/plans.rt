@@ -1,12 +1,14 @@
 // The job on a week plan.
 ghost use Rattle.std.specs.Prelude.{◌≡◌, ◌≤◌, length};
 
-use libc::{STDERR_FILENO, STDOUT_FILENO};
+use pipes::arguments::{argument, argument_count};
 use pipes::input::read_line;
-use pipes::output::{say_line, say_usage, write_front};
+use pipes::output::{STDERR_FILENO, STDOUT_FILENO, say_line, say_usage, write_front};
 use plan::rules::WEEK_MINUTES;
 use planjobs::arguments::asked;
 use planjobs::{Asked, lines, week};
+use std::fs::File;
+use std::io::Error;
 use turns::{End, Next, input};
 
 fn say_plan(number: u8) {
@@ -28,7 +30,7 @@ fn take_rule(line: &[u8; 256], n: usize, rule: &mut [u8]) -> Next
 }
 
 // The rule of a file's next line.
-fn next_rule(from: i32, rule: &mut [u8]) -> Next
+fn next_rule(from: &mut File, rule: &mut [u8]) -> Next
     requires { length rule.old ≡ 14 }
 {
     let mut line = [0u8; 256];
@@ -49,7 +51,7 @@ struct Rules {
 }
 
 // A file's rules up to the first line that is none. One more than a plan may have is enough to refuse it.
-fn read_rules(from: i32, rules: &mut [u8]) -> Rules
+fn read_rules(from: &mut File, rules: &mut [u8]) -> Rules
     requires { length rules.old ≡ 910 }
     ensures { result.count ≤ 65 }
 {
@@ -129,35 +131,60 @@ fn print_front(asked: Asked, bytes: &[u8; 910], count: usize)
 }
 
 // The same of the plan in an open file.
-fn plan_from(asked: Asked, from: i32) {
+fn plan_from(asked: Asked, from: File) {
+    let mut from = from;
     let mut bytes = [0u8; 910];
-    let rules = read_rules(from, &mut bytes);
+    let rules = read_rules(&mut from, &mut bytes);
     if rules.good {
         print_front(asked, &bytes, rules.count);
     }
 }
 
-// The same of the plan in the file that the second argument names.
-fn plan_named(asked: Asked) {
-    let mut path = io::buffer();
-    let n = os::arg(2, &mut path);
-    let from = os::open_read(&path[..n]);
-    if from < 0 {
-        os::fail(&path[..n]);
-        return;
+// The system's number of the error that bytes are no text.
+const NO_TEXT: i32 = 84;
+
+// Opens the file of a name, which must be text.
+fn open_named(rt: HostRuntime, path: &[u8]) -> Result<File, Error> {
+    match str::from_utf8(path) {
+        Ok(name) => File::open(&rt, name),
+        Err(_) => Err(Error::from_raw_os_error(NO_TEXT)),
     }
-    plan_from(asked, from);
-    libc::close(from);
+}
+
+// The system's words for an error, without its number, which std puts behind them.
+fn say_words(words: &str) {
+    let (said, _) = words.split_once(" (os error ").unwrap_or((words, ""));
+    io::write_all(STDERR_FILENO, said.as_bytes());
+}
+
+// A line: the name, and why it was not opened.
+fn say_unopened(rt: HostRuntime, path: &[u8], error: Error) {
+    io::write_all(STDERR_FILENO, path);
+    io::write_all(STDERR_FILENO, b": ");
+    if let Ok(words) = error.to_string(rt.alloc()) {
+        say_words(words.as_str());
+    }
+    io::write_all(STDERR_FILENO, b"\n");
+}
+
+// The same of the plan in the file that the second argument names.
+fn plan_named(rt: HostRuntime, asked: Asked) {
+    let mut path = io::buffer();
+    let n = argument(rt, 2, &mut path);
+    match open_named(rt, &path[..n]) {
+        Ok(from) => plan_from(asked, from),
+        Err(error) => say_unopened(rt, &path[..n], error),
+    }
 }
 
 // What the arguments ask of a plan.
-pub fn begin() {
+pub fn begin(rt: HostRuntime) {
     let mut frame = [0u8; 32];
-    let n = os::arg(3, &mut frame);
-    let what = asked(os::arg_count(), &frame[..n]);
+    let n = argument(rt, 3, &mut frame);
+    let what = asked(argument_count(rt), &frame[..n]);
     match what {
-        Asked::Week => plan_named(Asked::Week),
-        Asked::SuperFrame(t) => plan_named(Asked::SuperFrame(t)),
+        Asked::Week => plan_named(rt, Asked::Week),
+        Asked::SuperFrame(t) => plan_named(rt, Asked::SuperFrame(t)),
         Asked::Bad => say_usage(),
     }
 }

@@ -1,14 +1,24 @@
 // What comes in: a whole buffer, or a line.
 ghost use Rattle.std.specs.Prelude.{◌≤◌, length};
 
-use libc::STDIN_FILENO;
+use std::io::Read;
+use std::os::fd::AsRawFd;
 use turns::{Next, Seen, input, turn};
 
-// Fills a buffer; a read after that tells the end of the input from a read that failed.
-pub fn fill(bytes: &mut [u8]) -> Next {
-    let n = io::read_full(STDIN_FILENO, bytes);
-    let last = libc::read(STDIN_FILENO, &mut bytes[n..]);
-    turn::after_read(n, bytes.len(), last == 0)
+// Whether a read tells the end of the input, and did not fail.
+fn tells_end<R: Read>(from: &mut R, bytes: &mut [u8]) -> bool {
+    match from.read(bytes) {
+        Ok(n) => n == 0,
+        Err(_) => false,
+    }
+}
+
+// Fills a buffer from standard input; a read after that tells the end of the input from a read that failed.
+pub fn fill(rt: HostRuntime, bytes: &mut [u8]) -> Next {
+    let mut from = rt.stdin();
+    let n = io::read_full(from.as_raw_fd(), bytes);
+    let ended = tells_end(&mut from, &mut bytes[n..]);
+    turn::after_read(n, bytes.len(), ended)
 }
 
 // How many bytes of a whole input came, and what follows.
@@ -19,14 +29,24 @@ pub struct Taken {
 }
 
 // The whole of an input, or what fills the buffer.
-pub fn take_all(from: i32, bytes: &mut [u8]) -> Taken
+pub fn take_all<R: Read + AsRawFd>(from: &mut R, bytes: &mut [u8]) -> Taken
     ensures { result.got ≤ length bytes.new }
 {
-    let n = io::read_full(from, bytes);
-    let last = libc::read(from, &mut bytes[n..]);
+    let n = io::read_full(from.as_raw_fd(), bytes);
+    let ended = tells_end(from, &mut bytes[n..]);
     Taken {
-        next: turn::after_all(n, bytes.len(), last == 0),
+        next: turn::after_all(n, bytes.len(), ended),
         got: n,
+    }
+}
+
+// The same of an input that cannot be opened.
+pub fn take_none(bytes: &[u8]) -> Taken
+    ensures { result.got ≤ length bytes.now }
+{
+    Taken {
+        next: turn::after_all(0, bytes.len(), false),
+        got: 0,
     }
 }
 
@@ -38,15 +58,17 @@ pub struct Gathered {
 }
 
 // One byte of an input into the line.
-fn gather_byte(from: i32, line: &mut [u8; 256], count: usize) -> Gathered
+fn gather_byte<R: Read>(from: &mut R, line: &mut [u8; 256], count: usize) -> Gathered
     requires { count ≤ 256 }
     ensures { result.count ≤ 256 }
 {
     let mut one = [0u8; 1];
-    let last = libc::read(from, &mut one);
-    let got = io::count(last, &one);
+    let (got, ended) = match from.read(&mut one) {
+        Ok(n) => (n, n == 0),
+        Err(_) => (0, false),
+    };
     let byte = one[0];
-    let seen = input::seen(got, last == 0, byte);
+    let seen = input::seen(got, ended, byte);
     match seen {
         Seen::Byte => Gathered {
             count: input::gather(byte, line, count),
@@ -68,7 +90,7 @@ fn gather_byte(from: i32, line: &mut [u8; 256], count: usize) -> Gathered
 }
 
 // A line up to its feed, the end of the input or a failure. A loop that is proved to end counts its turns.
-pub fn read_line(from: i32, line: &mut [u8; 256]) -> Gathered
+pub fn read_line<R: Read>(from: &mut R, line: &mut [u8; 256]) -> Gathered
     ensures { result.count ≤ 256 }
 {
     let mut count = 0;

@@ -2,10 +2,14 @@
 ghost use Rattle.std.specs.Prelude.{◌≤◌};
 
 use endings::{Lost, lines};
-use libc::STDERR_FILENO;
 use turns::End;
 use words::report::USAGE_BYTES;
 use words::{Counted, report};
+
+// The descriptors of what goes out.
+pub const STDOUT_FILENO: i32 = 1;
+
+pub const STDERR_FILENO: i32 = 2;
 
 // Whether the first n bytes of a text were written to a descriptor.
 pub fn write_front(to: i32, text: &[u8; 1024], n: usize) -> bool

@@ -3,9 +3,9 @@ use crate::shown;
 use console::Job;
 use holdpipes::files::restore_from;
 use jobs::{buffers, sizes};
-use libc::{STDIN_FILENO, STDOUT_FILENO};
+use pipes::arguments::argument;
 use pipes::input::take_all;
-use pipes::output::{say_file, say_run};
+use pipes::output::{STDOUT_FILENO, say_file, say_run};
 use settings::Settings;
 use superframe::State;
 use turns::{End, Next, turn};
@@ -26,9 +26,9 @@ fn show_bytes(state: State, bytes: &[u8], memory: &mut [u8]) {
 }
 
 // The whole input, shown by a state and its memory.
-fn show_input(state: State, memory: &mut [u8]) {
+fn show_input(rt: HostRuntime, state: State, memory: &mut [u8]) {
     let mut bytes = buffers::number_bytes();
-    let taken = take_all(STDIN_FILENO, &mut bytes);
+    let taken = take_all(&mut rt.stdin(), &mut bytes);
     let next = taken.next;
     let n = taken.got;
     match next {
@@ -38,22 +38,22 @@ fn show_input(state: State, memory: &mut [u8]) {
 }
 
 // From the hold file that the third argument names, which is only read.
-fn show_from(s: Settings, memory: &mut [u8]) {
+fn show_from(rt: HostRuntime, s: Settings, memory: &mut [u8]) {
     let mut path = io::buffer();
-    let n = os::arg(3, &mut path);
-    let begun = restore_from(&path[..n], s, memory);
+    let n = argument(rt, 3, &mut path);
+    let begun = restore_from(rt, &path[..n], s, memory);
     let next = begun.next;
     let state = begun.state;
     match next {
-        Next::On => show_input(state, memory),
+        Next::On => show_input(rt, state, memory),
         Next::Over(end) => say_file(end),
     }
 }
 
 // The same on the part of the largest memory that the settings need.
-pub fn preview(s: Settings) {
+pub fn preview(rt: HostRuntime, s: Settings) {
     let space = sizes::room(Job::Code, s);
     let mut memory = buffers::memory();
     let n = space.memory;
-    show_from(s, &mut memory[0..n]);
+    show_from(rt, s, &mut memory[0..n]);
 }

@@ -7,4 +7,4 @@ abbrev pub invariant-loop-n : goal.invariant-loop-n
 invariant-loop-n l = 0 < l.carriers
 
 abbrev pub decreases-loop-n : goal.decreases-loop-n
-decreases-loop-n l = length l.grid - n
+decreases-loop-n l = length l.grid - l.n
