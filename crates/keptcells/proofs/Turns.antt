@@ -1,7 +1,7 @@
 -- Cells that are kept, two numbers a turn. Assumes nothing.
 use Prim.Native.Nat.{ℕ, ◌+◌, ◌-◌, ◌*◌, ◌/◌, ◌%◌, ◌≤◌, ◌<◌, ◌^◌}
 use mathlib.Core.Path.{◌≡◌, sym, ap, ◌∙◌}
-use mathlib.Core.Bool.{Bool, false, cond, and_true}
+use mathlib.Core.Bool.{Bool, false, cond, and-true}
 use mathlib.Core.List.{List, map}
 use native.Mathlib.Nat.{add-zero}
 use native.Mathlib.Omega.{arith}
@@ -27,7 +27,7 @@ use Rattle.keptcells.specs.ReadOn.{kept_number, kept_cells, lost_mark}
 -- The test of one cell.
 one_point : (c : ℕ) (cell : List ℤ) → length cell ≡ 2 → points_pass (points_only c) cell ≡ is_point (constellation c) (get_or cell 0 (pos 0)) (get_or cell 1 (pos 0))
 unfolding points_pass cell_passes table every
-one_point c cell e = rw e (and_true _)
+one_point c cell e = rw e (and-true _)
 
 -- Number k of the cells that are kept, by the number of their constellation.
 unfoldable pub kept_by : ℕ → List ℤ → ℕ → ℤ

@@ -1,4 +1,6 @@
 -- `code::code_refusal` meets its contract. Assumes nothing.
+use mathlib.Core.Path.{ap}
+use mathlib.Core.Bool.{not}
 use Rattle.callrefusals.proofs.Chains.{then_fits}
 use Rattle.codecall.proofs.CodeCalls.{code_early, code_packed, code_eleven, code_twelve, code_none}
 use Rattle.codecall.proofs.code.code_refusal.Goals as goal
@@ -11,7 +13,7 @@ spares_zero-requires c = code_packed c.args.state _ _ _ _ _ _ _ _ c.code_lengths
 
 pub returns-then-not-spares_zero : goal.returns-then-not-spares_zero
 returns-then-not-spares_zero c =
-    code_eleven _ _ _ _ _ _ _ _ _ c.code_lengths-number.ensures c.if-number-ne0.false _ c.spares_zero.ensures c.if-not-spares_zero.true
+    code_eleven _ _ _ _ _ _ _ _ _ c.code_lengths-number.ensures c.if-number-ne0.false _ c.spares_zero.ensures (ap not c.if-not-spares_zero.true)
 
 pub in_order-requires : goal.in_order-requires
 in_order-requires c = then_fits _ _ _ _ _ c.code_lengths-number.ensures c.if-number-ne0.false
@@ -19,11 +21,11 @@ in_order-requires c = then_fits _ _ _ _ _ c.code_lengths-number.ensures c.if-num
 pub returns-then-not-in_order : goal.returns-then-not-in_order
 returns-then-not-in_order c =
     let b = c in
-    code_twelve _ _ _ _ _ _ _ _ _ b.code_lengths-number.ensures b.if-number-ne0.false _ b.spares_zero.ensures _ c.if-not-spares_zero.false
-    c.in_order.ensures c.if-not-in_order.true
+    code_twelve _ _ _ _ _ _ _ _ _ b.code_lengths-number.ensures b.if-number-ne0.false _ b.spares_zero.ensures _ (ap not c.if-not-spares_zero.false)
+    c.in_order.ensures (ap not c.if-not-in_order.true)
 
 pub returns : goal.returns
 returns c =
     let b = c in
-    code_none _ _ _ _ _ _ _ _ _ b.code_lengths-number.ensures b.if-number-ne0.false _ b.spares_zero.ensures _ c.if-not-spares_zero.false
-    c.in_order.ensures c.if-not-in_order.false
+    code_none _ _ _ _ _ _ _ _ _ b.code_lengths-number.ensures b.if-number-ne0.false _ b.spares_zero.ensures _ (ap not c.if-not-spares_zero.false)
+    c.in_order.ensures (ap not c.if-not-in_order.false)
