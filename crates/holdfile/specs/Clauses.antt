@@ -1,6 +1,6 @@
 -- What functions inside a call require and find: nothing of 02 is stated here.
 use Rattle.std.specs.Prelude.{ℕ, ◌*◌, ◌≡◌, Bool, true, false, List, length}
-use Rattle.cellbytes.specs.CellBytes.{numbers, bytes}
+use Rattle.cellbytes.specs.CellBytes.{bytes}
 use Rattle.holdlines.specs.declared.Form.{Form}
 use Rattle.settings.specs.declared.Settings.{Settings}
 use Rattle.settings.specs.Accepted.{Accepted}

@@ -1,6 +1,5 @@
 -- `restore_table` meets its contract. Assumes nothing.
 use native.Mathlib.Omega.{arith}
-use borrow.Author.Tests.{not-true, not-false}
 use Rattle.channels.specs.Scheme.{scheme_of}
 use Rattle.holdcalls.proofs.RestoreCalls.{refused_early, table_long, memory_lent, refused_file, heading_there, restored_file}
 use Rattle.holdcalls.proofs.restore.restore_table.Goals as goal

@@ -1,5 +1,4 @@
 -- `take_in` meets its contract. Assumes nothing.
-use borrow.Author.Tests.{not-true, not-false}
 use Rattle.holdcalls.proofs.RestoreCalls.{taken_memory, kept_memory}
 use Rattle.holdcalls.proofs.restore.take_in.Goals as goal
 

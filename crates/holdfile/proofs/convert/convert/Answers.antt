@@ -1,6 +1,5 @@
 -- `convert` meets its contract. Assumes nothing.
 use mathlib.Core.Path.{◌∙◌, ap, sym}
-use borrow.Author.Tests.{not-true, not-false}
 use Rattle.settings.proofs.Bounds.{accepted_of}
 use Rattle.holdlines.specs.Files.{file_length}
 use Rattle.holdfile.proofs.Turning.{refused_settings, refused_room, refused_file, file_turned}

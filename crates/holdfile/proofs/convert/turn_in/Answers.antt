@@ -1,5 +1,4 @@
 -- `turn_in` meets its contract. Assumes nothing.
-use borrow.Author.Tests.{not-true, not-false}
 use Rattle.holdfile.proofs.Turning.{turned_file, kept_file, turnable}
 use Rattle.holdfile.proofs.convert.turn_in.Goals as goal
 
