@@ -25,14 +25,14 @@ returns-then-not-fits c =
     let r = c in
     let l = c in
     let e = c.stopped-then-not-fits.ensures in
-    let x = r.args.s.x in record { value = e ∙ plan_unfit _ _ _ (sym r.described.ensures ∙ r.if-not-described.false) _ r.refusal-number.ensures c.if-number-ne0.false (sym (ap (λ k. fits k x) l.layout-l.ensures.value) ∙ sym c.fits2.ensures ∙ c.if-not-fits.true); room = stopped_room _ _ e }
+    let x = r.args.s.x in record { value = e ∙ plan_unfit _ _ _ (sym r.described.ensures ∙ r.if-not-described.false) _ r.refusal-number.ensures c.if-number-ne0.false (sym (ap (λ k. fits k x) l.layout-l.ensures.value) ∙ sym c.fits.ensures ∙ c.if-not-fits.true); room = stopped_room _ _ e }
 
 pub planned-requires : goal.planned-requires
-planned-requires c = fitting _ c.layout-l.ensures.small.frame (sym c.fits2.ensures ∙ c.if-not-fits.false)
+planned-requires c = fitting _ c.layout-l.ensures.small.frame (sym c.fits.ensures ∙ c.if-not-fits.false)
 
 pub returns : goal.returns
 returns c =
     let r = c in
     let l = c in
     let e = c.planned.ensures in
-    let a = r in record { value = e.value ∙ ap (planned a.args.job) l.layout-l.ensures.value ∙ plan-fit _ _ _ (sym r.described.ensures ∙ r.if-not-described.false) _ r.refusal-number.ensures c.if-number-ne0.false (sym (ap (λ k. fits k a.args.s.x) l.layout-l.ensures.value) ∙ sym c.fits2.ensures ∙ c.if-not-fits.false); room = e.room }
+    let a = r in record { value = e.value ∙ ap (planned a.args.job) l.layout-l.ensures.value ∙ plan-fit _ _ _ (sym r.described.ensures ∙ r.if-not-described.false) _ r.refusal-number.ensures c.if-number-ne0.false (sym (ap (λ k. fits k a.args.s.x) l.layout-l.ensures.value) ∙ sym c.fits.ensures ∙ c.if-not-fits.false); room = e.room }
