@@ -1,9 +1,7 @@
 -- `add_sequence` meets its contract. Assumes nothing.
-use Prim.Native.Nat.{◌<◌}
 use native.Mathlib.Omega.{arith}
 use borrow.Author.Rules.{rules}
 use mathlib.Core.Path.{refl}
-use lib.ListN.{length}
 use Rattle.dispersal.proofs.Periods.{add_start, add_turn, add_done, period_long, period_bit, period_low}
 use Rattle.dispersal.proofs.bits.add_sequence.Goals as goal
 

@@ -1,8 +1,6 @@
 -- `disperse` meets its contract. Assumes nothing.
-use Prim.Native.Nat.{◌+◌, ◌≤◌, ◌<◌}
 use native.Mathlib.Omega.{arith}
 use borrow.Author.Rules.{rules}
-use lib.ListN.{length}
 use Rattle.dispersal.proofs.Periods.{start, turn, done, piece_low, piece-some, piece-ends, piece_adds}
 use Rattle.dispersal.proofs.bits.disperse.Goals as goal
 
