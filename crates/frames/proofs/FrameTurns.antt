@@ -52,13 +52,13 @@ module _ (s : Settings) where
       → after_rows s q (rs ++ (r ∷ [])) ≡ (let p = after_rows s q rs in advanced (depth s) (taken s p r) p)
   unfolding after_rows
   after_more q [] r = refl
-  after_more q (g ∷ rs) r = after_more _ rs r
+  after_more q (g ∷ rs) r = after_more (advanced (depth s) (taken s q g) q) rs r
 
   finished_more : (q : Progress) (rs : List (List ℤ)) (r : List ℤ)
       → finished_frames s q (rs ++ (r ∷ [])) ≡ (let p = after_rows s q rs in finished_frames s q rs ++ finished_by s p (taken s p r))
   unfolding after_rows finished_frames
   finished_more q [] r = append-nil _
-  finished_more q (g ∷ rs) r = rw (finished_more _ rs r, append_assoc)
+  finished_more q (g ∷ rs) r = rw (finished_more (advanced (depth s) (taken s q g) q) rs r, append_assoc)
 
   finished_few : (q : Progress) (memory : List ℕ) → length (finished_by s q memory) ≤ 1
   unfolding finished_by

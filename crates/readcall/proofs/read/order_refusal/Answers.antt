@@ -1,4 +1,6 @@
 -- `read::order_refusal` meets its contract. Assumes nothing.
+use mathlib.Core.Path.{ap}
+use mathlib.Core.Bool.{not}
 use Rattle.callrefusals.proofs.Chains.{then_fits}
 use Rattle.readcall.proofs.ReadParts.{order_early, order_twelve, order_none}
 use Rattle.readcall.proofs.read.order_refusal.Goals as goal
@@ -12,9 +14,9 @@ in_order-requires c = then_fits _ _ _ _ _ c.read_lengths-number.ensures c.if-num
 pub returns-then-not-in_order : goal.returns-then-not-in_order
 returns-then-not-in_order c =
     let b = c in
-    order_twelve _ _ _ _ _ _ _ _ _ b.read_lengths-number.ensures b.if-number-ne0.false _ c.in_order.ensures c.if-not-in_order.true
+    order_twelve _ _ _ _ _ _ _ _ _ b.read_lengths-number.ensures b.if-number-ne0.false _ c.in_order.ensures (ap not c.if-not-in_order.true)
 
 pub returns : goal.returns
 returns c =
     let b = c in
-    order_none _ _ _ _ _ _ _ _ _ b.read_lengths-number.ensures b.if-number-ne0.false _ c.in_order.ensures c.if-not-in_order.false
+    order_none _ _ _ _ _ _ _ _ _ b.read_lengths-number.ensures b.if-number-ne0.false _ c.in_order.ensures (ap not c.if-not-in_order.false)

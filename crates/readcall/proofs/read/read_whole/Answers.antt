@@ -14,23 +14,6 @@ read_blocks-blocks-requires c =
     blocks_lent _ _ _ p _ _ _ _ (front_is _ _ _ (ap length e) ∙ e) c.fac_buffer-facwork.ensures.long (length-start _ _ (omega (arith, c.sdc_buffer-sdcwork.ensures.long, sdc_most_lem _ _ _ p)))
     (length-start _ _ (omega (arith, c.msc_buffer-mscwork.ensures.long, msc_most _ _ _ p)))
 
--- What stands in the working buffers is as long as the lent ones.
-work-long : (c : goal.After-read_blocks-blocks) → length c.read_blocks-blocks.new.memory ≡ length c.args.memory.now
-work-long c = c.read_blocks-blocks.auto.memory ∙ length-start _ _ (front_in _ c.copy.new.out _ (ap length c.copy.ensures))
-
-fac_long_lem : (c : goal.After-read_blocks-blocks) → length c.read_blocks-blocks.new.fac ≡ 27
-fac_long_lem c = c.read_blocks-blocks.auto.fac ∙ c.fac_buffer-facwork.ensures.long
-
-sdc_long_lem : (c : goal.After-read_blocks-blocks) → length c.read_blocks-blocks.new.sdc ≡ length c.args.sdc.now
-sdc_long_lem c =
-    let l = c.sdc_buffer-sdcwork.ensures.long in
-    c.read_blocks-blocks.auto.sdc ∙ length-start _ _ (omega (arith, l, sdc_most_lem _ _ _ c.requires))
-
-msc_long_lem : (c : goal.After-read_blocks-blocks) → length c.read_blocks-blocks.new.msc ≡ length c.args.msc.now
-msc_long_lem c =
-    let l = c.msc_buffer-mscwork.ensures.long in
-    c.read_blocks-blocks.auto.msc ∙ length-start _ _ (omega (arith, l, msc_most _ _ _ c.requires))
-
 pub returns-in-At : goal.returns-in-At
 returns-in-At c =
     let b = c in
@@ -39,11 +22,14 @@ returns-in-At c =
 
 pub returns : goal.returns
 returns c =
+    let w : length c.read_blocks-blocks.new.memory ≡ length c.args.memory.now = c.read_blocks-blocks.auto.memory ∙ length-start _ _ (front_in _ c.copy.new.out _ (ap length c.copy.ensures)) in
+    let d : length c.read_blocks-blocks.new.sdc ≡ length c.args.sdc.now = c.read_blocks-blocks.auto.sdc ∙ length-start _ _ (omega (arith, c.sdc_buffer-sdcwork.ensures.long, sdc_most_lem _ _ _ c.requires)) in
+    let m : length c.read_blocks-blocks.new.msc ≡ length c.args.msc.now = c.read_blocks-blocks.auto.msc ∙ length-start _ _ (omega (arith, c.msc_buffer-mscwork.ensures.long, msc_most _ _ _ c.requires)) in
     let b = c in
     let e = b.copy.ensures in
     accepted_blocks _ _ _ c.requires _ _ _ _ (front_is _ _ _ (ap length e) ∙ e) _ _ _ _ _ b.read_blocks-blocks.ensures _ c.lost_fault-fault.ensures c.in_default.is _ _ _ _
-    (c.copy-2.ensures ∙ front_is _ _ _ (work-long b.before.before.before.before.before.before.before.before.before.before.before.before.before.before.before.before.before.before.before.before.before.before.before.before.before.before.before.before.before)) c.copy-3.ensures (c.copy-4.ensures ∙ front_is _ _ _ (sdc_long_lem b.before.before.before.before.before.before.before.before.before.before.before.before.before.before.before.before.before.before.before.before.before.before.before.before.before.before.before.before.before))
-    (c.copy-5.ensures ∙ front_is _ _ _ (msc_long_lem b.before.before.before.before.before.before.before.before.before.before.before.before.before.before.before.before.before.before.before.before.before.before.before.before.before.before.before.before.before))
+    (c.copy-2.ensures ∙ front_is _ _ _ w) c.copy-3.ensures (c.copy-4.ensures ∙ front_is _ _ _ d)
+    (c.copy-5.ensures ∙ front_is _ _ _ m)
 
 pub slice_bounds-work-end : goal.slice_bounds-work-end
 slice_bounds-work-end c = let h = bytes_most _ _ _ c.requires in search rules
@@ -60,23 +46,38 @@ slice_bounds-sdcwork-end c = let h = sdc_most_lem _ _ _ c.requires in search rul
 pub slice_bounds-mscwork-end : goal.slice_bounds-mscwork-end
 slice_bounds-mscwork-end c = let h = msc_most _ _ _ c.requires in search rules
 
+-- What stands in the working buffers is as long as the lent ones.
 pub slice_bounds-copy-end : goal.slice_bounds-copy-end
-slice_bounds-copy-end c = front_in _ c.read_blocks-blocks.new.memory _ (work-long c.before.before.before.before.before.before.before.before)
+slice_bounds-copy-end c =
+    let w : length c.read_blocks-blocks.new.memory ≡ length c.args.memory.now = c.read_blocks-blocks.auto.memory ∙ length-start _ _ (front_in _ c.copy.new.out _ (ap length c.copy.ensures)) in
+    front_in _ c.read_blocks-blocks.new.memory _ w
 
 pub copy-requires-2 : goal.copy-requires-2
-copy-requires-2 c = sym (length-start _ _ (front_in _ c.read_blocks-blocks.new.memory _ (work-long c.before.before.before.before.before.before.before.before.before.before)))
+copy-requires-2 c =
+    let w : length c.read_blocks-blocks.new.memory ≡ length c.args.memory.now = c.read_blocks-blocks.auto.memory ∙ length-start _ _ (front_in _ c.copy.new.out _ (ap length c.copy.ensures)) in
+    sym (length-start _ _ (front_in _ c.read_blocks-blocks.new.memory _ w))
 
 pub copy-requires-3 : goal.copy-requires-3
-copy-requires-3 c = fac_room _ _ _ c.requires ∙ sym (fac_long_lem c.before.before.before.before.before.before.before.before.before.before.before.before.before.before.before)
+copy-requires-3 c =
+    let f : length c.read_blocks-blocks.new.fac ≡ 27 = c.read_blocks-blocks.auto.fac ∙ c.fac_buffer-facwork.ensures.long in
+    fac_room _ _ _ c.requires ∙ sym f
 
 pub slice_bounds-copy-end-3 : goal.slice_bounds-copy-end-3
-slice_bounds-copy-end-3 c = front_in _ c.read_blocks-blocks.new.sdc _ (sdc_long_lem c.before.before.before.before.before.before.before.before.before.before.before.before.before.before.before.before.before.before)
+slice_bounds-copy-end-3 c =
+    let d : length c.read_blocks-blocks.new.sdc ≡ length c.args.sdc.now = c.read_blocks-blocks.auto.sdc ∙ length-start _ _ (omega (arith, c.sdc_buffer-sdcwork.ensures.long, sdc_most_lem _ _ _ c.requires)) in
+    front_in _ c.read_blocks-blocks.new.sdc _ d
 
 pub copy-requires-4 : goal.copy-requires-4
-copy-requires-4 c = sym (length-start _ _ (front_in _ c.read_blocks-blocks.new.sdc _ (sdc_long_lem c.before.before.before.before.before.before.before.before.before.before.before.before.before.before.before.before.before.before.before.before)))
+copy-requires-4 c =
+    let d : length c.read_blocks-blocks.new.sdc ≡ length c.args.sdc.now = c.read_blocks-blocks.auto.sdc ∙ length-start _ _ (omega (arith, c.sdc_buffer-sdcwork.ensures.long, sdc_most_lem _ _ _ c.requires)) in
+    sym (length-start _ _ (front_in _ c.read_blocks-blocks.new.sdc _ d))
 
 pub slice_bounds-copy-end-4 : goal.slice_bounds-copy-end-4
-slice_bounds-copy-end-4 c = front_in _ c.read_blocks-blocks.new.msc _ (msc_long_lem c.before.before.before.before.before.before.before.before.before.before.before.before.before.before.before.before.before.before.before.before.before.before.before)
+slice_bounds-copy-end-4 c =
+    let m : length c.read_blocks-blocks.new.msc ≡ length c.args.msc.now = c.read_blocks-blocks.auto.msc ∙ length-start _ _ (omega (arith, c.msc_buffer-mscwork.ensures.long, msc_most _ _ _ c.requires)) in
+    front_in _ c.read_blocks-blocks.new.msc _ m
 
 pub copy-requires-5 : goal.copy-requires-5
-copy-requires-5 c = sym (length-start _ _ (front_in _ c.read_blocks-blocks.new.msc _ (msc_long_lem c.before.before.before.before.before.before.before.before.before.before.before.before.before.before.before.before.before.before.before.before.before.before.before.before.before)))
+copy-requires-5 c =
+    let m : length c.read_blocks-blocks.new.msc ≡ length c.args.msc.now = c.read_blocks-blocks.auto.msc ∙ length-start _ _ (omega (arith, c.msc_buffer-mscwork.ensures.long, msc_most _ _ _ c.requires)) in
+    sym (length-start _ _ (front_in _ c.read_blocks-blocks.new.msc _ m))
