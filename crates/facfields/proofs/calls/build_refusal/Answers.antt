@@ -1,9 +1,7 @@
 -- `build_refusal` meets its contract. Assumes nothing.
-use mathlib.Core.Path.{◌≡◌, sym, ap, ap₂, ◌∙◌}
+use mathlib.Core.Path.{sym, ap, ap₂, ◌∙◌}
 use mathlib.Core.Bool.{not, ◌&&◌}
-use Rattle.settings.specs.Refusal.{first}
 use Rattle.facblocks.specs.Fields.{within, agrees}
-use Rattle.facfields.specs.Build.{build_refusal}
 use Rattle.settings.proofs.Chain.{hold, pass}
 use Rattle.facfields.proofs.Refusals.{build_settings, build_fields, build_bytes_lem, build_test}
 use Rattle.facfields.proofs.calls.build_refusal.Goals as goal

@@ -1,9 +1,7 @@
 -- `read_refusal` meets its contract. Assumes nothing.
-use mathlib.Core.Path.{◌≡◌, sym, ap, ◌∙◌}
+use mathlib.Core.Path.{sym, ap, ◌∙◌}
 use mathlib.Core.Bool.{not}
-use Rattle.settings.specs.Refusal.{first}
 use Rattle.facblocks.specs.Fields.{agrees}
-use Rattle.facfields.specs.Read.{read_refusal}
 use Rattle.settings.proofs.Chain.{hold, pass}
 use Rattle.facfields.proofs.Refusals.{read_settings, read-bytes, read_fields_lem, read_test}
 use Rattle.facfields.proofs.calls.read_refusal.Goals as goal

@@ -1,20 +1,16 @@
 -- `halves_refusal` meets its contract. Assumes nothing.
 use Prim.Native.Nat.{◌-◌, ◌*◌, ◌≤◌}
-use mathlib.Core.Path.{◌≡◌, sym, ap, ap₂, ◌∙◌}
+use mathlib.Core.Path.{sym, ap, ap₂, ◌∙◌}
 use mathlib.Core.Bool.{not, ◌&&◌}
 use native.Mathlib.Omega.{arith}
-use borrow.Author.Tests.{not-false}
 use lib.ListN.{length}
-use Rattle.settings.specs.Refusal.{first}
 use Rattle.settings.specs.Lengths.{n_mux}
-use Rattle.settings.specs.Sizes.{frame_bits}
 use Rattle.settings.proofs.Chain.{hold, pass}
 use Rattle.settings.proofs.Buffers.{frame_low}
 use Rattle.block.specs.Packing.{spare_zero}
-use Rattle.channels.specs.Scheme.{scheme_refusal}
 use Rattle.channels.proofs.Schemes.{scheme-accepted}
-use Rattle.halves.specs.Halves.{halves_long, halves_spare, halves_refusal}
-use Rattle.halves.proofs.Fitting.{LongHalves, long_halves, one_few, two_few, of_settings, nine, ten, last}
+use Rattle.halves.specs.Halves.{halves_long, halves_spare}
+use Rattle.halves.proofs.Fitting.{long_halves, one_few, two_few, of_settings, nine, ten, last}
 use Rattle.halves.proofs.calls.halves_refusal.Goals as goal
 
 pub returns-then-number-ne0 : goal.returns-then-number-ne0

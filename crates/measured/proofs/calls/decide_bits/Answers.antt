@@ -2,7 +2,6 @@
 use native.Mathlib.Omega.{arith}
 use borrow.Author.Rules.{rules}
 use Rattle.lists.proofs.Tables.{filled-start, filled_turn}
-use Rattle.measured.specs.Calls.{bit_at}
 use Rattle.measured.proofs.Accepts.{bits-some, bit_fits, bits_done}
 use Rattle.measured.proofs.calls.decide_bits.Goals as goal
 

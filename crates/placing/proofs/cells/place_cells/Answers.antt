@@ -5,7 +5,7 @@ use mathlib.Core.Path.{refl, ◌∙◌}
 use lib.ListN.{length-set}
 use mir.Syntax.{w16}
 use mir.Facts.{to_z-of_z}
-use Rattle.placing.proofs.Placing.{placing_start, placing_turn, placing_done, Bounds, bounds, small_pos}
+use Rattle.placing.proofs.Placing.{placing_start, placing_turn, placing_done, bounds, small_pos}
 use Rattle.placing.proofs.cells.place_cells.Goals as goal
 
 pub loop-p-init : goal.loop-p-init

@@ -4,7 +4,7 @@ use borrow.Author.Rules.{sfits_of}
 use lib.ListN.{length-set}
 use mir.Syntax.{w16}
 use mir.Facts.{to_z-of_z}
-use Rattle.placing.proofs.Taking.{Next, ahead, next, take-start, take_turn, take_done}
+use Rattle.placing.proofs.Taking.{ahead, next, take-start, take_turn, take_done}
 use Rattle.placing.proofs.cells.take_cells.Goals as goal
 
 pub loop-n-init : goal.loop-n-init

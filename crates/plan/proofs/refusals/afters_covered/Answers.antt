@@ -1,6 +1,5 @@
 use mathlib.Core.Path.{ap}
 use native.Mathlib.Omega.{arith}
-use borrow.Author.Rules.{rules}
 use Rattle.lists.proofs.Tests.{tested_start, tested_turn, tested_stop, tested_end}
 use Rattle.plan.specs.Rules.{rules_of}
 use Rattle.plan.specs.Clauses.{after_covered, afters_covered}

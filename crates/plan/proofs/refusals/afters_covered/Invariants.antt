@@ -1,5 +1,4 @@
 use Prim.Native.Nat.{◌-◌}
-use borrow.Author.Rules.{rules}
 use lib.ListN.{get_or}
 use Rattle.lists.proofs.Tests.{Tested}
 use Rattle.plan.specs.Rules.{rules_of, no_rule}

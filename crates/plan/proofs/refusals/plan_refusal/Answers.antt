@@ -1,5 +1,4 @@
 use mathlib.Core.Path.{sym, ◌∙◌}
-use borrow.Author.Rules.{rules}
 use Rattle.plan.specs.Rules.{rules_of}
 use Rattle.plan.proofs.Loops.{ends_covered_lem}
 use Rattle.plan.proofs.Chain.{refused_settings, refused_range, refused-gap, refused_twice, not-refused}

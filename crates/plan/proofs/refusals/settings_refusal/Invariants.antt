@@ -1,5 +1,4 @@
 use Prim.Native.Nat.{◌-◌}
-use borrow.Author.Rules.{rules}
 use Rattle.plan.specs.Rules.{rules_of}
 use Rattle.plan.proofs.Loops.{asked_number, Numbered}
 use Rattle.plan.proofs.refusals.settings_refusal.Given as goal

@@ -1,5 +1,4 @@
 -- What the rules from k on say of the minute.
-use borrow.Author.Rules.{rules}
 use Rattle.plan.specs.Rules.{rules_of}
 use Rattle.plan.proofs.Loops.{Asked}
 use Rattle.plan.proofs.rules.find.Given as goal
