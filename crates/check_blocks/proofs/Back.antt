@@ -1,6 +1,5 @@
 -- A drawn block comes back. Assumes nothing.
-use Rattle.std.proofs.Common.{◌≡◌, ℕ, suc, ◌+◌, ◌-◌, ◌*◌, ◌/◌, ◌%◌, ◌^◌, ◌<◌, ◌≤◌, Bool, true, false, cond, not, ◌⊎◌, List, length, get_or, set, replicate, ℤ, sym, ap, ◌∙◌, ap₂, inl, inr, mul_assoc, div-mul-le_self, arith, length-set, get_or-set_other, get_or-set_same, pow-add, eq-eqb}
-use borrow.Author.Tests.{not-true}
+use Rattle.std.proofs.Common.{◌≡◌, ℕ, suc, ◌+◌, ◌-◌, ◌*◌, ◌/◌, ◌%◌, ◌^◌, ◌<◌, ◌≤◌, Bool, true, false, cond, ◌⊎◌, List, length, get_or, set, replicate, ℤ, sym, ap, ◌∙◌, ap₂, inl, inr, mul_assoc, div-mul-le_self, arith, length-set, get_or-set_other, get_or-set_same, pow-add, eq-eqb}
 use lib.ListN.{get_or-eq_default}
 use lib.Pow.{shl-shr}
 use Rattle.lists.specs.Lists.{table, total}
@@ -19,10 +18,6 @@ use Rattle.blockreader.proofs.BlockTurns.{one_lent, one-read}
 use Rattle.vectors.specs.Digest.{cells_taken}
 use Rattle.vectors.specs.Draws.{byte_of, state, bytes_from, spare_bits, cleared, drawn_block}
 use Rattle.check_blocks.specs.Kinds.{bytes_drawn, drawn_from}
-
--- a test and its opposite
-pub apart : {A : Type 0} (b : Bool) → b ≡ true → not b ≡ true → A
-apart b p q = let f : b ≡ false = not-true b q in let z : ◌≡◌ {A = ℕ} 0 1 = cc in absurd (omega arith)
 
 -- a multiple of a power of two has zeros below it
 low_zero : (q j m : ℕ) → q * 2 ^ (m + 1 + j) / 2 ^ j % 2 ≡ 0

@@ -18,7 +18,7 @@ block_of-requires c = accepted_of _ (sym c.refusal.ensures ∙ c.if-refusal-ne0.
 pub block_with-requires : goal.block_with-requires
 block_with-requires c =
     let left = c in (
-      rw c.Block-of.ensures (kind_fits _ (standard-accepted (accepted_of _ (sym left.refusal.ensures ∙ left.if-refusal-ne0.false))) _),
+      rw c.block_of.ensures (kind_fits _ (standard-accepted (accepted_of _ (sym left.refusal.ensures ∙ left.if-refusal-ne0.false))) _),
       record { drawn = c.byte_buffer-bytes.ensures; read = c.byte_buffer-back.ensures; whole = c.coordinate_buffer-cells.ensures },
     )
 
@@ -26,5 +26,5 @@ pub returns : goal.returns
 unfolding drawn_of
 returns c =
     let left = c in
-    rw (eq-eqb (refusal left.args.s) 0 (sym left.refusal.ensures ∙ left.if-refusal-ne0.false), ← c.Block-of.ensures)
+    rw (eq-eqb (refusal left.args.s) 0 (sym left.refusal.ensures ∙ left.if-refusal-ne0.false), ← c.block_of.ensures)
     c.block_with.ensures
