@@ -13,12 +13,9 @@ scheme_of-scheme-requires c =
 
 pub fill_memory-requires : goal.fill_memory-requires
 fill_memory-requires c =
-    let b = c in
-    let a = b.args in
-    reset_lent a.old (scheme_of _ _) a.memory.now _ b.reset_refusal-number.ensures _ b.if-number-ne0.false c.scheme_of-scheme.ensures
+    reset_lent c.args.old (scheme_of _ _) c.args.memory.now _ c.reset_refusal-number.ensures _ c.if-number-ne0.false c.scheme_of-scheme.ensures
 
 pub returns : goal.returns
 returns c =
-    let b = c in
-    accepted_reset _ (scheme_of _ _) _ _ b.reset_refusal-number.ensures _ _ b.if-number-ne0.false c.scheme_of-scheme.ensures
+    accepted_reset _ (scheme_of _ _) _ _ c.reset_refusal-number.ensures _ _ c.if-number-ne0.false c.scheme_of-scheme.ensures
     c.fill_memory.ensures
