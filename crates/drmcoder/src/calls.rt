@@ -38,12 +38,7 @@ pub fn drm_reset(state: &mut [u8], settings: &[u8], memory: &mut [u8]) -> u8
 }
 
 // Begins a run with a table of its own. 02 S-11.
-pub fn drm_reset_table(
-    state: &mut [u8],
-    settings: &[u8],
-    table: &[u8],
-    memory: &mut [u8],
-) -> u8
+pub fn drm_reset_table(state: &mut [u8], settings: &[u8], table: &[u8], memory: &mut [u8]) -> u8
     ensures { reset_yields result state.new memory.new
         ≡ reset_bytes state.old settings.now table.now memory.old }
 {

@@ -8,12 +8,7 @@ use crate::bytes::settings_of;
 use multiplex::calls::{build, read};
 
 // A multiplex frame from the logical frames of its streams.
-pub fn drm_mux_build(
-    settings: &[u8],
-    description: &[u16],
-    streams: &[u8],
-    frame: &mut [u8],
-) -> u8
+pub fn drm_mux_build(settings: &[u8], description: &[u16], streams: &[u8], frame: &mut [u8]) -> u8
     ensures { build_yield result frame.new
         ≡ build_frame settings.now description.now streams.now frame.old }
 {
@@ -24,12 +19,7 @@ pub fn drm_mux_build(
 }
 
 // The logical frames of the streams of a multiplex frame.
-pub fn drm_mux_read(
-    settings: &[u8],
-    description: &[u16],
-    frame: &[u8],
-    streams: &mut [u8],
-) -> u8
+pub fn drm_mux_read(settings: &[u8], description: &[u16], frame: &[u8], streams: &mut [u8]) -> u8
     ensures { read_yield result streams.new
         ≡ read_streams settings.now description.now frame.now streams.old }
 {

@@ -24,12 +24,7 @@ pub fn drm_store_new(state: &[u8], memory: &[u8], file: &mut [u8]) -> u8
 }
 
 // A run from an old file, with the standard's table.
-pub fn drm_restore_old(
-    state: &mut [u8],
-    settings: &[u8],
-    file: &[u8],
-    memory: &mut [u8],
-) -> u8
+pub fn drm_restore_old(state: &mut [u8], settings: &[u8], file: &[u8], memory: &mut [u8]) -> u8
     ensures { reset_yields result state.new memory.new
         ≡ restore_bytes Old state.old settings.now table65 file.now memory.old }
 {
@@ -37,12 +32,7 @@ pub fn drm_restore_old(
 }
 
 // A run from a new file, with the standard's table.
-pub fn drm_restore_new(
-    state: &mut [u8],
-    settings: &[u8],
-    file: &[u8],
-    memory: &mut [u8],
-) -> u8
+pub fn drm_restore_new(state: &mut [u8], settings: &[u8], file: &[u8], memory: &mut [u8]) -> u8
     ensures { reset_yields result state.new memory.new
         ≡ restore_bytes New state.old settings.now table65 file.now memory.old }
 {

@@ -21,5 +21,7 @@ pub extern "C" fn drm_preview(
         (code_call fac.now sdc.now msc.now faccells.old sdccells.old msccells.old)
         next.old }
 {
-    drmcoder::preview::drm_preview(state, memory, fac, sdc, msc, faccells, sdccells, msccells, next)
+    drmcoder::preview::drm_preview(
+        state, memory, fac, sdc, msc, faccells, sdccells, msccells, next,
+    )
 }

@@ -21,5 +21,7 @@ pub extern "C" fn drm_read_on(
         (read_on_call faccells.now sdccells.now msccells.now
         fac.old sdc.old msc.old lost.old) }
 {
-    drmcoder::read_on::drm_read_on(state, memory, faccells, sdccells, msccells, fac, sdc, msc, lost)
+    drmcoder::read_on::drm_read_on(
+        state, memory, faccells, sdccells, msccells, fac, sdc, msc, lost,
+    )
 }
