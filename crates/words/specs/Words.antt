@@ -1,7 +1,6 @@
 -- A refusal in words: its number, and its block. 01 "Operations", and the requests of 02.
 use Rattle.std.specs.Prelude.{ℕ, cond, List, [], ◌∷◌, map, length, get_or, take, ltb, eqb}
 use Prim.Native.String.{String}
-use Rattle.lists.specs.Lists.{table}
 use Rattle.superframe.specs.Call.{joined}
 use Rattle.console.specs.Text.{bytes_in}
 

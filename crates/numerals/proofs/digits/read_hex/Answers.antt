@@ -3,7 +3,6 @@ use native.Mathlib.Omega.{arith}
 use lib.ListN.{length}
 use Rattle.lists.proofs.Tables.{filled-start, filled_turn, filled_end}
 use mathlib.Core.Path.{◌≡◌, refl}
-use Rattle.line.specs.Read.{byte_at}
 use Rattle.numerals.specs.Digits.{bytes_in}
 use Rattle.numerals.proofs.Hex.{hex_there}
 use Rattle.numerals.proofs.digits.read_hex.Goals as goal

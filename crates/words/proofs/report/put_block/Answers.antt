@@ -1,6 +1,4 @@
-use mathlib.Core.Bool.{◌||◌}
 use native.Mathlib.Omega.{arith}
-use lib.Dec.{eqb}
 use Rattle.lists.specs.Lists.{table}
 use Rattle.console.specs.Text.{bytes_in}
 use Rattle.words.specs.Report.{block_part}
