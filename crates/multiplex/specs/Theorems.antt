@@ -26,7 +26,7 @@ split_of s d frame = split_by (layout_of s d) (streams_of s.msc d) frame
 abbrev pub Split_by : Settings → List ℕ → Split → Type 0
 Split_by s d p = let l = layout_of s d in Lengths l.vspp (8 * l.head) (in_bits (streams_of s.msc d)) (frame_bits s) p
 
--- Splitting is one_to_one_lem and onto: every frame has a split, from which it is put together again, and every split with these lengths is that of the frame
+-- Splitting is one-to-one and onto: every frame has a split, from which it is put together again, and every split with these lengths is that of the frame
 -- put together from it.
 pub record OneToOne (s : Settings) (d : List ℕ) : Type 0 where
   pub split : (frame : List ℕ) → length frame ≡ frame_bits s → Split_by s d (split_of s d frame) × (frame_of (split_of s d frame) ≡ frame)
