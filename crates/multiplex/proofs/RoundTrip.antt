@@ -34,7 +34,7 @@ use Rattle.multiplex.specs.Frame.{split_by, split_in, zero_filled, built, handed
 use Rattle.multiplex.specs.Clauses.{Fitting, Buffers}
 use Rattle.multiplex.specs.Build.{build_yield, build_of}
 use Rattle.multiplex.specs.Read.{read_yield, read_of}
-use Rattle.multiplex.specs.Theorems.{Passes, split_of, Split_by, OneToOne, Built, Zero, ReadsBack, Rebuilt, Multiplex}
+use Rattle.multiplex.specs.Theorems.{Passes, split_of, SplitBy, OneToOne, Built, Zero, ReadsBack, Rebuilt, Multiplex}
 use Rattle.multiplex.proofs.Octets.{octets, octets_long, packed-octets, octets-packed, sums-bits, bits-frames, whole-bytes}
 use Rattle.multiplex.proofs.FrameBits.{frame_is}
 use Rattle.multiplex.proofs.Layouts.{few_numbers, fitting}
@@ -138,7 +138,7 @@ module _ (s : Settings) (d : List ℕ) (P : Passes s d) where
     abbrev filled : Split
     filled = zero_filled l ss streams
 
-    filled_lengths : Split_by s d filled
+    filled_lengths : SplitBy s d filled
     unfolding zero_filled
     filled_lengths =
         let r = sums-bits ss in
@@ -205,7 +205,7 @@ module _ (s : Settings) (d : List ℕ) (P : Passes s d) where
     abbrev p : Split
     p = split_of s d whole
 
-    lengths : Split_by s d p
+    lengths : SplitBy s d p
     lengths = (one_to_one_lem.split whole (length-unpacked (frame_bits s) frame)).0
 
     handed-bits : Bits (p.head ++ lent_of p.streams)

@@ -23,14 +23,14 @@ unfoldable pub split_of : Settings → List ℕ → List ℕ → Split
 split_of s d frame = split_by (layout_of s d) (streams_of s.msc d) frame
 
 -- A split with the lengths that settings and description give it.
-abbrev pub Split_by : Settings → List ℕ → Split → Type 0
-Split_by s d p = let l = layout_of s d in Lengths l.vspp (8 * l.head) (in_bits (streams_of s.msc d)) (frame_bits s) p
+abbrev pub SplitBy : Settings → List ℕ → Split → Type 0
+SplitBy s d p = let l = layout_of s d in Lengths l.vspp (8 * l.head) (in_bits (streams_of s.msc d)) (frame_bits s) p
 
 -- Splitting is one-to-one and onto: every frame has a split, from which it is put together again, and every split with these lengths is that of the frame
 -- put together from it.
 pub record OneToOne (s : Settings) (d : List ℕ) : Type 0 where
-  pub split : (frame : List ℕ) → length frame ≡ frame_bits s → Split_by s d (split_of s d frame) × (frame_of (split_of s d frame) ≡ frame)
-  pub joined : (p : Split) → Split_by s d p → (length (frame_of p) ≡ frame_bits s) × (split_of s d (frame_of p) ≡ p)
+  pub split : (frame : List ℕ) → length frame ≡ frame_bits s → SplitBy s d (split_of s d frame) × (frame_of (split_of s d frame) ≡ frame)
+  pub joined : (p : Split) → SplitBy s d p → (length (frame_of p) ≡ frame_bits s) × (split_of s d (frame_of p) ≡ p)
 
 -- Building is the inverse of splitting with both fillings zero: the frame splits into the logical frames that were lent, and zeros.
 abbrev pub Built : Settings → List ℕ → Type 0
