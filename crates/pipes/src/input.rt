@@ -1,5 +1,6 @@
 // What comes in: a whole buffer, or a line.
-ghost use Rattle.std.specs.Prelude.{◌≤◌, length};
+ghost use Rattle.std.specs.Prelude.{◌≡◌, ◌≤◌, false, length};
+ghost use Rattle.turns.specs.Turn.{after_all};
 
 use std::io::Read;
 use std::os::fd::AsRawFd;
@@ -42,7 +43,8 @@ pub fn take_all<R: Read + AsRawFd>(from: &mut R, bytes: &mut [u8]) -> Taken
 
 // The same of an input that cannot be opened.
 pub fn take_none(bytes: &[u8]) -> Taken
-    ensures { result.got ≤ length bytes.now }
+    ensures unread { result.next ≡ after_all 0 (length bytes.now) false }
+    ensures nothing { result.got ≡ 0 }
 {
     Taken {
         next: turn::after_all(0, bytes.len(), false),
