@@ -16,6 +16,7 @@ use Rattle.block.specs.Mapping.{mapped, woven}
 use Rattle.block.specs.Points.{are_points}
 use Rattle.block.specs.declared.Level.{Level}
 use Rattle.block.specs.declared.Block.{Block}
+use Rattle.block.specs.declared.Constellation.{Constellation}
 use Rattle.block.specs.Block.{levels_of, points_of, one_axis, six, block_of, bit_count, streams_of, cells_of}
 use Rattle.block.specs.Reading.{unmapped, inputs_a, inputs_b, candidate}
 use Rattle.block.specs.Fits.{Streams, BlockFits, BlockBits, BlockBytes}
@@ -26,7 +27,7 @@ use Rattle.block.proofs.Mapping.{length-mapped, unmapped-mapped, points_mapped, 
 use Rattle.block.proofs.Levels.{Back, length-streams, streams_back, length-inputs_a, length-inputs_b}
 
 -- the levels of a block that is made of a list of them
-pub levels_from : (v : ℕ) (ls : List Level) (c n n1 : ℕ) → levels_of (block_of v ls c n n1) ≡ ls
+pub levels_from : (v : ℕ) (ls : List Level) (c : Constellation) (n n1 : ℕ) → levels_of (block_of v ls c n n1) ≡ ls
 unfolding levels_of six
 levels_from v ls c n n1 = take-append_seam ls _
 

@@ -14,7 +14,9 @@ use Rattle.component.specs.Bits.{Bits}
 use Rattle.component.proofs.Bits.{bits-nil}
 use Rattle.lists.proofs.Counting.{below_or}
 use Rattle.lists.proofs.Tables.{length-table, table_at, table_is}
-use Rattle.block.specs.Mapping.{coordinate, qam4, qam16, standard64, symmetric64, Constellation, constellation, axis, label_at, mapped, weave, woven}
+use Rattle.block.specs.declared.Constellation.{Constellation}
+use Rattle.block.specs.declared.Constellation.TheVariants.{Qam4, Qam16, Sm64, HmSym, HmMix}
+use Rattle.block.specs.Mapping.{coordinate, qam4, qam16, standard64, symmetric64, Labellings, constellation, axis, label_at, mapped, weave, woven}
 use Rattle.lists.specs.Same.{same_number}
 use Rattle.block.specs.Points.{on_axis, are_points}
 use Rattle.lists.proofs.Bools.{every-table}
@@ -51,22 +53,25 @@ labels64s : Labelling 8 symmetric64
 unfolding symmetric64 table coordinate place_of same_number
 labels64s = labelling 8 symmetric64 refl refl
 
--- the levels of a constellation by its number
-unfoldable pub level_count : ℕ → ℕ
-level_count c = get_or (1 ∷ 2 ∷ 3 ∷ 3 ∷ 3 ∷ []) c 1
+-- the levels of a constellation
+unfoldable pub level_count : Constellation → ℕ
+level_count Qam4 = 1
+level_count Qam16 = 2
+level_count Sm64 = 3
+level_count HmSym = 3
+level_count HmMix = 3
 
 -- no two coordinates on an axis of the five constellations are equal
-pub constellation_labels : (c : ℕ) → Labels (level_count c) (constellation c)
+pub constellation_labels : (c : Constellation) → Labels (level_count c) (constellation c)
 unfolding level_count constellation
-constellation_labels zero = record { real = labels4; imaginary = labels4 }
-constellation_labels (suc zero) = record { real = labels16; imaginary = labels16 }
-constellation_labels (suc (suc zero)) = record { real = labels64; imaginary = labels64 }
-constellation_labels (suc (suc (suc zero))) = record { real = labels64s; imaginary = labels64s }
-constellation_labels (suc (suc (suc (suc zero)))) = record { real = labels64s; imaginary = labels64 }
-constellation_labels (suc (suc (suc (suc (suc c))))) = record { real = labels4; imaginary = labels4 }
+constellation_labels Qam4 = record { real = labels4; imaginary = labels4 }
+constellation_labels Qam16 = record { real = labels16; imaginary = labels16 }
+constellation_labels Sm64 = record { real = labels64; imaginary = labels64 }
+constellation_labels HmSym = record { real = labels64s; imaginary = labels64s }
+constellation_labels HmMix = record { real = labels64s; imaginary = labels64 }
 
 -- the axis of a place has the constellation's labels
-axis_labels_lem : {m : ℕ} {k : Constellation} → Labels m k → (j : ℕ) → Labelling (2 ^ m) (axis k j)
+axis_labels_lem : {m : ℕ} {k : Labellings} → Labels m k → (j : ℕ) → Labelling (2 ^ m) (axis k j)
 unfolding axis
 axis_labels_lem {m} {k} L j = go (eqb (j % 2) 0)
   where
@@ -94,22 +99,22 @@ number-digit {ys = y ∷ ys} S j (suc i) =
     rw (shr_suc, e) (number-digit (streams-rest S) j i)
 
 -- so many numbers are mapped
-pub length-mapped : (k : Constellation) (n : ℕ) (ys : List (List ℕ)) → length (mapped k n ys) ≡ n
+pub length-mapped : (k : Labellings) (n : ℕ) (ys : List (List ℕ)) → length (mapped k n ys) ≡ n
 unfolding mapped
 length-mapped k n ys = length-table (λ j. get_or (axis k j) (label_at ys j) (pos 0)) 0 n
 
 -- each by its level bits
-pub get_or-mapped : (k : Constellation) (n : ℕ) (ys : List (List ℕ)) (j : ℕ) → j < n → get_or (mapped k n ys) j (pos 0) ≡ get_or (axis k j) (label_at ys j) (pos 0)
+pub get_or-mapped : (k : Labellings) (n : ℕ) (ys : List (List ℕ)) (j : ℕ) → j < n → get_or (mapped k n ys) j (pos 0) ≡ get_or (axis k j) (label_at ys j) (pos 0)
 unfolding mapped
 get_or-mapped k n ys j h = table_at (λ i. get_or (axis k i) (label_at ys i) (pos 0)) 0 n j (pos 0) h ∙ rw zero-add
 
 -- there are as many numbers as coordinates
-pub length-numbers : (k : Constellation) (cells : List ℤ) → length (labels_of k cells) ≡ length cells
+pub length-numbers : (k : Labellings) (cells : List ℤ) → length (labels_of k cells) ≡ length cells
 unfolding labels_of
 length-numbers k cells = length-table (λ j. place_of (axis k j) (get_or cells j (pos 0))) 0 (length cells)
 
 -- mapping and back: the numbers of the level bits
-pub numbers-mapped : {m w : ℕ} {k : Constellation} {ys : List (List ℕ)} → Labels m k → Streams w ys → length ys ≡ m
+pub numbers-mapped : {m w : ℕ} {k : Labellings} {ys : List (List ℕ)} → Labels m k → Streams w ys → length ys ≡ m
     → (n : ℕ) → labels_of k (mapped k n ys) ≡ table (label_at ys) 0 n
 unfolding labels_of
 numbers-mapped {m} {w} {k} {ys} L S e n =
@@ -120,7 +125,7 @@ numbers-mapped {m} {w} {k} {ys} L S e n =
     ((axis_labels_lem L j).found (label_at ys j) (rw e at (number_low S j))))
 
 -- the streams that the levels give back, where each goes to both axes
-streams_same : {m n : ℕ} {k : Constellation} {ys : List (List ℕ)} → Labels m k → Streams n ys → length ys ≡ m
+streams_same : {m n : ℕ} {k : Labellings} {ys : List (List ℕ)} → Labels m k → Streams n ys → length ys ≡ m
     → (l : ℕ) → l < length ys → stream_in false (labels_of k (mapped k n ys)) l ≡ get_or ys l []
 unfolding stream_in taken
 streams_same {m} {n} {k} {ys} L S e l h =
@@ -186,7 +191,7 @@ of_pair ys i (suc zero) l e h = rw (← e)
 of_pair ys i (suc (suc a)) l e h = absurd (omega arith)
 
 -- the streams that the levels give back, where each goes to one axis
-streams-apart : {m n : ℕ} {k : Constellation} {ys : List (List ℕ)} → Labels m k → Streams n ys → length ys ≡ 2 * m
+streams-apart : {m n : ℕ} {k : Labellings} {ys : List (List ℕ)} → Labels m k → Streams n ys → length ys ≡ 2 * m
     → (l : ℕ) → l < length ys → stream_in true (labels_of k (mapped k (2 * n) (woven ys))) l ≡ get_or ys l []
 unfolding stream_in taken
 streams-apart {m} {n} {k} {ys} L S e l h =
@@ -210,7 +215,7 @@ streams-apart {m} {n} {k} {ys} L S e l h =
     )))
 
 -- mapping and back gives the levels' streams
-pub unmapped-mapped : {m : ℕ} {k : Constellation} {ys : List (List ℕ)} (one : Bool) (c : ℕ)
+pub unmapped-mapped : {m : ℕ} {k : Labellings} {ys : List (List ℕ)} (one : Bool) (c : ℕ)
     → Labels m k → Streams (cond one c (2 * c)) ys → length ys ≡ cond one (2 * m) m
     → unmapped k one (length ys) (mapped k (2 * c) (cond one (woven ys) ys)) ≡ ys
 unfolding unmapped
@@ -229,7 +234,7 @@ on_axis-get_or (w ∷ l) (suc i) h = rw (on_axis-get_or l i (omega arith)) (or_t
     or_true false = refl
 
 -- mapping gives points
-pub points_mapped : {m w : ℕ} {k : Constellation} {ys : List (List ℕ)} → Labels m k → Streams w ys → length ys ≡ m → (n : ℕ) → are_points k (mapped k n ys) ≡ true
+pub points_mapped : {m w : ℕ} {k : Labellings} {ys : List (List ℕ)} → Labels m k → Streams w ys → length ys ≡ m → (n : ℕ) → are_points k (mapped k n ys) ≡ true
 unfolding are_points
 points_mapped {m} {w} {k} {ys} L S e n =
     every-table (λ j. on_axis (axis k j) (get_or (mapped k n ys) j (pos 0))) 0 (length (mapped k n ys))

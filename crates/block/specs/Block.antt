@@ -1,24 +1,25 @@
 -- The cells of a block, from its bits. 01 "From bits to cells".
-use Rattle.std.specs.Prelude.{ℕ, ◌+◌, ◌-◌, ◌*◌, Bool, cond, List, [], ◌++◌, length, take, drop, replicate, eqb, ℤ}
+use Rattle.std.specs.Prelude.{ℕ, ◌+◌, ◌-◌, ◌*◌, Bool, cond, List, [], ◌++◌, length, take, drop, replicate, ℤ}
 use Rattle.patterns.specs.Clauses.{pattern_from}
 use Rattle.block.specs.Packing.{unpacked}
 use Rattle.block.specs.Dispersal.{dispersed_parts}
 use Rattle.block.specs.declared.Level.{Level}
 use Rattle.block.specs.declared.Block.{Block}
+use Rattle.block.specs.declared.Constellation.{Constellation}
 use Rattle.block.specs.Levels.{total_a, total_b, streams}
-use Rattle.block.specs.Mapping.{HMMIX, Constellation, constellation, mapped, woven}
+use Rattle.block.specs.Mapping.{Labellings, constellation, is_mixed, mapped, woven}
 
 -- The levels of a block, in the order of partition.
 unfoldable pub levels_of : Block → List Level
 levels_of k = take k.count k.levels
 
--- Its constellation.
-unfoldable pub points_of : Block → Constellation
+-- Its constellation's labellings.
+unfoldable pub points_of : Block → Labellings
 points_of k = constellation k.constellation
 
 -- In HMmix each level has one axis only.
 unfoldable pub one_axis : Block → Bool
-one_axis k = eqb k.constellation HMMIX
+one_axis k = is_mixed k.constellation
 
 -- A place for a level that the block hasn't.
 unfoldable pub no_level : Level
@@ -29,7 +30,7 @@ unfoldable pub six : List Level → List Level
 six ls = ls ++ replicate (6 - length ls) no_level
 
 -- The block with v bits dispersed by themselves, these levels, constellation c and n cells, n1 of them in part A.
-abbrev pub block_of : ℕ → List Level → ℕ → ℕ → ℕ → Block
+abbrev pub block_of : ℕ → List Level → Constellation → ℕ → ℕ → Block
 block_of v ls c n n1 = record { vspp = v; levels = six ls; count = length ls; constellation = c; cells = n; parta = n1 }
 
 -- The bits of a block.

@@ -7,7 +7,7 @@ use Rattle.lists.specs.Bytes.{bytes_for}
 use Rattle.block.specs.Packing.{spare_zero}
 use Rattle.block.specs.declared.Level.{Level}
 use Rattle.block.specs.declared.Block.{Block}
-use Rattle.block.specs.Mapping.{Constellation}
+use Rattle.block.specs.Mapping.{Labellings}
 use Rattle.block.specs.Block.{levels_of, points_of, one_axis, bit_count}
 use Rattle.block.specs.Reading.{place_of, size_a, size_b}
 
@@ -25,8 +25,8 @@ pub record Labelling (n : ℕ) (l : List ℤ) : Type 0 where
   pub size : length l ≡ n
   pub found : (i : ℕ) → i < n → place_of l (get_or l i (pos 0)) ≡ i
 
--- A constellation whose axes have a coordinate for each number of m level bits.
-pub record Labels (m : ℕ) (k : Constellation) : Type 0 where
+-- Labellings of both axes that have a coordinate for each number of m level bits.
+pub record Labels (m : ℕ) (k : Labellings) : Type 0 where
   pub real : Labelling (2 ^ m) k.real
   pub imaginary : Labelling (2 ^ m) k.imaginary
 
@@ -71,7 +71,6 @@ pub record BlockFits (k : Block) : Type 0 where
   pub front : k.vspp ≤ bit_count k
   pub few : k.count ≤ 6
   pub room : k.count ≤ length k.levels
-  pub known : k.constellation < 5
   pub part : k.parta ≤ k.cells
   pub most : k.cells ≤ 6118
   pub short : bit_count k ≤ 36708

@@ -1,6 +1,8 @@
 -- Mapping of level bits to coordinates. 01 "Mapping"; 001 clause 7.4, figures 27 to 31.
-use Rattle.std.specs.Prelude.{ℕ, ◌+◌, ◌*◌, ◌/◌, ◌%◌, cond, List, [], ◌∷◌, length, get_or, ℤ, pos, ◌-ℤ◌, eqb}
+use Rattle.std.specs.Prelude.{ℕ, ◌+◌, ◌*◌, ◌/◌, ◌%◌, Bool, true, false, cond, List, [], ◌∷◌, length, get_or, ℤ, pos, ◌-ℤ◌, eqb}
 use Rattle.lists.specs.Lists.{table}
+use Rattle.block.specs.declared.Constellation.{Constellation}
+use Rattle.block.specs.declared.Constellation.TheVariants.{Qam4, Qam16, Sm64, HmSym, HmMix}
 
 -- An axis's coordinate: base - 2 × n.
 unfoldable pub coordinate : ℕ → ℕ → ℤ
@@ -23,41 +25,29 @@ standard64 = table (coordinate 7) 0 8
 unfoldable pub symmetric64 : List ℤ
 symmetric64 = table (λ n. coordinate 7 (4 * (n % 2) + n / 2 % 2 + 2 * (n / 4))) 0 8
 
--- A constellation: the labellings of its real and its imaginary axis.
-pub record Constellation : Type 0 where
+-- The labellings of a constellation's real and imaginary axis.
+pub record Labellings : Type 0 where
   pub real : List ℤ
   pub imaginary : List ℤ
 
--- The five constellations by number; 64-QAM HMmix has HMsym's rule on the real axis and SM's on the imaginary.
-abbrev pub QAM4 : ℕ
-QAM4 = 0
+-- Those of the five constellations; 64-QAM HMmix has HMsym's rule on the real axis and SM's on the imaginary.
+unfoldable pub constellation : Constellation → Labellings
+constellation Qam4 = record { real = qam4; imaginary = qam4 }
+constellation Qam16 = record { real = qam16; imaginary = qam16 }
+constellation Sm64 = record { real = standard64; imaginary = standard64 }
+constellation HmSym = record { real = symmetric64; imaginary = symmetric64 }
+constellation HmMix = record { real = symmetric64; imaginary = standard64 }
 
-abbrev pub QAM16 : ℕ
-QAM16 = 1
-
-abbrev pub SM64 : ℕ
-SM64 = 2
-
-abbrev pub HMSYM : ℕ
-HMSYM = 3
-
-abbrev pub HMMIX : ℕ
-HMMIX = 4
-
-unfoldable pub constellation : ℕ → Constellation
-constellation c =
-    get_or
-    (record { real = qam4; imaginary = qam4 }
-    ∷ record { real = qam16; imaginary = qam16 }
-    ∷ record { real = standard64; imaginary = standard64 }
-    ∷ record { real = symmetric64; imaginary = symmetric64 }
-    ∷ record { real = symmetric64; imaginary = standard64 }
-    ∷ [])
-    c
-    (record { real = qam4; imaginary = qam4 })
+-- Each axis has a labelling, and levels, of its own: in HMmix alone.
+abbrev pub is_mixed : Constellation → Bool
+is_mixed Qam4 = false
+is_mixed Qam16 = false
+is_mixed Sm64 = false
+is_mixed HmSym = false
+is_mixed HmMix = true
 
 -- The labelling of the axis of number j: cells are flat, real before imaginary.
-unfoldable pub axis : Constellation → ℕ → List ℤ
+unfoldable pub axis : Labellings → ℕ → List ℤ
 axis k j = cond (eqb (j % 2) 0) k.real k.imaginary
 
 -- The number i0 + 2 × i1 + 4 × i2 of the level bits at place j of the levels' streams.
@@ -66,7 +56,7 @@ label_at [] j = 0
 label_at (y ∷ ys) j = get_or y j 0 + 2 * label_at ys j
 
 -- The first n numbers of the cells: each level's bits go alternately to the real and the imaginary axis.
-unfoldable pub mapped : Constellation → ℕ → List (List ℕ) → List ℤ
+unfoldable pub mapped : Labellings → ℕ → List (List ℕ) → List ℤ
 mapped k n ys = table (λ j. get_or (axis k j) (label_at ys j) (pos 0)) 0 n
 
 -- HMmix: a level of the real axis and one of the imaginary axis as one stream, real before imaginary.

@@ -10,7 +10,7 @@ use Rattle.block.specs.Dispersal.{dispersed_parts}
 use Rattle.patterns.specs.Clauses.{pattern_of}
 use Rattle.block.specs.declared.Level.{Level}
 use Rattle.block.specs.declared.Block.{Block}
-use Rattle.block.specs.Mapping.{Constellation, axis}
+use Rattle.block.specs.Mapping.{Labellings, axis}
 use Rattle.lists.specs.Same.{same_number, same_numbers}
 use Rattle.block.specs.Block.{levels_of, points_of, one_axis, cells_of}
 
@@ -20,7 +20,7 @@ place_of [] v = 0
 place_of (w ∷ ws) v = cond (same_number w v) 0 (suc (place_of ws v))
 
 -- These numbers of all cells, flat, real before imaginary.
-unfoldable pub labels_of : Constellation → List ℤ → List ℕ
+unfoldable pub labels_of : Labellings → List ℤ → List ℕ
 labels_of k cells = table (λ j. place_of (axis k j) (get_or cells j (pos 0))) 0 (length cells)
 
 -- The bits of the level with that weight.
@@ -37,7 +37,7 @@ stream_in one numbers l =
     (taken (2 ^ l) numbers)
 
 -- The streams of m levels from the cells.
-unfoldable pub unmapped : Constellation → Bool → ℕ → List ℤ → List (List ℕ)
+unfoldable pub unmapped : Labellings → Bool → ℕ → List ℤ → List (List ℕ)
 unmapped k one m cells = let numbers = labels_of k cells in table (stream_in one numbers) 0 m
 
 -- Bit interleaving undone; bits as they are where t is 0.

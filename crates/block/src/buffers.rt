@@ -1,5 +1,5 @@
-// Sizes of buffers, each from those before it, and working buffers for the largest block and for a small one, each from a function of its own: proofs
-// then take its length and do not write it out.
+// Sizes of buffers for the largest block and for a small one, each from those before it: to clear those of the largest takes longer than to code or
+// read an FAC block. A buffer comes from a function of its own: proofs then take its length and do not write it out.
 ghost use Rattle.lists.specs.Buffers.{Long};
 
 // The most cells of a block: N_MUX of mode A with occupancy 5.
@@ -32,56 +32,30 @@ pub const SMALL_BITS: usize = 6 * SMALL_CELLS;
 
 pub const SMALL_PLACES: usize = SMALL_BITS + 1;
 
-// The places of a block's coded bits.
-pub fn place_buffer() -> [u16; MOST_PLACES]
-    ensures { Long 36709 result }
+// A working buffer, each element `value` at first.
+pub fn buffer<T: Copy, const N: usize>(value: T) -> [T; N]
+    ensures { Long N result }
 {
-    [0u16; MOST_PLACES]
-}
-
-// A number, or a coded bit of a level, for each coordinate.
-pub fn cell_buffer() -> [u8; MOST_NUMBERS]
-    ensures { Long 12236 result }
-{
-    [0u8; MOST_NUMBERS]
+    [value; N]
 }
 
 // The bits of a block.
 pub fn bit_buffer() -> [u8; MOST_BITS]
     ensures { Long 36708 result }
 {
-    [0u8; MOST_BITS]
+    buffer(0)
 }
 
 // The same, packed.
 pub fn byte_buffer() -> [u8; MOST_BYTES]
     ensures { Long 4589 result }
 {
-    [0u8; MOST_BYTES]
+    buffer(0)
 }
 
 // The coordinates of all cells.
 pub fn coordinate_buffer() -> [i16; MOST_NUMBERS]
     ensures { Long 12236 result }
 {
-    [0i16; MOST_NUMBERS]
-}
-
-// The same of a small block: to clear those of the largest takes longer than to code or read an FAC block.
-pub fn small_place_buffer() -> [u16; SMALL_PLACES]
-    ensures { Long 5077 result }
-{
-    [0u16; SMALL_PLACES]
-}
-
-pub fn small_cell_buffer() -> [u8; SMALL_NUMBERS]
-    ensures { Long 1692 result }
-{
-    [0u8; SMALL_NUMBERS]
-}
-
-pub fn small_bit_buffer() -> [u8; SMALL_BITS]
-    ensures { Long 5076 result }
-{
-    [0u8; SMALL_BITS]
+    buffer(0)
 }

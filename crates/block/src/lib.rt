@@ -1,6 +1,9 @@
 // A block in general: dispersal, partition, component code, bit interleaving and mapping over its levels. Definitions and laws, and working buffers.
 #![tactic(auto)]
 
+ghost use Rattle.std.specs.Prelude.{◌≡◌};
+ghost use Rattle.block.specs.Block.{one_axis};
+
 use patterns::Pattern;
 
 pub mod buffers;
@@ -16,6 +19,16 @@ pub struct Level {
     pub t: usize,
 }
 
+// The five constellations: 4-QAM, 16-QAM, and 64-QAM with standard, symmetrical hierarchical and mixture hierarchical mapping.
+#[derive(Clone, Copy, Debug, PartialEq, Eq)]
+pub enum Constellation {
+    Qam4,
+    Qam16,
+    Sm64,
+    HmSym,
+    HmMix,
+}
+
 // A block (FAC block, SDC block or multiplex frame): how many of its bits are dispersed by themselves in front, its levels (room for six, and
 // how many they are), its constellation, its cells, and how many of them are part A's.
 #[derive(Clone, Copy)]
@@ -23,18 +36,17 @@ pub struct Block {
     pub vspp: usize,
     pub levels: [Level; 6],
     pub count: usize,
-    pub constellation: u8,
+    pub constellation: Constellation,
     pub cells: usize,
     pub parta: usize,
 }
 
-// The five constellations.
-pub const QAM4: u8 = 0;
-
-pub const QAM16: u8 = 1;
-
-pub const SM64: u8 = 2;
-
-pub const HMSYM: u8 = 3;
-
-pub const HMMIX: u8 = 4;
+impl Block {
+    // In HMmix each level has one axis only.
+    #[tactic(auto, unfolding(crate::specs::Block::one_axis))]
+    pub fn one_axis(&self) -> bool
+        ensures { result ≡ one_axis self.now }
+    {
+        matches!(self.constellation, Constellation::HmMix)
+    }
+}

@@ -29,7 +29,7 @@ use Rattle.block.specs.Block.{levels_of, points_of, one_axis, bit_count, streams
 use Rattle.blockplaces.specs.Clauses.{BlockOrder, shared}
 use Rattle.multilevel.specs.Clauses.{bits_before, stream_at, stepped, CodesLevels, labels_from}
 use Rattle.multilevel.proofs.Totals.{total_a_lem, all-bits, streams_are, length-stream_at, number_low}
-use Rattle.multilevel.proofs.Axes.{few, alike_low, both_levels, axis, cells_low, pairs, twice, axis-levels}
+use Rattle.multilevel.proofs.Axes.{few, alike, both_levels, axis, cells_low, pairs, twice, axis-levels}
 use Rattle.block.proofs.Lists.{bits-take}
 use Rattle.block.proofs.Packing.{length-unpacked}
 use Rattle.block.proofs.Dispersal.{length-dispersed_parts, bits-dispersed_parts, from_first}
@@ -86,7 +86,7 @@ module _ {k : Block} {a b room coded : List ℕ} {out : List ℤ} (C : CodesPart
     pub maps_both : MapsParts k.constellation k.parta labels out
     maps_both =
         record {
-          known = alike_low C.fits one;
+          one = alike C.fits one;
           same = sym same_count;
           part = rw same_count (omega (arith, C.cells, C.fits.part));
           high = rw same_count (omega (arith, out_low));
@@ -153,10 +153,9 @@ module _ {k : Block} {a b room coded : List ℕ} {out : List ℤ} (C : CodesPart
     imaginary_count = rw imaginary_table (length-table _ 0 k.cells)
 
     -- their labels can be mapped
-    pub maps_both_axes : MapsAxesParts k.constellation k.parta re im out
+    pub maps_both_axes : MapsAxesParts k.parta re im out
     maps_both_axes =
         record {
-          known = C.fits.known;
           same = rw real_count C.cells;
           both = imaginary_count ∙ sym real_count;
           part = rw real_count C.fits.part;

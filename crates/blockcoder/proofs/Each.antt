@@ -16,7 +16,7 @@ use Rattle.block.specs.Block.{bit_count, cells_from}
 use Rattle.block.specs.Fits.{BlockFits, BlockLent, HasRoom, WorkLent}
 use Rattle.block.proofs.Blocks.{length-cells}
 use Rattle.multilevel.proofs.Totals.{bits_low}
-use Rattle.blockcoder.specs.Clauses.{BlocksLent, cells_of_each}
+use Rattle.blockcoder.specs.Clauses.{BlocksLent, Enough, cells_of_each}
 
 -- part i of m parts of w elements lies within them
 within : (w i m len : ℕ) → i < m → len ≡ m * w → w * i + w ≤ len
@@ -39,16 +39,15 @@ work_same W e f g =
       room = record { labelled = omega (arith, f, W.room.labelled); level = omega (arith, g, W.room.level) };
     }
 
--- those of a small block, and those of any
-pub small_work : {k : Block} {bits labels coded : List ℕ} → BlockFits k → k.cells ≤ 846 → length bits ≡ 5076 → length labels ≡ 1692 → length coded ≡ 1692
-    → WorkLent k bits labels coded
-small_work F h e f g = record { input = omega (arith, bits_low F); room = record { labelled = omega arith; level = omega arith } }
+-- sizes for a small block, and for any
+pub small_enough : {k : Block} → BlockFits k → k.cells ≤ 846 → Enough k 5077 5076 1692
+small_enough F h = record { place = omega arith; bit = omega (arith, bits_low F); number = omega arith; most_places = omega arith; most_bits = omega arith; most_numbers = omega arith }
+
+pub any_enough : {k : Block} → BlockFits k → Enough k 36709 36708 12236
+any_enough F = record { place = omega (arith, F.most); bit = F.short; number = omega (arith, F.most); most_places = omega arith; most_bits = omega arith; most_numbers = omega arith }
 
 pub any_room : {k : Block} {labels coded : List ℕ} → BlockFits k → length labels ≡ 12236 → length coded ≡ 12236 → HasRoom k labels coded
 any_room F f g = record { labelled = omega (arith, F.most); level = omega (arith, F.most) }
-
-pub any_work : {k : Block} {bits labels coded : List ℕ} → BlockFits k → length bits ≡ 36708 → length labels ≡ 12236 → length coded ≡ 12236 → WorkLent k bits labels coded
-any_work F e f g = record { input = omega (arith, F.short); room = any_room F f g }
 
 -- before block i: the cells of the blocks before it are there
 pub record Coded (k : Block) (many : ℕ) (bytes : List ℕ) (out₀ out : List ℤ) (i : ℕ) : Type 0 where

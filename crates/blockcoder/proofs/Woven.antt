@@ -12,13 +12,13 @@ use lib.Dec.{eqb}
 use Rattle.lists.specs.Lists.{table}
 use Rattle.lists.proofs.Counting.{below_or}
 use Rattle.lists.proofs.Tables.{length-table, get_or-table, table_ext}
-use Rattle.block.specs.Mapping.{Constellation, axis, label_at, mapped, weave, woven}
+use Rattle.block.specs.Mapping.{Labellings, axis, label_at, mapped, weave, woven}
 use Rattle.mapping.specs.Labels.{coordinates}
 use Rattle.multilevel.specs.Clauses.{stepped}
 use Rattle.mapping.proofs.Coordinates.{weave_even, weave_odd}
 
 -- mapping of streams is that of their labels
-pub mapped_labels : (k : Constellation) (n : ℕ) (ys : List (List ℕ)) → coordinates k (table (label_at ys) 0 n) ≡ mapped k n ys
+pub mapped_labels : (k : Labellings) (n : ℕ) (ys : List (List ℕ)) → coordinates k (table (label_at ys) 0 n) ≡ mapped k n ys
 unfolding coordinates mapped
 mapped_labels k n ys =
     let f : ℕ → ℤ = λ j. get_or (axis k j) (get_or (table (label_at ys) 0 n) j 0) (pos 0) in

@@ -1,5 +1,5 @@
 -- What the functions that code a block require and promise: nothing of 01 is stated here.
-use Rattle.std.specs.Prelude.{ℕ, zero, suc, ◌*◌, ◌≤◌, ◌≡◌, List, [], ◌++◌, length, take, drop, ℤ, cond}
+use Rattle.std.specs.Prelude.{ℕ, zero, suc, ◌*◌, ◌≤◌, ◌<◌, ◌≡◌, List, [], ◌++◌, length, take, drop, ℤ, cond}
 use Rattle.lists.specs.Bytes.{bytes_for}
 use Rattle.component.specs.Bits.{Bits}
 use Rattle.block.specs.declared.Block.{Block}
@@ -66,6 +66,15 @@ pub record BlocksLent (k : Block) (many : ℕ) (bytes : List ℕ) (out : List �
   pub few : many ≤ 3
   pub long : length bytes ≡ many * bytes_for (bit_count k)
   pub cells : length out ≡ many * (2 * k.cells)
+
+-- Sizes of a table of places and of working buffers that are enough for a block, and no larger than the largest block's: a cell has at most six coded bits.
+pub record Enough (k : Block) (places bits numbers : ℕ) : Type 0 where
+  pub place : 6 * k.cells < places
+  pub bit : bit_count k ≤ bits
+  pub number : 2 * k.cells ≤ numbers
+  pub most_places : places ≤ 36709
+  pub most_bits : bits ≤ 36708
+  pub most_numbers : numbers ≤ 12236
 
 -- The cells of the first m of them, one after the other.
 unfoldable pub cells_of_each : Block → ℕ → List ℕ → List ℤ

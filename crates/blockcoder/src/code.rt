@@ -1,17 +1,17 @@
 // A block: packed bytes to cells. 01 "From bits to cells".
-ghost use Rattle.std.specs.Prelude.{◌≡◌, true, false, ◌*◌, ◌≤◌};
+ghost use Rattle.std.specs.Prelude.{◌≡◌, true, false, ◌*◌};
 ghost use Rattle.block.specs.Levels.{streams};
 ghost use Rattle.block.specs.Mapping.{mapped, woven};
 ghost use Rattle.block.specs.Block.{levels_of, points_of, one_axis, cells_from};
-ghost use Rattle.blockcoder.specs.Clauses.{cells_by, cells_of_each, CodesParts, CodesBits, BlocksLent, PartsLeft, BitsLeft, WorkLeft};
+ghost use Rattle.blockcoder.specs.Clauses.{cells_by, cells_of_each, CodesParts, CodesBits, BlocksLent, Enough, PartsLeft, BitsLeft, WorkLeft};
 ghost use Rattle.block.specs.Fits.{BlockLent, HasRoom, WorkLent};
 ghost use Rattle.blockplaces.specs.Clauses.{BlockOrder};
 
+use block::Block;
 use block::buffers::{
-    SMALL_CELLS, bit_buffer, cell_buffer, place_buffer, small_bit_buffer, small_cell_buffer,
-    small_place_buffer,
+    MOST_BITS, MOST_NUMBERS, MOST_PLACES, SMALL_BITS, SMALL_CELLS, SMALL_NUMBERS, SMALL_PLACES,
+    buffer,
 };
-use block::{Block, HMMIX};
 use blockplaces::tables::block_places;
 use cellparts::parts::{map_axes_parts, map_parts};
 use dispersal::parts::unpack_parts;
@@ -80,7 +80,7 @@ fn code_streams(
     ensures bits_left { BitsLeft k bits.now labels.old coded.old labels.new coded.new }
 {
     let at = bits_before(k, false, k.count);
-    if k.constellation == HMMIX {
+    if k.one_axis() {
         code_axes(k, places, &bits[0..at], &bits[at..], labels, coded, out);
         return;
     }
@@ -92,9 +92,9 @@ pub fn code_bits(k: Block, bits: &[u8], out: &mut [i16])
     requires { CodesBits k bits.now out.old }
     ensures { out.new ≡ cells_by k bits.now }
 {
-    let mut places = place_buffer();
-    let mut labels = cell_buffer();
-    let mut coded = cell_buffer();
+    let mut places: [u16; MOST_PLACES] = buffer(0);
+    let mut labels: [u8; MOST_NUMBERS] = buffer(0);
+    let mut coded: [u8; MOST_NUMBERS] = buffer(0);
     block_places(k, &mut places);
     code_streams(k, &places, bits, &mut labels, &mut coded, out);
 }
@@ -137,8 +137,7 @@ fn code_each(
 {
     let m = (bit_count(k) + 7) / 8;
     let n = 2 * k.cells;
-    let mut i = 0;
-    while i < many {
+    for i in 0..many {
         code_lent(
             k,
             places,
@@ -148,19 +147,23 @@ fn code_each(
             coded,
             &mut out[n * i..n * i + n],
         );
-        i += 1;
     }
 }
 
-// The same of small blocks, with places and working buffers of its own.
-fn code_small(k: Block, many: usize, bytes: &[u8], out: &mut [i16])
-    requires { BlocksLent k many bytes.now out.old × (k.cells ≤ 846) }
+// The same, with a table of places and working buffers of these sizes, which serve all of them.
+fn code_within<const PLACES: usize, const BITS: usize, const NUMBERS: usize>(
+    k: Block,
+    many: usize,
+    bytes: &[u8],
+    out: &mut [i16],
+)
+    requires { BlocksLent k many bytes.now out.old × Enough k PLACES BITS NUMBERS }
     ensures { out.new ≡ cells_of_each k many bytes.now }
 {
-    let mut places = small_place_buffer();
-    let mut bits = small_bit_buffer();
-    let mut labels = small_cell_buffer();
-    let mut coded = small_cell_buffer();
+    let mut places: [u16; PLACES] = buffer(0);
+    let mut bits: [u8; BITS] = buffer(0);
+    let mut labels: [u8; NUMBERS] = buffer(0);
+    let mut coded: [u8; NUMBERS] = buffer(0);
     block_places(k, &mut places);
     code_each(
         k,
@@ -174,30 +177,16 @@ fn code_small(k: Block, many: usize, bytes: &[u8], out: &mut [i16])
     );
 }
 
-// The packed bytes of so many equal blocks to their cells: one table of places and one set of working buffers serve all of them.
+// The packed bytes of so many equal blocks to their cells.
 pub fn code_blocks(k: Block, many: usize, bytes: &[u8], out: &mut [i16])
     requires { BlocksLent k many bytes.now out.old }
     ensures { out.new ≡ cells_of_each k many bytes.now }
 {
     if k.cells <= SMALL_CELLS {
-        code_small(k, many, bytes, out);
+        code_within::<SMALL_PLACES, SMALL_BITS, SMALL_NUMBERS>(k, many, bytes, out);
         return;
     }
-    let mut places = place_buffer();
-    let mut bits = bit_buffer();
-    let mut labels = cell_buffer();
-    let mut coded = cell_buffer();
-    block_places(k, &mut places);
-    code_each(
-        k,
-        many,
-        &places,
-        bytes,
-        &mut bits,
-        &mut labels,
-        &mut coded,
-        out,
-    );
+    code_within::<MOST_PLACES, MOST_BITS, MOST_NUMBERS>(k, many, bytes, out);
 }
 
 // The packed bytes of a block to its cells.

@@ -11,7 +11,8 @@ use lib.Pow.{pow_mono}
 use Rattle.lists.proofs.Counting.{below_or}
 use Rattle.block.specs.declared.Level.{Level}
 use Rattle.block.specs.declared.Block.{Block}
-use Rattle.block.specs.Levels.{streams}
+use Rattle.block.specs.declared.Constellation.{Constellation}
+use Rattle.block.specs.declared.Constellation.TheVariants.{Qam4, Qam16, Sm64, HmSym, HmMix}
 use Rattle.block.specs.Mapping.{constellation}
 use Rattle.block.specs.Block.{levels_of, points_of, one_axis}
 use Rattle.block.specs.Fits.{Labels, LevelFits, LevelsFit, none, more, Alike, BlockFits}
@@ -25,16 +26,15 @@ fits_at (more F R) z zero h = F
 fits_at (more F R) z (suc l) h = fits_at R z l (omega arith)
 
 -- a constellation has at most three level bits
-levels_low : (c : ℕ) → level_count c ≤ 3
+levels_low : (c : Constellation) → level_count c ≤ 3
 unfolding level_count
-levels_low zero = omega arith
-levels_low (suc zero) = omega arith
-levels_low (suc (suc zero)) = omega arith
-levels_low (suc (suc (suc zero))) = omega arith
-levels_low (suc (suc (suc (suc zero)))) = omega arith
-levels_low (suc (suc (suc (suc (suc c))))) = omega arith
+levels_low Qam4 = omega arith
+levels_low Qam16 = omega arith
+levels_low Sm64 = omega arith
+levels_low HmSym = omega arith
+levels_low HmMix = omega arith
 
-labels_low : (c m : ℕ) → Labels m (constellation c) → m ≤ 3
+labels_low : (c : Constellation) (m : ℕ) → Labels m (constellation c) → m ≤ 3
 labels_low c m L = go (below_or m 4)
   where
     go : (m < 4) ⊎ (4 ≤ m) → m ≤ 3

@@ -7,7 +7,7 @@ ghost use Rattle.block.specs.Reading.{size_a};
 ghost use Rattle.labels.specs.Clauses.{Ordered, LevelOrder};
 ghost use Rattle.blockplaces.specs.Clauses.{digit_at, BlockOrder, PartPlaces, LevelPlaces, BlockPlaces, part_over, level_over, block_over, shared};
 
-use block::{Block, HMMIX, Level};
+use block::{Block, Level};
 use component::code::coded_length;
 use interleaver::table::make_places;
 
@@ -43,7 +43,7 @@ fn level_bits(k: Block) -> usize
     requires { BlockFits k }
     ensures { result ≡ cond (one_axis k) k.cells (2 * k.cells) }
 {
-    if k.constellation == HMMIX {
+    if k.one_axis() {
         return k.cells;
     }
     2 * k.cells
@@ -53,7 +53,7 @@ fn level_bits(k: Block) -> usize
 pub fn sharing(k: Block) -> usize
     ensures { result ≡ shared k }
 {
-    if k.constellation == HMMIX {
+    if k.one_axis() {
         return 2;
     }
     1
@@ -63,7 +63,7 @@ pub fn sharing(k: Block) -> usize
 pub fn digit(k: Block, l: usize) -> usize
     ensures { result ≡ digit_at (one_axis k) l }
 {
-    if k.constellation == HMMIX {
+    if k.one_axis() {
         return l / 2;
     }
     l
@@ -79,9 +79,7 @@ pub fn block_places(k: Block, out: &mut [u16])
     let n = level_bits(k);
     let step = sharing(k);
     let count = k.count / step;
-    let mut i = 0;
-    while i < count {
+    for i in 0..count {
         level_places(levels[step * i], n, &mut out[i * n..i * n + n + 1]);
-        i += 1;
     }
 }

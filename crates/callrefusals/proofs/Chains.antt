@@ -11,14 +11,17 @@ use lib.Dec.{eqb, ltb}
 use Rattle.settings.specs.Lengths.{n_mux}
 use Rattle.cellbytes.specs.CellBytes.{numbers}
 use Rattle.pointtests.specs.PointTests.{points_pass, all_cells}
+use Rattle.block.specs.declared.Constellation.{Constellation}
 use Rattle.channels.specs.Msc.{msc_constellation}
 use Rattle.cellmemory.proofs.Points.{memory_points}
 use mathlib.Core.Logic.{◌⊎◌, inl, inr}
 use Rattle.lists.proofs.Counting.{below_or}
-use Rattle.settings.specs.declared.Sizes.{Sizes}
+use Rattle.refusal.specs.declared.Refusal.{Refusal}
+use Rattle.refusal.specs.Numbers.{number}
+use Rattle.refusal.proofs.Positive.{number_positive}
+use Rattle.settings.specs.declared.Settings.{Settings}
 use Rattle.settings.specs.Refusal.{first, refusal}
-use Rattle.settings.specs.Sizes.{depth, all_sizes, sizes_of}
-use Rattle.settings.proofs.Buffers.{sizes_accepts}
+use Rattle.settings.specs.Sizes.{SizesYield, depth, all_sizes}
 use Rattle.channels.specs.declared.Scheme.{Scheme}
 use Rattle.channels.specs.Scheme.{scheme_refusal}
 use Rattle.superframe.specs.declared.State.{State}
@@ -38,22 +41,6 @@ pub scheme_settings : (s : Scheme) → scheme_refusal s ≡ 0 → refusal s.sett
 unfolding scheme_refusal
 scheme_settings s h = (first-own (refusal s.settings) _ h).0
 
--- The number of settings and table, and 8 to 10 by the sizes of the settings.
-module _ (s : Scheme) (z : Sizes) (e : z ≡ sizes_of s.settings) (r : ℕ) (g : r ≡ scheme_refusal s) where
-  -- A number that is not 0 is given, whatever follows.
-  pub scheme-refused : (n m : ℕ) (nine ten : Bool) → (scheme_refusal s ≡ 0 → ⊥)
-      → length_refusal r z n nine ten ≡ first (ltb 0 (scheme_refusal s)) (scheme_refusal s) m
-  unfolding length_refusal
-  scheme-refused n m nine ten h = rw g (first-own_hold (scheme_refusal s) _ h ∙ sym (first-own_hold (scheme_refusal s) m h))
-
-  -- Otherwise the sizes are those of the settings.
-  pub scheme_allowed : (n : ℕ) (nine ten : Bool) → scheme_refusal s ≡ 0
-      → length_refusal r z n nine ten
-      ≡ first (ltb 0 (scheme_refusal s)) (scheme_refusal s)
-      (first (not (eqb n (memory_length s.settings))) 8 (first (not nine) 9 (first (not ten) 10 0)))
-  unfolding length_refusal all_sizes memory_length
-  scheme_allowed n nine ten h = rw (g, e, sizes_accepts s.settings (scheme_settings s h))
-
 -- 12 test by test: the position, the count and the cells.
 module _ (empties : Bool) (state : State) (memory : List ℕ) (d : ℕ) (e : d ≡ depth state.scheme.settings) where
   pub order_position : d ≤ state.position → false ≡ in_order empties state memory
@@ -65,7 +52,7 @@ module _ (empties : Bool) (state : State) (memory : List ℕ) (d : ℕ) (e : d �
   order_count h =
       rw (le-ltb state.count (depth state.scheme.settings) (omega arith)) (sym (and-false (ltb state.position (depth state.scheme.settings))))
 
-  pub order_cells : length memory ≡ memory_length state.scheme.settings → state.position < d → state.count < d → (k : ℕ) (b : Bool)
+  pub order_cells : length memory ≡ memory_length state.scheme.settings → state.position < d → state.count < d → (k : Constellation) (b : Bool)
       → k ≡ msc_constellation state.scheme.settings.msc → b ≡ points_pass (all_cells k empties) (numbers memory) → b ≡ in_order empties state memory
   unfolding in_order memory_length
   order_cells l p c k b f g =
@@ -128,31 +115,31 @@ module _ (s : Scheme) (memory : List ℕ) (nine ten : Bool) (n : ℕ) (g : n ≡
   unfolding refusal_then first
   then_goes_on m h = rw (then_scheme h, (then_passes h).0, (then_passes h).1, (then_passes h).2)
 
--- The number that the sizes give, by the definitions' own tests.
-module _ (s : Scheme) (z : Sizes) (e : z ≡ sizes_of s.settings) (r : ℕ) (g : r ≡ scheme_refusal s) (memory : List ℕ) where
-  pub refusal_is : (nine ten nine' ten' : Bool) → (scheme_refusal s ≡ 0 → nine ≡ nine') → (scheme_refusal s ≡ 0 → ten ≡ ten')
-      → length_refusal r z (length memory) nine ten ≡ refusal_then s memory nine' ten' 0
-  unfolding refusal_then
-  refusal_is nine ten nine' ten' p q = go (below_or 0 (scheme_refusal s))
-    where
-      go : (0 < scheme_refusal s) ⊎ (scheme_refusal s ≤ 0)
-          → length_refusal r z (length memory) nine ten
-          ≡ first (ltb 0 (scheme_refusal s)) (scheme_refusal s) (lengths_then (not (eqb (length memory) (memory_length s.settings))) (not nine') (not ten') 0)
-      go (inl h) = scheme-refused s z e r g (length memory) _ nine ten (omega arith)
-      go (inr h) = let k : scheme_refusal s ≡ 0 = omega arith in scheme_allowed s z e r g (length memory) nine ten k ∙ rw (p k, q k)
+-- 1 to 7 and 23 are given whatever follows; otherwise 8 to 10 by the sizes of the settings, and what follows them.
+pub then_refused : (s : Scheme) (memory : List ℕ) (nine ten : Bool) (m : ℕ) (r : Refusal) → number r ≡ scheme_refusal s → number r ≡ refusal_then s memory nine ten m
+unfolding refusal_then
+then_refused s memory nine ten m r e =
+    e ∙ sym (first-own_hold (scheme_refusal s) _ (λ k. absurd (omega (arith, number_positive r, e ∙ k))))
+
+pub then_lengths : (s : Scheme) (z : SizesYield) (memory : List ℕ) (nine ten : Bool) → 0 ≡ scheme_refusal s → z ≡ all_sizes s.settings
+    → length_refusal 0 z (length memory) nine ten ≡ refusal_then s memory nine ten 0
+unfolding refusal_then length_refusal first all_sizes memory_length
+then_lengths s z memory nine ten e f = rw (← e, f)
 
 -- Where neither 9 nor 10 can apply, 1 to 8 are those of Reset.
-pub reset_found : (s : Scheme) (memory : List ℕ) (z : Sizes) → z ≡ sizes_of s.settings → (n : ℕ) → n ≡ scheme_refusal s → (r : ℕ)
-    → r ≡ length_refusal n z (length memory) true true → r ≡ reset_refusal s memory
+pub reset_found : (s : Scheme) (memory : List ℕ) → refusal_then s memory true true 0 ≡ reset_refusal s memory
 unfolding reset_refusal refusal_then first
-reset_found s memory z e n f r g = g ∙ refusal_is s z e n f memory true true true true (λ h. refl) (λ h. refl)
+reset_found s memory = refl
+
+pub reset_refused : (s : Scheme) (memory : List ℕ) (r : Refusal) → number r ≡ scheme_refusal s → number r ≡ reset_refusal s memory
+reset_refused s memory r e = then_refused s memory true true 0 r e ∙ reset_found s memory
 
 -- Lengths right by the sizes are right by the settings.
-module _ (s : Scheme) (z : Sizes) (e : z ≡ sizes_of s.settings) where
-  pub bytes_are : (fac sdc msc : List ℕ) → scheme_refusal s ≡ 0 → bytes_long z (length fac) (length sdc) (length msc) ≡ byte_lengths s.settings fac sdc msc
+module _ (s : Settings) (z : SizesYield) (e : z ≡ all_sizes s) where
+  pub bytes_are : (fac sdc msc : List ℕ) → bytes_long z (length fac) (length sdc) (length msc) ≡ byte_lengths s fac sdc msc
   unfolding byte_lengths all_sizes
-  bytes_are fac sdc msc h = rw (e, sizes_accepts s.settings (scheme_settings s h))
+  bytes_are fac sdc msc = rw e
 
-  pub cells_are : (fac sdc msc : List ℤ) → scheme_refusal s ≡ 0 → cells_long z (length fac) (length sdc) (length msc) ≡ cell_lengths s.settings fac sdc msc
+  pub cells_are : (fac sdc msc : List ℤ) → cells_long z (length fac) (length sdc) (length msc) ≡ cell_lengths s fac sdc msc
   unfolding cell_lengths all_sizes
-  cells_are fac sdc msc h = rw (e, sizes_accepts s.settings (scheme_settings s h))
+  cells_are fac sdc msc = rw e

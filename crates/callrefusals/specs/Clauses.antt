@@ -1,22 +1,21 @@
 -- What the functions of this crate require and promise: nothing of 01 is stated here.
 use Rattle.std.specs.Prelude.{ℕ, ◌*◌, ◌≡◌, Bool, not, ◌&&◌, List, length, eqb, ltb}
-use Rattle.settings.specs.declared.Sizes.{Sizes}
 use Rattle.settings.specs.declared.Settings.{Settings}
 use Rattle.settings.specs.Refusal.{first, refusal}
-use Rattle.settings.specs.Sizes.{frame_bytes, sdc_bytes}
+use Rattle.settings.specs.Sizes.{SizesYield, frame_bytes, sdc_bytes}
 use Rattle.channels.specs.declared.Scheme.{Scheme}
 use Rattle.channels.specs.Scheme.{scheme_refusal}
 use Rattle.superframe.specs.Call.{fac_bytes, memory_length}
 
 -- Buffers of packed bytes, and of cells, of so many elements have their lengths.
-abbrev pub bytes_long : Sizes → ℕ → ℕ → ℕ → Bool
+abbrev pub bytes_long : SizesYield → ℕ → ℕ → ℕ → Bool
 bytes_long z fac sdc msc = eqb fac (3 * fac_bytes) && (eqb sdc z.sdcbytes && eqb msc z.mscbytes)
 
-abbrev pub cells_long : Sizes → ℕ → ℕ → ℕ → Bool
+abbrev pub cells_long : SizesYield → ℕ → ℕ → ℕ → Bool
 cells_long z fac sdc msc = eqb fac z.facnumbers && (eqb sdc z.sdcnumbers && eqb msc z.mscnumbers)
 
 -- The number of settings and table, and 8 to 10: a memory of so many bytes, and the tests of 9 and 10.
-unfoldable pub length_refusal : ℕ → Sizes → ℕ → Bool → Bool → ℕ
+unfoldable pub length_refusal : ℕ → SizesYield → ℕ → Bool → Bool → ℕ
 length_refusal r z bytes nine ten =
     first (ltb 0 r) r
     (first (not (eqb bytes z.memory)) 8 (first (not nine) 9 (first (not ten) 10 0)))

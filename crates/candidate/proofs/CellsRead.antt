@@ -26,7 +26,7 @@ use Rattle.packing.specs.Clauses.{Packs}
 use Rattle.candidate.specs.Clauses.{ReadsCandidate, labels_in, labels_at, LabelsLent, labels_over, LabelsMade, axis_taken, labels_taken, coded_taken, LevelsTaken, level_bits, PacksParts}
 use Rattle.block.proofs.Dispersal.{length-dispersed, length-dispersed_parts, bits-dispersed_parts}
 use Rattle.block.proofs.Mapping.{length-numbers}
-use Rattle.multilevel.proofs.Axes.{alike_low, twice}
+use Rattle.multilevel.proofs.Axes.{alike, twice}
 
 -- the streams of a pair of levels, one from each axis
 axis-streams : (labels : List ℕ) (i : ℕ)
@@ -49,8 +49,8 @@ module _ {k : Block} {a : ℕ} {cells : List ℤ} {labels : List ℕ} (L : Label
   cells_low = omega (arith, L.whole, L.room)
 
   module _ (one : one_axis k ≡ true) where
-    pub unmaps_axis : {out : List ℕ} → length out ≡ length cells / 2 → UnmapsAxis k.constellation a cells out
-    unmaps_axis e = record { known = L.fits.known; axis = rw one at L.axis; same = omega (arith, e, L.whole) }
+    pub unmaps_axis : {out : List ℕ} → length out ≡ length cells / 2 → UnmapsAxis a cells out
+    unmaps_axis e = record { axis = rw one at L.axis; same = omega (arith, e, L.whole) }
 
     pub axis-made : {part : List ℕ} → length part ≡ length (take (length cells / 2 - 0) labels) → part ≡ axis_labels a (labels_in k cells)
         → LabelsMade k a cells labels (length cells / 2) (part ++ drop (length cells / 2 - 0) labels)
@@ -59,7 +59,7 @@ module _ {k : Block} {a : ℕ} {cells : List ℤ} {labels : List ℕ} (L : Label
 
   module _ (one : one_axis k ≡ false) where
     pub unmaps : {out : List ℕ} → length out ≡ length cells → Unmaps k.constellation cells out
-    unmaps e = record { known = alike_low L.fits one; same = e }
+    unmaps e = record { one = alike L.fits one; same = e }
 
     pub both_made : {part : List ℕ} → length part ≡ length (take (length cells - 0) labels) → part ≡ labels_in k cells
         → LabelsMade k a cells labels (length cells) (part ++ drop (length cells - 0) labels)

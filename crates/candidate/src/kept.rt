@@ -2,7 +2,6 @@
 ghost use Rattle.std.specs.Prelude.{◌≡◌, cond, length, replicate};
 ghost use Rattle.lists.specs.Same.{same_numbers};
 
-use lists::bytes::clear;
 use lists::numbers::same;
 
 // The candidate's bytes stay if it gives the cells, and are cleared if not.
@@ -15,6 +14,6 @@ pub fn keep_same(given: &[i16], cells: &[i16], bytes: &mut [u8]) -> bool
     if same(given, cells) {
         return true;
     }
-    clear(bytes);
+    bytes.fill(0);
     false
 }

@@ -8,7 +8,7 @@ ghost use Rattle.blockplaces.specs.Clauses.{BlockOrder, shared};
 ghost use Rattle.multilevel.specs.Clauses.{LevelsRead};
 ghost use Rattle.candidate.specs.Clauses.{ReadsCandidate, labels_at, LabelsLent, labels_over, LabelsMade, axis_taken, LevelsTaken, level_bits, PacksParts, CandidateLeft};
 
-use block::{Block, HMMIX};
+use block::Block;
 use dispersal::bits::disperse;
 use mapping::points::{unmap_axis, unmap_cells};
 use multilevel::places::bit_count;
@@ -21,7 +21,7 @@ fn level_labels(k: Block, a: usize, cells: &[i16], labels: &mut [u8]) -> usize
     ensures { LabelsMade k a cells.now labels.old result labels.new }
 {
     let n = cells.len();
-    if k.constellation == HMMIX {
+    if k.one_axis() {
         let m = n / 2;
         unmap_axis(k.constellation, a, cells, &mut labels[0..m]);
         return m;
@@ -65,7 +65,7 @@ fn read_cells(
     ensures levels_taken { LevelsTaken k cells.now labels.old coded.old labels.new coded.new }
 {
     read_axis(k, 0, places, cells, labels, coded, bits);
-    if k.constellation != HMMIX {
+    if !k.one_axis() {
         return;
     }
     read_axis(k, 1, places, cells, labels, coded, bits);

@@ -19,7 +19,7 @@ pub byte_made : (re im : ℤ) (b : ℕ) → mag re < 2 ^ 15 → mag im < 2 ^ 15 
 byte_made re im b f g e = e ∙ ap₂ cell_byte (to_z-of_z {w = w16} (sfits_of {w = w16} {z = re} f)) (to_z-of_z {w = w16} (sfits_of {w = w16} {z = im} g))
 
 -- every byte of some numbers is there
-pub bytes_end : (cells : List ℤ) (d out : List ℕ) (i : ℕ) → length cells ≡ 2 * length d → i ≤ length d → length out ≤ i
+pub bytes_end : (cells : List ℤ) (d out : List ℕ) (i : ℕ) → length cells ≡ 2 * length d → i ≤ length d → length d ≤ i
     → Filled 0 (λ j. cell_byte (get_or cells (2 * j) (pos 0)) (get_or cells (2 * j + 1) (pos 0))) d out i → out ≡ bytes cells
 unfolding bytes
 bytes_end cells d out i e l m f =

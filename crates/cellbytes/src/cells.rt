@@ -18,6 +18,7 @@ fn low_bits(v: i16) -> u8
 }
 
 // The real number of a cell.
+#[tactic(auto, unfolding(crate::specs::CellBytes::real_of))]
 pub fn real(b: u8) -> i16
     ensures { result ≡ real_of b }
 {
@@ -25,6 +26,7 @@ pub fn real(b: u8) -> i16
 }
 
 // The imaginary number of a cell.
+#[tactic(auto, unfolding(crate::specs::CellBytes::imaginary_of))]
 pub fn imaginary(b: u8) -> i16
     ensures { result ≡ imaginary_of b }
 {
@@ -43,10 +45,8 @@ pub fn to_bytes(cells: &[i16], out: &mut [u8])
     requires { length cells.now ≡ 2 * length out.old }
     ensures { out.new ≡ bytes cells.now }
 {
-    let mut i = 0;
-    while i < out.len() {
+    for i in 0..out.len() {
         out[i] = cell_byte(cells[2 * i], cells[2 * i + 1]);
-        i += 1;
     }
 }
 
@@ -55,10 +55,8 @@ pub fn to_numbers(cells: &[u8], out: &mut [i16])
     requires { length out.old ≡ 2 * length cells.now }
     ensures { out.new ≡ numbers cells.now }
 {
-    let mut i = 0;
-    while i < cells.len() {
+    for i in 0..cells.len() {
         out[2 * i] = real(cells[i]);
         out[2 * i + 1] = imaginary(cells[i]);
-        i += 1;
     }
 }

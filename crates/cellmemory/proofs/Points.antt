@@ -17,6 +17,8 @@ use Rattle.lists.proofs.Tables.{table_ext}
 use Rattle.channels.specs.declared.Scheme.{Scheme}
 use Rattle.settings.specs.Lengths.{n_mux}
 use Rattle.settings.specs.Sizes.{depth}
+use Rattle.block.specs.declared.Constellation.{Constellation}
+use Rattle.block.specs.declared.Constellation.TheVariants.{Qam4}
 use Rattle.block.specs.Points.{is_empty, are_points}
 use Rattle.block.specs.Block.{points_of}
 use Rattle.pointtests.specs.declared.PointTest.{PointTest}
@@ -32,7 +34,7 @@ use Rattle.superframe.specs.Read.{row_cell, row_points}
 use Rattle.cellmemory.proofs.Ring.{delay_even}
 
 -- The test of a row at a count.
-abbrev pub row_test : ℕ → ℕ → ℕ → PointTest
+abbrev pub row_test : Constellation → ℕ → ℕ → PointTest
 row_test c D count = record { constellation = c; depth = D; count = count; blank = false }
 
 -- Not at most is above.
@@ -71,6 +73,6 @@ module _ (s : Scheme) where
   unfolding sdc_block points_of
   sdc_points cells e = points_only_lem (sdc_constellation s.settings.sdc) cells e
 
-  pub fac_points : (cells : List ℤ) → length cells % 2 ≡ 0 → points_pass (points_only 0) cells ≡ are_points (points_of (fac_block s)) cells
+  pub fac_points : (cells : List ℤ) → length cells % 2 ≡ 0 → points_pass (points_only Qam4) cells ≡ are_points (points_of (fac_block s)) cells
   unfolding fac_block points_of
-  fac_points cells e = points_only_lem 0 cells e
+  fac_points cells e = points_only_lem Qam4 cells e

@@ -10,9 +10,6 @@ pub fn write_fillers(out: &mut [i16])
     requires { length out.old ≤ 4 }
     ensures { out.new ≡ take (length out.old) filler_numbers }
 {
-    let mut k = 0;
-    while k < out.len() {
-        out[k] = FILLERS[k];
-        k += 1;
-    }
+    let n = out.len();
+    out.copy_from_slice(&FILLERS[..n]);
 }

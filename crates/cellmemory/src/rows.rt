@@ -81,12 +81,10 @@ fn gather_row(position: usize, places: &[u16], memory: &[u8], out: &mut [u8])
     let n = out.len();
     let last = memory.len() - n;
     let mut at = position * n;
-    let mut i = 0;
-    while i < n {
+    for i in 0..n {
         let p = places[i] as usize;
         out[i] = memory[at + p];
         at = slot_before(n, last, at);
-        i += 1;
     }
 }
 
@@ -124,12 +122,10 @@ pub fn take_row(state: State, places: &[u16], row: &[i16], memory: &mut [u8])
     let position = state.position as usize;
     let mut at = position * n;
     let mut delay = 0;
-    let mut i = 0;
-    while i < n {
+    for i in 0..n {
         let p = places[i] as usize;
         take_cell(delay, count, row, 2 * i, memory, at + p);
         at = slot_before(n, last, at);
         delay = next_modulo(depth, delay);
-        i += 1;
     }
 }

@@ -7,7 +7,8 @@ use lib.ListN.{length, take, drop}
 use lib.Seq.{length-take-le}
 use lib.IntN.{ℤ}
 use Rattle.lists.proofs.Tables.{length-table}
-use Rattle.block.specs.Mapping.{Constellation, constellation, weave}
+use Rattle.block.specs.declared.Constellation.{Constellation}
+use Rattle.block.specs.Mapping.{Labellings, constellation, weave}
 use Rattle.mapping.specs.Labels.{coordinates}
 use Rattle.block.proofs.Mapping.{length-weave}
 use Rattle.mapping.specs.Clauses.{Maps, MapsAxes}
@@ -16,12 +17,12 @@ use Rattle.lists.proofs.Parts.{from_start, to_end, length-start, length_end, len
 use Rattle.cellparts.proofs.Lists.{labels_take, labels_drop, coordinates-parts, weave-take, weave-drop}
 
 -- as many coordinates as labels
-pub length-coordinates : (k : Constellation) (labels : List ℕ) → length (coordinates k labels) ≡ length labels
+pub length-coordinates : (k : Labellings) (labels : List ℕ) → length (coordinates k labels) ≡ length labels
 unfolding coordinates
 length-coordinates k labels = length-table _ 0 (length labels)
 
 -- a buffer of as many coordinates as labels, written in two parts
-module _ (k : Constellation) (labels : List ℕ) (out p : List ℤ) (n : ℕ) (h : 2 * n ≤ length labels) (s : length out ≡ length labels)
+module _ (k : Labellings) (labels : List ℕ) (out p : List ℤ) (n : ℕ) (h : 2 * n ≤ length labels) (s : length out ≡ length labels)
     (e : p ≡ coordinates k (take (2 * n) labels)) where
   pub length-coded : length p ≡ 2 * n
   length-coded = rw e (length-coordinates k (take (2 * n) labels)) ∙ length-take-le (2 * n) labels h
@@ -33,13 +34,13 @@ module _ (k : Constellation) (labels : List ℕ) (out p : List ℤ) (n : ℕ) (h
   coordinates-written q f =
       both_written out p (2 * n) (rw s h) length-coded q ∙ ap₂ ◌++◌ e f ∙ coordinates-parts k labels n h
 
-module _ {c n1 : ℕ} {labels : List ℕ} {out : List ℤ} (M : MapsParts c n1 labels out) where
+module _ {c : Constellation} {n1 : ℕ} {labels : List ℕ} {out : List ℤ} (M : MapsParts c n1 labels out) where
   -- part A can be mapped
   pub maps_first : Maps c (take (2 * n1 - 0) labels) (take (2 * n1 - 0) out)
   maps_first =
       let e : length (take (2 * n1 - 0) labels) ≡ 2 * n1 = length-start (2 * n1) labels M.part in
       record {
-        known = M.known;
+        one = M.one;
         same = length-start (2 * n1) out (omega (arith, M.part, M.same)) ∙ sym e;
         low = labels_take (2 * n1 - 0) M.low;
       }
@@ -57,7 +58,7 @@ module _ {c n1 : ℕ} {labels : List ℕ} {out : List ℤ} (M : MapsParts c n1 l
     maps_second =
         let f : length (take (length labels - 2 * n1) (drop (2 * n1) labels)) ≡ length labels - 2 * n1 = length_end (2 * n1) labels in
         record {
-          known = M.known;
+          one = M.one;
           same = length_second out p (2 * n1) (omega (arith, M.part, M.same)) length-cells ∙ rw M.same (sym f);
           low = labels_take (length labels - 2 * n1) (labels_drop (2 * n1) M.low);
         }
@@ -70,7 +71,7 @@ module _ {c n1 : ℕ} {labels : List ℕ} {out : List ℤ} (M : MapsParts c n1 l
     mapped-parts {q} f =
         coordinates-written (constellation c) labels out p n1 M.part M.same first-cells q (rw (to_end (2 * n1) labels) at f)
 
-module _ {c n1 : ℕ} {re im : List ℕ} {out : List ℤ} (M : MapsAxesParts c n1 re im out) where
+module _ {n1 : ℕ} {re im : List ℕ} {out : List ℤ} (M : MapsAxesParts n1 re im out) where
   all : length out ≡ length (weave re im)
   all = M.same ∙ sym (length-weave re im)
 
@@ -78,18 +79,17 @@ module _ {c n1 : ℕ} {re im : List ℕ} {out : List ℤ} (M : MapsAxesParts c n
   within = omega (arith, length-weave re im, M.part)
 
   -- part A can be mapped
-  pub maps_axes-first : MapsAxes c (take (n1 - 0) re) (take (n1 - 0) im) (take (2 * n1 - 0) out)
+  pub maps_axes-first : MapsAxes (take (n1 - 0) re) (take (n1 - 0) im) (take (2 * n1 - 0) out)
   maps_axes-first =
       let e : length (take (n1 - 0) re) ≡ n1 = length-start n1 re M.part in
       record {
-        known = M.known;
         same = length-start (2 * n1) out (omega (arith, M.part, M.same)) ∙ rw e;
         both = length-start n1 im (omega (arith, M.part, M.both)) ∙ sym e;
         low_real = labels_take (n1 - 0) M.low_real;
         low_imaginary = labels_take (n1 - 0) M.low_imaginary;
       }
 
-  module _ {p : List ℤ} (e : p ≡ coordinates (constellation c) (weave (take (n1 - 0) re) (take (n1 - 0) im))) where
+  module _ (c : Constellation) {p : List ℤ} (e : p ≡ coordinates (constellation c) (weave (take (n1 - 0) re) (take (n1 - 0) im))) where
     first-axes : p ≡ coordinates (constellation c) (take (2 * n1) (weave re im))
     first-axes = rw (from_start n1, weave-take re im n1 M.part) at e
 
@@ -97,12 +97,11 @@ module _ {c n1 : ℕ} {re im : List ℕ} {out : List ℤ} (M : MapsAxesParts c n
     length-axes = length-coded (constellation c) (weave re im) out p n1 within all first-axes
 
     -- and so can part B
-    pub maps_axes_second : MapsAxes c (take (length re - n1) (drop n1 re)) (take (length im - n1) (drop n1 im))
+    pub maps_axes_second : MapsAxes (take (length re - n1) (drop n1 re)) (take (length im - n1) (drop n1 im))
         (take (length (p ++ drop (2 * n1 - 0) out) - 2 * n1) (drop (2 * n1) (p ++ drop (2 * n1 - 0) out)))
     maps_axes_second =
         let f : length (take (length re - n1) (drop n1 re)) ≡ length re - n1 = length_end n1 re in
         record {
-          known = M.known;
           same = length_second out p (2 * n1) (rw all within) length-axes ∙ rw f (omega (arith, M.same));
           both = length_end n1 im ∙ rw M.both (sym f);
           low_real = labels_take (length re - n1) (labels_drop n1 M.low_real);

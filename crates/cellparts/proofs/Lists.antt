@@ -12,7 +12,7 @@ use lib.Dec.{eqb}
 use Rattle.lists.specs.Lists.{table}
 use Rattle.lists.proofs.Counting.{below_or}
 use Rattle.lists.proofs.Tables.{table_ext, table_from, table-parts, table-take, table-drop}
-use Rattle.block.specs.Mapping.{Constellation, axis, weave}
+use Rattle.block.specs.Mapping.{Labellings, axis, weave}
 use Rattle.mapping.specs.Labels.{coordinates}
 use Rattle.mapping.specs.Clauses.{ThreeBits}
 
@@ -28,7 +28,7 @@ pub labels_drop : {l : List ℕ} (n : ℕ) → ThreeBits l → ThreeBits (drop n
 labels_drop {l} n N = record { low = λ k. rw (get_or-drop n l k 0) (N.low (n + k)) }
 
 -- the coordinates of whole cells, and those of the cells after them
-pub coordinates-parts : (k : Constellation) (labels : List ℕ) (n : ℕ) → 2 * n ≤ length labels
+pub coordinates-parts : (k : Labellings) (labels : List ℕ) (n : ℕ) → 2 * n ≤ length labels
     → coordinates k (take (2 * n) labels) ++ coordinates k (drop (2 * n) labels) ≡ coordinates k labels
 unfolding coordinates axis
 coordinates-parts k labels n h =

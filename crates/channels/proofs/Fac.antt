@@ -14,6 +14,7 @@ use Rattle.component.proofs.Lengths.{fac-length}
 use Rattle.partlengths.specs.Rates.{fac_rate}
 use Rattle.partlengths.specs.Cells.{fac_cells}
 use Rattle.partlengths.specs.Formulas.{fac_bits}
+use Rattle.block.specs.declared.Constellation.TheVariants.{Qam4}
 use Rattle.block.specs.Levels.{total_a, total_b}
 use Rattle.block.specs.Block.{levels_of, points_of, one_axis, bit_count}
 use Rattle.block.specs.Reading.{size_a, size_b}
@@ -25,7 +26,7 @@ use Rattle.channels.specs.Fac.{fac_level, fac_block}
 
 levels_are : (s : Scheme) → levels_of (fac_block s) ≡ fac_level s ∷ []
 unfolding fac_block
-levels_are s = levels_from 0 (fac_level s ∷ []) 0 fac_cells 0
+levels_are s = levels_from 0 (fac_level s ∷ []) Qam4 fac_cells 0
 
 -- 72 bits
 pub fac-bits : (s : Scheme) → bit_count (fac_block s) ≡ fac_bits
@@ -63,11 +64,10 @@ fac-fits s T =
       levels = ap length (levels_are s);
       fit = rw (levels_are s) (more (fac_level_lem s T) none);
       pairs = λ o. absurd (true≢false (sym o));
-      labels = constellation_labels 0;
+      labels = constellation_labels Qam4;
       front = omega arith;
       few = lit≤ tt;
       room = length-six (fac_level s ∷ []);
-      known = lit< tt;
       part = omega arith;
       most = lit≤ tt;
       short = rw (fac-bits s) (lit≤ tt);

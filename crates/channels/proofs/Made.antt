@@ -24,6 +24,8 @@ use Rattle.partlengths.proofs.PartA.{bits_a_exact, share_exact}
 use Rattle.settings.specs.Lengths.{n_mux, n_sdc, n1, n2, l_vspp}
 use Rattle.block.specs.declared.Level.{Level}
 use Rattle.block.specs.declared.Block.{Block}
+use Rattle.block.specs.declared.Constellation.{Constellation}
+use Rattle.block.specs.declared.Constellation.TheVariants.{Qam4}
 use Rattle.block.specs.Block.{no_level, six}
 use Rattle.channels.specs.declared.Scheme.{Scheme}
 use Rattle.channels.specs.Scheme.{SchemeAccepted}
@@ -145,7 +147,7 @@ module _ (c : Scheme) where
   level_behind h (suc i) p = let e : suc i - 1 ≡ i = omega arith in rw (h, e)
 
 -- 4-QAM but in SDC mode 0
-pub four_else : (sdc : ℕ) → (sdc ≡ 0 → ⊥) → 0 ≡ sdc_constellation sdc
+pub four_else : (sdc : ℕ) → (sdc ≡ 0 → ⊥) → Qam4 ≡ sdc_constellation sdc
 unfolding sdc_constellation
 four_else zero h = absurd (h refl)
 four_else (suc zero) h = refl
@@ -174,7 +176,7 @@ sdc-count zero h = refl
 sdc-count (suc zero) h = refl
 sdc-count (suc (suc sdc)) h = absurd (omega arith)
 
-pub sdc-made : (c : Scheme) (n count k : ℕ) (ls : List Level) → c.settings.sdc ≤ 1 → n ≡ n_sdc c.settings → ls ≡ six (sdc_levels c) → count ≡ 2 - c.settings.sdc → k ≡ sdc_constellation c.settings.sdc
+pub sdc-made : (c : Scheme) (n count : ℕ) (k : Constellation) (ls : List Level) → c.settings.sdc ≤ 1 → n ≡ n_sdc c.settings → ls ≡ six (sdc_levels c) → count ≡ 2 - c.settings.sdc → k ≡ sdc_constellation c.settings.sdc
     → ◌≡◌ {A = Block} (record { vspp = 0; levels = ls; count = count; constellation = k; cells = n; parta = 0 }) (sdc_block c)
 unfolding sdc_block
 sdc-made c n count k ls h en el ec ek =
@@ -182,11 +184,11 @@ sdc-made c n count k ls h en el ec ek =
     λ i. record { vspp = 0; levels = el i; count = e i; constellation = ek i; cells = en i; parta = 0 }
 
 pub fac-made : (c : Scheme) (none : List Level) (p : Pattern) → none ≡ replicate 6 no_level → p ≡ pattern_from (pattern c.table 6)
-    → ◌≡◌ {A = Block} (record { vspp = 0; levels = set none 0 (record { bitsa = 0; bitsb = 72; patterna = p; patternb = p; tail = p; t = 21 }); count = 1; constellation = 0; cells = 65; parta = 0 }) (fac_block c)
+    → ◌≡◌ {A = Block} (record { vspp = 0; levels = set none 0 (record { bitsa = 0; bitsb = 72; patterna = p; patternb = p; tail = p; t = 21 }); count = 1; constellation = Qam4; cells = 65; parta = 0 }) (fac_block c)
 unfolding fac_block fac_level fac_rate fac_bits fac_cells six
 fac-made c none p e ep = rw (e, ep)
 
-pub msc-made : (c : Scheme) (v n n1' count k : ℕ) (ls : List Level) → n ≡ n_mux c.settings → v ≡ l_vspp c.settings → ls ≡ six (msc_levels c) → count ≡ length (msc_levels c)
+pub msc-made : (c : Scheme) (v n n1' count : ℕ) (k : Constellation) (ls : List Level) → n ≡ n_mux c.settings → v ≡ l_vspp c.settings → ls ≡ six (msc_levels c) → count ≡ length (msc_levels c)
     → k ≡ msc_constellation c.settings.msc → n1' ≡ n1 c.settings
     → ◌≡◌ {A = Block} (record { vspp = v; levels = ls; count = count; constellation = k; cells = n; parta = n1' }) (msc_block c)
 unfolding msc_block

@@ -21,11 +21,11 @@ use Rattle.partlengths.proofs.LookUps.{all, all_at}
 use Rattle.settings.specs.Lengths.{n_mux, n1, n2, l1, l2, l_vspp}
 use Rattle.settings.specs.Sizes.{frame_bits}
 use Rattle.lists.proofs.Rules.{both_left, both_right}
-use Rattle.partlengths.proofs.Parts.{levels, level_at_lem}
+use Rattle.partlengths.proofs.Parts.{level_at_lem}
 use Rattle.partlengths.proofs.PartA.{divide, common_divides, times_denominator}
 use Rattle.block.specs.declared.Level.{Level}
 use Rattle.block.specs.Levels.{total_a, total_b}
-use Rattle.block.specs.Mapping.{HMMIX}
+use Rattle.block.specs.Mapping.{is_mixed}
 use Rattle.block.specs.Block.{levels_of, points_of, one_axis, bit_count}
 use Rattle.block.proofs.Blocks.{levels_from, length-six}
 use Rattle.block.specs.Reading.{size_a, size_b}
@@ -61,10 +61,10 @@ rates_low msc level P i = ltb→lt _ 13 (all_at (λ r. ltb r 13) (rates msc leve
 
 -- the number of levels goes by the MSC mode alone, is that of its constellation, and at most six
 count-levels : (msc level : ℕ) → Protection msc level
-    → cond (hierarchical msc) 1 0 + length (rates msc level) ≡ cond (eqb (msc_constellation msc) HMMIX) (2 * level_count (msc_constellation msc)) (level_count (msc_constellation msc))
+    → cond (hierarchical msc) 1 0 + length (rates msc level) ≡ cond (is_mixed (msc_constellation msc)) (2 * level_count (msc_constellation msc)) (level_count (msc_constellation msc))
 unfolding rates table67 table68 table69 table71 top_level hierarchical msc_constellation level_count
 count-levels msc level P =
-    eqb→eq _ _ (level_at_lem (λ m l. eqb (cond (hierarchical m) 1 0 + length (rates m l)) (cond (eqb (msc_constellation m) HMMIX) (2 * level_count (msc_constellation m)) (level_count (msc_constellation m)))) tt msc level P)
+    eqb→eq _ _ (level_at_lem (λ m l. eqb (cond (hierarchical m) 1 0 + length (rates m l)) (cond (is_mixed (msc_constellation m)) (2 * level_count (msc_constellation m)) (level_count (msc_constellation m)))) tt msc level P)
 
 few_levels : (msc level : ℕ) → Protection msc level → cond (hierarchical msc) 1 0 + length (rates msc level) ≤ 6
 unfolding rates table67 table68 table69 table71 top_level hierarchical
@@ -72,18 +72,14 @@ few_levels msc level P =
     let h : cond (hierarchical msc) 1 0 + length (rates msc level) < 7 = ltb→lt _ 7 (level_at_lem (λ m l. ltb (cond (hierarchical m) 1 0 + length (rates m l)) 7) tt msc level P) in
     omega arith
 
--- HMmix is MSC mode 1, and every mode has a constellation
-mix_is : (msc : ℕ) → eqb (msc_constellation msc) HMMIX ≡ eqb msc 1
+-- HMmix is MSC mode 1
+mix_is : (msc : ℕ) → is_mixed (msc_constellation msc) ≡ eqb msc 1
 unfolding msc_constellation
 mix_is zero = refl
 mix_is (suc zero) = refl
 mix_is (suc (suc zero)) = refl
 mix_is (suc (suc (suc zero))) = refl
 mix_is (suc (suc (suc (suc msc)))) = sym (ne_eqb (suc (suc (suc (suc msc)))) 1 (λ e. omega arith))
-
-constellation_low : (msc : ℕ) → msc_constellation msc < 5
-unfolding msc_constellation
-constellation_low msc = ltb→lt _ 5 (all_at (λ c. ltb c 5) (2 ∷ 4 ∷ 3 ∷ 1 ∷ []) 0 tt tt msc)
 
 vspp_rate_low : (level : ℕ) → vspp_rate level < 13
 unfolding vspp_rate
@@ -228,7 +224,7 @@ module _ {c : Scheme} (served : SchemeAccepted c) where
   same_count : length (rates c.settings.msc c.settings.levela) ≡ length (rates c.settings.msc c.settings.levelb)
   same_count = omega (arith, count-levels c.settings.msc c.settings.levela A, count-levels c.settings.msc c.settings.levelb B)
 
-  levels-fit : LevelsFit (cond (eqb (msc_constellation c.settings.msc) HMMIX) (n_mux c.settings) (2 * n_mux c.settings)) (msc_levels c)
+  levels-fit : LevelsFit (cond (is_mixed (msc_constellation c.settings.msc)) (n_mux c.settings) (2 * n_mux c.settings)) (msc_levels c)
   unfolding msc_levels msc_vspp msc_protected
   levels-fit =
       let e : width c.settings.msc * n1 c.settings + width c.settings.msc * n2 c.settings ≡ width c.settings.msc * n_mux c.settings = rw (← mul-add, served.settings.cells) in
@@ -312,7 +308,6 @@ module _ {c : Scheme} (served : SchemeAccepted c) where
         front = front_low;
         few = few_of;
         room = length-six (msc_levels c);
-        known = constellation_low c.settings.msc;
         part = omega (arith, served.settings.n1_most);
         most = served.settings.ranges.mux_most;
         short = rw (msc-bits served) (omega (arith, served.settings.frame_most, served.settings.ranges.mux_most));

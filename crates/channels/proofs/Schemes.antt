@@ -1,9 +1,9 @@
 -- Laws of schemes: their refusal and what acceptance says. Assumes nothing.
-use Prim.Native.Nat.{ℕ, ◌<◌}
 use mathlib.Core.Path.{◌≡◌, refl}
+use Prim.Native.Nat.{ℕ}
 use mathlib.Core.Bool.{Bool, true, false, not}
 use native.Mathlib.Omega.{arith}
-use borrow.Author.Tests.{lt-ltb, le-ltb, ltb-true, ltb-false}
+use borrow.Author.Tests.{le-ltb, ltb-true, ltb-false}
 use lib.Dec.{ltb}
 use Rattle.patterns.specs.Loaded.{passes}
 use Rattle.patterns.proofs.Patterns.{standard-passes}
@@ -14,15 +14,7 @@ use Rattle.settings.proofs.Bounds.{accepted_of}
 use Rattle.channels.specs.declared.Scheme.{Scheme}
 use Rattle.channels.specs.Scheme.{scheme_refusal, standard_scheme, SchemeAccepted}
 
--- the number in three steps, as the code takes them
-pub refused-first : (s : Scheme) (n : ℕ) → n ≡ refusal s.settings → (n ≡ 0 → ⊥) → n ≡ scheme_refusal s
-unfolding scheme_refusal first
-refused-first s n e h = let l : 0 < refusal s.settings = omega arith in rw (lt-ltb 0 (refusal s.settings) l) e
-
-pub refused-table : (s : Scheme) (n : ℕ) → n ≡ refusal s.settings → n ≡ 0 → passes s.table ≡ false → 23 ≡ scheme_refusal s
-unfolding scheme_refusal first
-refused-table s n e z h = rw (le-ltb 0 (refusal s.settings) (omega arith), h)
-
+-- settings and a table that nothing refuses
 pub refused_none : (s : Scheme) (n : ℕ) → n ≡ refusal s.settings → n ≡ 0 → passes s.table ≡ true → 0 ≡ scheme_refusal s
 unfolding scheme_refusal first
 refused_none s n e z h = rw (le-ltb 0 (refusal s.settings) (omega arith), h)

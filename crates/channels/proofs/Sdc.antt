@@ -7,12 +7,12 @@ use mathlib.Core.List.{List, [], ◌∷◌, map}
 use native.Mathlib.Nat.{zero-add, mul-zero, zero-mul, zero-div, zero-mod}
 use native.Mathlib.Omega.{arith}
 use lib.ListN.{length, get_or}
-use lib.Dec.{eqb, lit<}
+use lib.Dec.{lit<}
 use Rattle.lists.specs.Lists.{total}
 use Rattle.partlengths.specs.Rates.{sdc_rates}
 use Rattle.partlengths.specs.Formulas.{bits_a, sdc_bits}
 use Rattle.settings.specs.Lengths.{n_sdc, l_sdc}
-use Rattle.block.specs.Mapping.{HMMIX}
+use Rattle.block.specs.Mapping.{is_mixed}
 use Rattle.block.specs.Block.{levels_of, points_of, one_axis, bit_count}
 use Rattle.block.specs.Fits.{BlockFits}
 use Rattle.block.proofs.Mapping.{level_count, constellation_labels}
@@ -66,16 +66,15 @@ length-levels c = protected_length c.table 2 0 (n_sdc c.settings) (sdc_rates c.s
 
 -- two levels in 16-QAM, one in 4-QAM
 record Counted (sdc : ℕ) : Type 0 where
-  levels : length (sdc_rates sdc) ≡ cond (eqb (sdc_constellation sdc) HMMIX) (2 * level_count (sdc_constellation sdc)) (level_count (sdc_constellation sdc))
+  levels : length (sdc_rates sdc) ≡ cond (is_mixed (sdc_constellation sdc)) (2 * level_count (sdc_constellation sdc)) (level_count (sdc_constellation sdc))
   few : length (sdc_rates sdc) ≤ 6
-  known : sdc_constellation sdc < 5
-  apart : eqb (sdc_constellation sdc) HMMIX ≡ false
-  both : (n : ℕ) → 2 * 0 + 2 * n ≡ cond (eqb (sdc_constellation sdc) HMMIX) n (2 * n)
+  apart : is_mixed (sdc_constellation sdc) ≡ false
+  both : (n : ℕ) → 2 * 0 + 2 * n ≡ cond (is_mixed (sdc_constellation sdc)) n (2 * n)
 
 counted : (sdc : ℕ) → sdc ≤ 1 → Counted sdc
 unfolding sdc_rates level_count sdc_constellation
-counted zero h = record { levels = refl; few = omega arith; known = lit< tt; apart = refl; both = λ n. omega arith }
-counted (suc zero) h = record { levels = refl; few = omega arith; known = lit< tt; apart = refl; both = λ n. omega arith }
+counted zero h = record { levels = refl; few = omega arith; apart = refl; both = λ n. omega arith }
+counted (suc zero) h = record { levels = refl; few = omega arith; apart = refl; both = λ n. omega arith }
 counted (suc (suc sdc)) h = absurd (omega arith)
 
 -- an SDC block's levels and constellation allow its bits to be read back
@@ -97,7 +96,6 @@ sdc-fits {c} A =
       front = omega arith;
       few = rw (length-levels c) C.few;
       room = length-six (sdc_levels c);
-      known = C.known;
       part = omega arith;
       most = omega (arith, A.settings.ranges.sdc_most);
       short = rw (sdc-bits c) (omega (arith, A.settings.sdc_bits_most));

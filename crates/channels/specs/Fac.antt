@@ -7,7 +7,7 @@ use Rattle.partlengths.specs.Formulas.{fac_bits}
 use Rattle.partlengths.specs.Rates.{fac_rate}
 use Rattle.block.specs.declared.Level.{Level}
 use Rattle.block.specs.declared.Block.{Block}
-use Rattle.block.specs.Mapping.{QAM4}
+use Rattle.block.specs.declared.Constellation.TheVariants.{Qam4}
 use Rattle.block.specs.Block.{block_of}
 use Rattle.channels.specs.declared.Scheme.{Scheme}
 
@@ -19,4 +19,4 @@ fac_level s =
 
 -- The FAC uses 4-QAM.
 unfoldable pub fac_block : Scheme → Block
-fac_block s = block_of 0 (fac_level s ∷ []) QAM4 fac_cells 0
+fac_block s = block_of 0 (fac_level s ∷ []) Qam4 fac_cells 0

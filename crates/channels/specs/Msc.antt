@@ -7,7 +7,8 @@ use Rattle.partlengths.specs.Formulas.{hierarchical, width, bits_b, remainder}
 use Rattle.settings.specs.Lengths.{n_mux, n1, n2, l_vspp}
 use Rattle.block.specs.declared.Level.{Level}
 use Rattle.block.specs.declared.Block.{Block}
-use Rattle.block.specs.Mapping.{QAM4, QAM16, SM64, HMSYM, HMMIX}
+use Rattle.block.specs.declared.Constellation.{Constellation}
+use Rattle.block.specs.declared.Constellation.TheVariants.{Qam4, Qam16, Sm64, HmSym, HmMix}
 use Rattle.block.specs.Block.{block_of}
 use Rattle.channels.specs.declared.Scheme.{Scheme}
 use Rattle.channels.specs.Protected.{protected_levels}
@@ -37,8 +38,8 @@ unfoldable pub msc_levels : Scheme → List Level
 msc_levels c = cond (hierarchical c.settings.msc) (msc_vspp c ∷ []) [] ++ msc_protected c
 
 -- The constellation by MSC mode.
-unfoldable pub msc_constellation : ℕ → ℕ
-msc_constellation msc = get_or (SM64 ∷ HMMIX ∷ HMSYM ∷ QAM16 ∷ []) msc QAM4
+unfoldable pub msc_constellation : ℕ → Constellation
+msc_constellation msc = get_or (Sm64 ∷ HmMix ∷ HmSym ∷ Qam16 ∷ []) msc Qam4
 
 -- A multiplex frame: the VSPP is dispersed by itself.
 unfoldable pub msc_block : Scheme → Block

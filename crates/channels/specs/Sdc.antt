@@ -4,7 +4,8 @@ use Rattle.partlengths.specs.Rates.{sdc_rates}
 use Rattle.settings.specs.Lengths.{n_sdc}
 use Rattle.block.specs.declared.Level.{Level}
 use Rattle.block.specs.declared.Block.{Block}
-use Rattle.block.specs.Mapping.{QAM4, QAM16}
+use Rattle.block.specs.declared.Constellation.{Constellation}
+use Rattle.block.specs.declared.Constellation.TheVariants.{Qam4, Qam16}
 use Rattle.block.specs.Block.{block_of}
 use Rattle.channels.specs.declared.Scheme.{Scheme}
 use Rattle.channels.specs.Protected.{protected_levels}
@@ -20,8 +21,8 @@ sdc_levels c =
     protected_levels c.table 2 0 (n_sdc s) (sdc_rates s.sdc) (sdc_rates s.sdc) (sdc_steps s.sdc)
 
 -- SDC mode 0 is 16-QAM, 1 is 4-QAM.
-unfoldable pub sdc_constellation : ℕ → ℕ
-sdc_constellation sdc = get_or (QAM16 ∷ QAM4 ∷ []) sdc QAM4
+unfoldable pub sdc_constellation : ℕ → Constellation
+sdc_constellation sdc = get_or (Qam16 ∷ Qam4 ∷ []) sdc Qam4
 
 unfoldable pub sdc_block : Scheme → Block
 sdc_block c = block_of 0 (sdc_levels c) (sdc_constellation c.settings.sdc) (n_sdc c.settings) 0

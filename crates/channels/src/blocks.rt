@@ -10,7 +10,7 @@ ghost use Rattle.channels.specs.Msc.{msc_vspp, msc_protected, msc_steps, msc_lev
 ghost use Rattle.channels.specs.Clauses.{level_by, Placed};
 
 use crate::Scheme;
-use block::{Block, HMMIX, HMSYM, Level, QAM4, QAM16, SM64};
+use block::{Block, Constellation, Level};
 use partlengths::tables::{R1_2, R1_3, R2_3, R3_5};
 use partlengths::{formulas, tables};
 use patterns::Pattern;
@@ -124,22 +124,24 @@ fn msc_levels(s: Scheme) -> [Level; 6]
     ensures { result ≡ six (msc_levels s) }
 {
     let mut levels = no_levels();
-    let mut i = 0;
-    while i < 6 {
+    for i in 0..6 {
         levels[i] = msc_level(s, i);
-        i += 1;
     }
     levels
 }
 
-const MSC_CONSTELLATIONS: [u8; 4] = [SM64, HMMIX, HMSYM, QAM16];
-
 // The constellation by MSC mode.
-pub fn msc_constellation(msc: u8) -> u8
+#[tactic(auto, unfolding(crate::specs::Msc::msc_constellation))]
+pub fn msc_constellation(msc: u8) -> Constellation
     requires { msc < 4 }
     ensures { result ≡ msc_constellation msc }
 {
-    MSC_CONSTELLATIONS[msc as usize]
+    match msc {
+        0 => Constellation::Sm64,
+        1 => Constellation::HmMix,
+        2 => Constellation::HmSym,
+        _ => Constellation::Qam16,
+    }
 }
 
 // How many levels a multiplex frame has.
@@ -186,13 +188,13 @@ fn sdc_levels(s: Scheme, n: usize) -> [Level; 6]
 }
 
 // The constellation by SDC mode.
-pub fn sdc_constellation(sdc: u8) -> u8
+pub fn sdc_constellation(sdc: u8) -> Constellation
     ensures { result ≡ sdc_constellation sdc }
 {
     if sdc == 0 {
-        return QAM16;
+        return Constellation::Qam16;
     }
-    QAM4
+    Constellation::Qam4
 }
 
 // An SDC block.
@@ -231,7 +233,7 @@ pub fn fac_block(s: Scheme) -> Block
         vspp: 0,
         levels,
         count: 1,
-        constellation: QAM4,
+        constellation: Constellation::Qam4,
         cells: tables::FAC_CELLS,
         parta: 0,
     }

@@ -1,34 +1,31 @@
 // Settings with a puncturing table: the refusals of both, and the standard's table. 02 S-11.
 ghost use Rattle.std.specs.Prelude.{◌≡◌, length};
 ghost use Rattle.channels.specs.Scheme.{scheme_of, scheme_refusal, standard_scheme};
+ghost use Rattle.refusal.specs.Numbers.{answer};
 
 use crate::Scheme;
-use lists::bytes::copy;
 use loadedtable::test::passes;
 use patterns::table::TABLE_SIZE;
-use settings::Settings;
-use settings::refusals::refusal;
+use refusal::Refusal;
+use settings::{Settings, refusals};
 
-// 1 to 7, then 23, which a lent table of another length has too.
-pub fn refusal_with(s: Settings, table: &[u8]) -> u8
-    ensures { result ≡ scheme_refusal (scheme_of s table.now) }
+// Whether settings with a lent table are refused: by 1 to 7, then by 23, which a table of another length has too.
+#[tactic(auto, using(refusal::proofs::Positive::number_positive), unfolding(crate::specs::Scheme::scheme_refusal, settings::specs::Refusal::first))]
+pub fn check_table(s: Settings, table: &[u8]) -> Result<(), Refusal>
+    ensures { answer result ≡ scheme_refusal (scheme_of s table.now) }
 {
-    let number = refusal(s);
-    if number != 0 {
-        return number;
-    }
+    refusals::check(s)?;
     if !passes(table) {
-        return 23;
+        return Err(Refusal::Table);
     }
-    0
+    Ok(())
 }
 
 // The same of a scheme.
-pub fn scheme_refusal(c: Scheme) -> u8
-    ensures { result ≡ scheme_refusal c }
+pub fn check_scheme(c: Scheme) -> Result<(), Refusal>
+    ensures { answer result ≡ scheme_refusal c }
 {
-    let table = c.table;
-    refusal_with(c.settings, &table)
+    check_table(c.settings, &c.table)
 }
 
 // Settings with a lent table.
@@ -37,7 +34,7 @@ pub fn scheme_of(s: Settings, table: &[u8]) -> Scheme
     ensures { result ≡ scheme_of s table.now }
 {
     let mut kept = [0u8; TABLE_SIZE];
-    copy(table, &mut kept);
+    kept.copy_from_slice(table);
     Scheme {
         settings: s,
         table: kept,
@@ -45,6 +42,7 @@ pub fn scheme_of(s: Settings, table: &[u8]) -> Scheme
 }
 
 // Settings with the standard's table.
+#[tactic(auto, unfolding(crate::specs::Scheme::standard_scheme))]
 pub fn standard_scheme(s: Settings) -> Scheme
     ensures { result ≡ standard_scheme s }
 {

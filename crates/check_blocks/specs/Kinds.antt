@@ -13,10 +13,14 @@ use Rattle.channels.specs.Msc.{msc_block}
 use Rattle.vectors.specs.Digest.{cells_taken}
 use Rattle.vectors.specs.Draws.{state, drawn_block}
 use Rattle.check_blocks.specs.declared.blocks.Drawn.{Drawn}
+use Rattle.check_blocks.specs.declared.blocks.Kind.{Kind}
+use Rattle.check_blocks.specs.declared.blocks.Kind.TheVariants.{Fac, Sdc, Frame}
 
--- Kind 0 is an FAC block, 1 an SDC block, any other number a multiplex frame.
-unfoldable pub block_of : ℕ → Scheme → Block
-block_of kind s = cond (kind == 0) (fac_block s) (cond (kind == 1) (sdc_block s) (msc_block s))
+-- The block of a kind: an FAC block, an SDC block or a multiplex frame.
+unfoldable pub block_of : Kind → Scheme → Block
+block_of Fac s = fac_block s
+block_of Sdc s = sdc_block s
+block_of Frame s = msc_block s
 
 -- The bytes of a block, drawn from a state.
 unfoldable pub bytes_drawn : Block → ℕ → List ℕ
@@ -27,5 +31,5 @@ unfoldable pub drawn_from : Block → ℕ → Drawn
 drawn_from k x = record { x = state x (bytes_for (bit_count k)); digest = cells_taken 0 (cells_from k (bytes_drawn k x)) }
 
 -- The puncturing table is the standard's. Nothing is drawn for settings that are refused.
-unfoldable pub drawn_of : ℕ → Settings → ℕ → Drawn
+unfoldable pub drawn_of : Kind → Settings → ℕ → Drawn
 drawn_of kind s x = cond (refusal s == 0) (drawn_from (block_of kind (standard_scheme s)) x) (record { x = x; digest = 0 })

@@ -17,12 +17,13 @@ use multilevel::places::bit_count;
 use settings::{Settings, refusals};
 use vectors::{digests, draws};
 
-// The kinds of blocks; any other number stands for a multiplex frame too.
-pub const FAC: u8 = 0;
-
-pub const SDC: u8 = 1;
-
-pub const FRAME: u8 = 2;
+// The kinds of blocks.
+#[derive(Clone, Copy, Debug, PartialEq, Eq)]
+pub enum Kind {
+    Fac,
+    Sdc,
+    Frame,
+}
 
 // The state of the draws after a block, and the digest of its cells.
 #[derive(Clone, Copy)]
@@ -32,28 +33,24 @@ pub struct Drawn {
 }
 
 // The block of a kind, with the standard's table.
-fn block_of(kind: u8, s: Settings) -> Block
+#[tactic(auto, unfolding(crate::specs::Kinds::block_of))]
+fn block_of(kind: Kind, s: Settings) -> Block
     requires { Accepted s }
     ensures { result ≡ block_of kind (standard_scheme s) }
 {
     let scheme = standard_scheme(s);
-    if kind == FAC {
-        return fac_block(scheme);
+    match kind {
+        Kind::Fac => fac_block(scheme),
+        Kind::Sdc => sdc_block(scheme),
+        Kind::Frame => msc_block(scheme),
     }
-    if kind == SDC {
-        return sdc_block(scheme);
-    }
-    msc_block(scheme)
 }
 
 // The digest of the cells, or 0 where the block did not come back.
 fn digest_of(bytes: &[u8], cells: &[i16], given: bool, back: &[u8]) -> u64
     ensures { given ≡ true → bytes.now ≡ back.now → result ≡ cells_taken 0 cells.now }
 {
-    if !given {
-        return 0;
-    }
-    if !check::same(bytes, back) {
+    if !given || bytes != back {
         return 0;
     }
     digests::of_cells(0, cells)
@@ -97,14 +94,17 @@ fn block_with(k: Block, x: u64, bytes: &mut [u8], back: &mut [u8], cells: &mut [
 }
 
 // A block of some settings; nothing is drawn for settings that are refused.
-pub fn block(kind: u8, s: Settings, x: u64) -> Drawn
+#[tactic(auto, using(refusal::proofs::Positive::number_positive), unfolding(crate::specs::Kinds::drawn_of))]
+pub fn block(kind: Kind, s: Settings, x: u64) -> Drawn
     ensures { result ≡ drawn_of kind s x }
 {
-    if refusals::refusal(s) != 0 {
-        return Drawn { x, digest: 0 };
+    match refusals::check(s) {
+        Err(_) => Drawn { x, digest: 0 },
+        Ok(()) => {
+            let mut bytes = byte_buffer();
+            let mut back = byte_buffer();
+            let mut cells = coordinate_buffer();
+            block_with(block_of(kind, s), x, &mut bytes, &mut back, &mut cells)
+        }
     }
-    let mut bytes = byte_buffer();
-    let mut back = byte_buffer();
-    let mut cells = coordinate_buffer();
-    block_with(block_of(kind, s), x, &mut bytes, &mut back, &mut cells)
 }

@@ -7,9 +7,8 @@ ghost use Rattle.check_nearest.specs.Lists.{Below, Lends};
 
 use nearest::search::search_with;
 use patterns::table::{pattern, standard_table, tail_pattern};
-use vectors::{digests, draws, text};
-
-const STDOUT_FILENO: i32 = 1;
+use vectors::text::print;
+use vectors::{digests, draws};
 
 // The state of the generator, and the digest so far.
 #[derive(Clone, Copy)]
@@ -23,20 +22,15 @@ fn reduce(values: &mut [u8], m: u8)
     requires { 0 < m }
     ensures { (length values.new ≡ length values.old) × Below m values.new }
 {
-    let mut i = 0;
-    while i < values.len() {
-        values[i] = values[i] % m;
-        i += 1;
+    for value in values.iter_mut() {
+        *value %= m;
     }
 }
 
 // The digest with all bits taken.
-fn of_bits(d: u64, bits: &[u8]) -> u64 {
-    let mut d = d;
-    let mut i = 0;
-    while i < bits.len() {
-        d = digests::taken(d, bits[i] as u64);
-        i += 1;
+fn of_bits(mut d: u64, bits: &[u8]) -> u64 {
+    for bit in bits {
+        d = digests::taken(d, u64::from(*bit));
     }
     d
 }
@@ -89,21 +83,19 @@ fn line(k: usize, n: usize)
         x: (1 + 9 * k + n) as u64,
         digest: 0,
     };
-    let mut m = 0;
-    while m < 36 {
-        at = search_once(k, m / 3, n, at);
-        m += 1;
+    for r in 0..12 {
+        for _ in 0..3 {
+            at = search_once(k, r, n, at);
+        }
     }
-    io::print_decimal(STDOUT_FILENO, k as u64);
-    text::number(n as u64);
-    text::number(at.digest);
-    text::end();
+    let digest = at.digest;
+    print(format_args!("{k} {n} {digest}\n"));
 }
 
 fn main() {
-    let mut m = 0;
-    while m < 117 {
-        line(m / 9, m % 9);
-        m += 1;
+    for k in 0..13 {
+        for n in 0..9 {
+            line(k, n);
+        }
     }
 }

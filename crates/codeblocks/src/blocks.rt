@@ -47,12 +47,10 @@ pub fn code_msc(state: State, msc: &[u8], memory: &mut [u8], cells: &mut [i16]) 
     let mut rowplaces = row_buffer();
     row_places(s, &mut rowplaces);
     let mut after = state;
-    let mut i = 0;
-    while i < 3 {
+    for i in 0..3 {
         let at = n * i;
         send_frame(after, &rowplaces, memory, &mut cells[at..at + n]);
         after = next_state(after);
-        i += 1;
     }
     write_fillers(&mut cells[3 * n..]);
     after

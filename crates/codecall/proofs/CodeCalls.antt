@@ -5,6 +5,11 @@ use mathlib.Core.List.{List, map}
 use Prim.Native.Nat.{ℕ}
 use native.Mathlib.Omega.{arith}
 use lib.IntN.{ℤ}
+use Rattle.std.proofs.Common.{Err}
+use Rattle.refusal.specs.declared.Refusal.{Refusal}
+use Rattle.refusal.specs.Numbers.{number}
+use Rattle.refusal.proofs.Positive.{number_positive}
+use Rattle.superframe.specs.Answers.{done}
 use Rattle.settings.specs.Refusal.{first}
 use Rattle.block.specs.Block.{cells_from}
 use Rattle.channels.specs.Fac.{fac_block}
@@ -27,8 +32,8 @@ module _ (state : State) (memory : List ℕ) (fac sdc msc : List ℕ) (faccells 
   unfolding code_refusal refusal_then
   code_is = refl
 
-  pub code_early : (n ≡ 0 → ⊥) → n ≡ code_refusal state memory (code_call fac sdc msc faccells sdccells msccells)
-  code_early h = then_stops _ _ _ _ n g _ h ∙ code_is
+  pub stopped_early : (n ≡ 0 → ⊥) → n ≡ code_refusal state memory (code_call fac sdc msc faccells sdccells msccells)
+  stopped_early h = then_stops _ _ _ _ n g _ h ∙ code_is
 
   pub code_packed : n ≡ 0 → Packed state.scheme.settings sdc msc
   code_packed h =
@@ -55,11 +60,18 @@ module _ (state : State) (memory : List ℕ) (fac sdc msc : List ℕ) (faccells 
     unfolding first
     code_none d t l u = sym (code_rest h ∙ rw (← k, t, ← l, u))
 
+pub code_early : (state : State) (memory : List ℕ) (fac sdc msc : List ℕ) (faccells sdccells msccells : List ℤ) (r : Refusal)
+    → number r ≡ refusal_then state.scheme memory (byte_lengths state.scheme.settings fac sdc msc) (cell_lengths state.scheme.settings faccells sdccells msccells) 0
+    → number r ≡ code_refusal state memory (code_call fac sdc msc faccells sdccells msccells)
+code_early state memory fac sdc msc faccells sdccells msccells r g =
+    stopped_early state memory fac sdc msc faccells sdccells msccells (number r) g (λ h. absurd (omega (arith, number_positive r, h)))
+
 -- A refusal leaves everything as it was.
-pub refused-call : (state : State) (memory : List ℕ) (c : CodeCall) (r : ℕ) → r ≡ code_refusal state memory c → (r ≡ 0 → ⊥)
-    → code_yield (record { refusal = r; state = state }) memory c.faccells c.sdccells c.msccells ≡ code_of state memory c
+pub refused_call : (state : State) (memory : List ℕ) (fac sdc msc : List ℕ) (faccells sdccells msccells : List ℤ) (r : Refusal)
+    → number r ≡ code_refusal state memory (code_call fac sdc msc faccells sdccells msccells)
+    → code_yield (done state (Err r)) memory faccells sdccells msccells ≡ code_of state memory (code_call fac sdc msc faccells sdccells msccells)
 unfolding code_refused
-refused-call state memory c r e h = sym (code_refuses state memory c r (sym e) (omega arith))
+refused_call state memory fac sdc msc faccells sdccells msccells r e = sym (code_refuses state memory _ (number r) (sym e) (number_positive r))
 
 -- Number 0 gives the facts of acceptance, and what acceptance yields is what the call yields.
 pub passed-call : (state : State) (memory : List ℕ) (c : CodeCall) (r : ℕ) → r ≡ code_refusal state memory c → r ≡ 0 → CodeFits state memory c

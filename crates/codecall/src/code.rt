@@ -1,20 +1,24 @@
 // The call Code. 01 "Buffers and state" and "Operations".
-ghost use Rattle.std.specs.Prelude.{◌≡◌};
+ghost use Rattle.std.specs.Prelude.{◌≡◌, Ok};
+ghost use Rattle.refusal.specs.Numbers.{answer};
+ghost use Rattle.superframe.specs.Answers.{done};
 ghost use Rattle.superframe.specs.Code.{byte_lengths, cell_lengths, code_refusal, code_accepted, code_of};
 ghost use Rattle.superframe.specs.Clauses.{CodeFits, code_call, code_yield};
 ghost use Rattle.callrefusals.specs.Clauses.{refusal_then};
 
 use blockcoder::code::code_block;
-use callrefusals::refusal;
+use callrefusals::refusals::{
+    accepted_sizes, bytes_long, cells_long, check_lengths, in_order, spares_zero,
+};
 use channels::Scheme;
 use channels::blocks::sdc_block;
-use channels::tables::scheme_refusal;
 use codeblocks::blocks::{code_fac, code_msc};
-use settings::answers;
-use superframe::{Done, State};
+use refusal::Refusal;
+use superframe::State;
 
 // 1 to 10.
-fn code_lengths(
+#[tactic(auto, using(callrefusals::proofs::Chains::then_refused))]
+fn check_buffers(
     s: Scheme,
     fac: &[u8],
     sdc: &[u8],
@@ -23,20 +27,20 @@ fn code_lengths(
     faccells: &[i16],
     sdccells: &[i16],
     msccells: &[i16],
-) -> u8
-    ensures { result ≡ refusal_then s memory.now
+) -> Result<(), Refusal>
+    ensures { answer result ≡ refusal_then s memory.now
         (byte_lengths s.settings fac.now sdc.now msc.now)
         (cell_lengths s.settings faccells.now sdccells.now msccells.now) 0 }
 {
-    let number = scheme_refusal(s);
-    let z = answers::sizes(s.settings);
-    let nine = refusal::bytes_long(z, fac.len(), sdc.len(), msc.len());
-    let ten = refusal::cells_long(z, faccells.len(), sdccells.len(), msccells.len());
-    refusal::length_refusal(number, z, memory.len(), nine, ten)
+    let z = accepted_sizes(s.settings, &s.table)?;
+    let nine = bytes_long(z, fac.len(), sdc.len(), msc.len());
+    let ten = cells_long(z, faccells.len(), sdccells.len(), msccells.len());
+    check_lengths(z, memory.len(), nine, ten)
 }
 
-// The lowest number that applies, 0 for acceptance.
-pub fn code_refusal(
+// The refusal of the lowest number that applies.
+#[tactic(auto, using(crate::proofs::CodeCalls::code_early))]
+pub fn check_code(
     state: State,
     fac: &[u8],
     sdc: &[u8],
@@ -45,25 +49,22 @@ pub fn code_refusal(
     faccells: &[i16],
     sdccells: &[i16],
     msccells: &[i16],
-) -> u8
-    ensures { result ≡ code_refusal state memory.now
+) -> Result<(), Refusal>
+    ensures { answer result ≡ code_refusal state memory.now
         (code_call fac.now sdc.now msc.now faccells.now sdccells.now msccells.now) }
 {
     let s = state.scheme;
-    let number = code_lengths(s, fac, sdc, msc, memory, faccells, sdccells, msccells);
-    if number != 0 {
-        return number;
+    check_buffers(s, fac, sdc, msc, memory, faccells, sdccells, msccells)?;
+    if !spares_zero(s.settings, sdc, msc) {
+        return Err(Refusal::SpareBit);
     }
-    if !refusal::spares_zero(s.settings, sdc, msc) {
-        return 11;
+    if !in_order(state, false, memory) {
+        return Err(Refusal::Order);
     }
-    if !refusal::in_order(state, false, memory) {
-        return 12;
-    }
-    0
+    Ok(())
 }
 
-// What an accepted call does.
+// What an accepted call does, and the state after it.
 pub fn code_accepted(
     state: State,
     fac: &[u8],
@@ -73,22 +74,19 @@ pub fn code_accepted(
     faccells: &mut [i16],
     sdccells: &mut [i16],
     msccells: &mut [i16],
-) -> Done
+) -> State
     requires { CodeFits state memory.old (code_call fac.now sdc.now msc.now faccells.old sdccells.old msccells.old) }
-    ensures { code_yield result memory.new faccells.new sdccells.new msccells.new
+    ensures { code_yield (done state (Ok result)) memory.new faccells.new sdccells.new msccells.new
         ≡ code_accepted state memory.old
         (code_call fac.now sdc.now msc.now faccells.old sdccells.old msccells.old) }
 {
     code_fac(state.scheme, fac, faccells);
     code_block(sdc_block(state.scheme), sdc, sdccells);
-    let after = code_msc(state, msc, memory, msccells);
-    Done {
-        refusal: 0,
-        state: after,
-    }
+    code_msc(state, msc, memory, msccells)
 }
 
-// Three FAC blocks, an SDC block and three multiplex frames to the cells of a super frame; a refusal leaves everything as it was.
+// Three FAC blocks, an SDC block and three multiplex frames to the cells of a super frame, and the state after it; a refusal leaves everything as it was.
+#[tactic(auto, using(crate::proofs::CodeCalls::refused_call))]
 pub fn code(
     state: State,
     fac: &[u8],
@@ -98,17 +96,12 @@ pub fn code(
     faccells: &mut [i16],
     sdccells: &mut [i16],
     msccells: &mut [i16],
-) -> Done
-    ensures { code_yield result memory.new faccells.new sdccells.new msccells.new
+) -> Result<State, Refusal>
+    ensures { code_yield (done state result) memory.new faccells.new sdccells.new msccells.new
         ≡ code_of state memory.old
         (code_call fac.now sdc.now msc.now faccells.old sdccells.old msccells.old) }
 {
-    let number = code_refusal(state, fac, sdc, msc, memory, faccells, sdccells, msccells);
-    if number != 0 {
-        return Done {
-            refusal: number,
-            state,
-        };
-    }
-    code_accepted(state, fac, sdc, msc, memory, faccells, sdccells, msccells)
+    check_code(state, fac, sdc, msc, memory, faccells, sdccells, msccells)?;
+    let after = code_accepted(state, fac, sdc, msc, memory, faccells, sdccells, msccells);
+    Ok(after)
 }

@@ -5,8 +5,7 @@ use mathlib.Core.List.{List}
 use native.Mathlib.Omega.{arith}
 use lib.ListN.{length, take, drop, replicate, length-replicate}
 use lib.IntN.{ℤ, pos}
-use Rattle.settings.specs.declared.Sizes.{Sizes}
-use Rattle.settings.specs.Sizes.{sizes_of}
+use Rattle.settings.specs.Sizes.{SizesYield, sizes_of}
 use Rattle.superframe.specs.declared.State.{State}
 use Rattle.superframe.specs.Code.{CodeCall, code_of}
 use Rattle.superframe.specs.Clauses.{code_call}
@@ -16,20 +15,20 @@ use Rattle.jobs.specs.SuperFrame.{JobYield, input_length, output_length, blocks_
 use Rattle.jobs.proofs.Rooms.{enough}
 use Rattle.jobs.proofs.Fronts.{front_blank, front_long, past}
 
-pub code_call_lem : (z : Sizes) (bytes : List ℕ) (fac sdc msc : List ℤ) → Enough z → fac ≡ replicate 390 (pos 0) → sdc ≡ replicate 1692 (pos 0) → msc ≡ replicate 36712 (pos 0)
+pub code_call_lem : (z : SizesYield) (bytes : List ℕ) (fac sdc msc : List ℤ) → Enough z → fac ≡ replicate 390 (pos 0) → sdc ≡ replicate 1692 (pos 0) → msc ≡ replicate 36712 (pos 0)
     → code_call (take 27 bytes) (take (27 + z.sdcbytes - 27) (drop 27 bytes)) (drop (27 + z.sdcbytes) bytes) fac (take (z.sdcnumbers - 0) sdc) (take (z.mscnumbers - 0) msc)
     ≡ code_lent z bytes
 unfolding code_lent
 code_call_lem z bytes fac sdc msc h ef es em =
     rw (past 27 z.sdcbytes, ef, front_blank (pos 0) z.sdcnumbers 1692 sdc es h.sdcnumbers, front_blank (pos 0) z.mscnumbers 36712 msc em h.mscnumbers)
 
-pub code_called : (state : State) (z : Sizes) (memory : List ℕ) (bytes out : List ℕ) (c : CodeCall) (y : JobYield) → z ≡ sizes_of state.scheme.settings → c ≡ code_lent z bytes
+pub code_called : (state : State) (z : SizesYield) (memory : List ℕ) (bytes out : List ℕ) (c : CodeCall) (y : JobYield) → z ≡ sizes_of state.scheme.settings → c ≡ code_lent z bytes
     → y ≡ code_written (code_of state memory c) out → y ≡ job_call Code state memory bytes out
 unfolding job_call
 code_called state z memory bytes out c y e f h = h ∙ ap (λ c. code_written (code_of state memory c) out) (f ∙ ap (λ z. code_lent z bytes) e)
 
 -- What the call requires of the buffers.
-pub code_room : (state : State) (z : Sizes) (bytes out : List ℕ) (fac sdc msc : List ℤ) → Lent Code state z bytes out
+pub code_room : (state : State) (z : SizesYield) (bytes out : List ℕ) (fac sdc msc : List ℤ) → Lent Code state z bytes out
     → fac ≡ replicate 390 (pos 0) → sdc ≡ replicate 1692 (pos 0) → msc ≡ replicate 36712 (pos 0)
     → CodeRoom (27 + z.sdcbytes) bytes fac (take (z.sdcnumbers - 0) sdc) (take (z.mscnumbers - 0) msc) out
 unfolding input_length output_length blocks_length cells_length

@@ -1,5 +1,6 @@
 // A super frame of the job `code`.
-ghost use Rattle.std.specs.Prelude.{◌≡◌, ◌-◌, ◌≤◌, length, take, drop};
+ghost use Rattle.std.specs.Prelude.{◌≡◌, ◌-◌, ◌≤◌, length, take, drop, IfOk, Ok};
+ghost use Rattle.settings.specs.Sizes.{sizes_yield};
 ghost use Rattle.console.specs.declared.Job.{Job};
 ghost use Rattle.superframe.specs.Code.{code_of};
 ghost use Rattle.superframe.specs.Clauses.{code_call};
@@ -7,7 +8,8 @@ ghost use Rattle.jobs.specs.Clauses.{CodeRoom, Lent};
 ghost use Rattle.jobs.specs.SuperFrame.{fac_length, job_yield, code_written, job_call};
 
 use codecall::code::code;
-use jobs::sizes::FAC_LENGTH;
+use jobs::buffers::{MOST_MSC_NUMBERS, MOST_SDC_NUMBERS};
+use jobs::sizes::{FAC_CELLS_LENGTH, FAC_LENGTH};
 use jobs::written::write_cells;
 use jobs::{Step, buffers};
 use settings::Sizes;
@@ -31,9 +33,9 @@ fn code_with(
         (code_call (take fac_length bytes.now) (take (at - fac_length) (drop fac_length bytes.now)) (drop at bytes.now)
         fac.old sdc.old msc.old))
         out.old }
-    ensures length_in_bounds { result.length ≤ length out.old }
+    ensures length_in_bounds { IfOk result.made (λ n. n ≤ length out.old) }
 {
-    let done = code(
+    let coded = code(
         state,
         &bytes[0..FAC_LENGTH],
         &bytes[FAC_LENGTH..at],
@@ -43,20 +45,22 @@ fn code_with(
         sdc,
         msc,
     );
-    let after = done.state;
-    write_cells(done.refusal, after, fac, sdc, msc, out)
+    match coded {
+        Ok(after) => write_cells(0, after, fac, sdc, msc, out),
+        Err(refusal) => write_cells(refusal.number(), state, fac, sdc, msc, out),
+    }
 }
 
 // The job `code` on buffers of the right lengths.
 pub fn code_bytes(state: State, z: Sizes, bytes: &[u8], memory: &mut [u8], out: &mut [u8]) -> Step
-    requires { Lent Job.Code state z bytes.now out.old }
+    requires { Lent Job.Code state (sizes_yield (Ok z)) bytes.now out.old }
     ensures out_after { job_yield result memory.new out.new
         ≡ job_call Job.Code state memory.old bytes.now out.old }
-    ensures length_in_bounds { result.length ≤ length out.old }
+    ensures length_in_bounds { IfOk result.made (λ n. n ≤ length out.old) }
 {
-    let mut fac = buffers::fac_cells();
-    let mut sdc = buffers::sdc_cells();
-    let mut msc = buffers::msc_cells();
+    let mut fac = buffers::numbers::<FAC_CELLS_LENGTH>();
+    let mut sdc = buffers::numbers::<MOST_SDC_NUMBERS>();
+    let mut msc = buffers::numbers::<MOST_MSC_NUMBERS>();
     let at = FAC_LENGTH + z.sdcbytes as usize;
     let n = z.sdcnumbers as usize;
     let m = z.mscnumbers as usize;

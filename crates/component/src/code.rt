@@ -21,6 +21,7 @@ pub struct Coder {
 }
 
 // The register with one more bit, the newest being the highest.
+#[tactic(auto, unfolding(crate::specs::Register::next))]
 pub fn next(register: u32, bit: u8) -> u32
     requires { (register < 128) × (bit < 2) }
     ensures { result ≡ next register bit }
@@ -29,10 +30,11 @@ pub fn next(register: u32, bit: u8) -> u32
 }
 
 // The count of ones of the masked register, modulo 2.
+#[tactic(auto, unfolding(crate::specs::Register::parity))]
 pub fn parity(register: u32, mask: u32) -> u8
     ensures { result ≡ parity mask register }
 {
-    (u32::count_ones(register & mask) % 2) as u8
+    ((register & mask).count_ones() % 2) as u8
 }
 
 // The column after column i of a pattern.
@@ -40,10 +42,7 @@ pub fn following(columns: usize, i: usize) -> usize
     requires { i < columns }
     ensures { result ≡ cond (ltb (i + 1) columns) (i + 1) 0 }
 {
-    if i + 1 < columns {
-        return i + 1;
-    }
-    0
+    if i + 1 < columns { i + 1 } else { 0 }
 }
 
 // Writes one parity, where the lowest digit of the column says that it is kept.
@@ -84,17 +83,16 @@ pub fn encode_columns(
     let mut register = register;
     let mut at = at;
     let mut i = 0;
-    let mut j = 0;
-    while j < bits.len() {
-        register = next(register, bits[j]);
+    for bit in bits {
+        register = next(register, *bit);
         at = keep_column(pattern[i], register, out, at);
         i = following(pattern.len(), i);
-        j += 1;
     }
     Coder { register, at }
 }
 
 // The register with bit k + 6 of some bits as its newest.
+#[tactic(auto, unfolding(crate::specs::Coding::register_at))]
 pub fn register_at(bits: &[u8], k: usize) -> u8
     requires { Bits bits.now × (k + 6 < length bits.now) }
     ensures { result ≡ register_at bits.now k }
@@ -116,7 +114,7 @@ fn newest(older: u32, first: u8) -> u8
 fn ones(column: u8) -> usize
     ensures { result ≡ ones column }
 {
-    u32::count_ones(column as u32) as usize
+    column.count_ones() as usize
 }
 
 // How many bits each column keeps.
@@ -124,10 +122,8 @@ pub fn widths_of(columns: [u8; 8]) -> [usize; 8]
     ensures { (result ≡ table (λ i. ones (get_or columns i 0)) 0 8) × (length columns ≡ 8) }
 {
     let mut widths = [0usize; 8];
-    let mut i = 0;
-    while i < 8 {
+    for i in 0..8 {
         widths[i] = ones(columns[i]);
-        i += 1;
     }
     widths
 }
@@ -148,15 +144,13 @@ pub fn decode_columns(
     let mut register = register;
     let mut at = at;
     let mut i = 0;
-    let mut j = 0;
-    while j < out.len() {
+    for place in out.iter_mut() {
         let bit = newest(older, coded[at]);
-        out[j] = bit;
+        *place = bit;
         older = register / 4;
         register = next(register, bit);
         at += widths[i];
         i = following(pattern.len(), i);
-        j += 1;
     }
     Coder { register, at }
 }
@@ -168,11 +162,9 @@ pub fn count_columns(pattern: &[u8], n: usize) -> usize
 {
     let mut sum = 0;
     let mut i = 0;
-    let mut left = n;
-    while 0 < left {
+    for k in 0..n {
         sum += ones(pattern[i]);
         i = following(pattern.len(), i);
-        left -= 1;
     }
     sum
 }
@@ -196,7 +188,5 @@ pub fn coded_length(pattern: Pattern, n: usize) -> usize
     requires { Held pattern × (coded_length (pattern_of pattern) 0 n ≤ 65536) }
     ensures { result ≡ coded_length (pattern_of pattern) 0 n }
 {
-    let columns = pattern.columns;
-    let width = pattern.width;
-    count_coded(&columns[0..width], n)
+    count_coded(pattern.columns(), n)
 }

@@ -1,9 +1,7 @@
 -- What the arguments of the program `desk` ask for.
-use Rattle.std.specs.Prelude.{ℕ, Bool, cond, ◌&&◌, List, ◌++◌, length, eqb, leb}
+use Rattle.std.specs.Prelude.{ℕ, Bool, cond, ◌&&◌, List, ◌++◌, length, eqb, leb, Option, Some, None, Result, Ok, Err}
 use Rattle.settings.specs.declared.Settings.{Settings}
 use Rattle.settings.specs.Refusal.{refusal}
-use Rattle.line.specs.declared.Parsed.{Parsed}
-use Rattle.line.specs.declared.Parsed.TheVariants.{Line, Bad}
 use Rattle.line.specs.Read.{parse_of}
 use Rattle.line.specs.Written.{line_end}
 use Rattle.console.specs.declared.Job.{Job}
@@ -11,13 +9,17 @@ use Rattle.console.specs.declared.Job.TheVariants.{Code, Read, ReadOn, Grid, Ung
 use Rattle.console.specs.declared.LineJob.TheVariants.{Nearest, FacBuild, FacRead}
 use Rattle.console.specs.declared.SettingsJob.{SettingsJob}
 use Rattle.console.specs.declared.Named.{Named}
+use Rattle.refusal.specs.declared.Refusal.{Refusal}
+use Rattle.refusal.specs.Numbers.{number}
 use Rattle.console.specs.declared.Start.{Start}
-use Rattle.console.specs.declared.Start.TheVariants.{Usage, Refused, Begin, Lines, Multiplex, Turn, Preview, Fit, Plan}
+use Rattle.console.specs.declared.NotStarted.{NotStarted}
+use Rattle.console.specs.declared.NotStarted.TheVariants.{Usage, Refused}
+use Rattle.console.specs.declared.Start.TheVariants.{Begin, Lines, Multiplex, Turn, Preview, Fit, Plan}
 use Rattle.console.specs.Names.{named}
 
 -- Settings are a word of twenty digits, as a line of the lengths program without its line feed.
-unfoldable pub settings_word : List ℕ → Parsed
-settings_word digits = cond (eqb (length digits) 20) (parse_of (digits ++ line_end)) Bad
+unfoldable pub settings_word : List ℕ → Option Settings
+settings_word digits = cond (eqb (length digits) 20) (parse_of (digits ++ line_end)) None
 
 -- A job with its settings.
 unfoldable pub started : SettingsJob → Settings → Start
@@ -29,13 +31,17 @@ started (SettingsJob.Turn job) s = Turn job s
 started SettingsJob.Preview s = Preview s
 started SettingsJob.Fit s = Fit s
 
--- The same, if nothing refuses the settings.
-unfoldable pub begun_with : SettingsJob → Settings → Start
-begun_with job s = cond (eqb (refusal s) 0) (started job s) (Refused (refusal s))
+-- Settings that are refused.
+abbrev pub not_started : Refusal → NotStarted
+not_started refusal = Refused (number refusal)
 
-unfoldable pub begun_by : SettingsJob → Parsed → Start
-begun_by job (Line s) = begun_with job s
-begun_by job Bad = Usage
+-- The same, if nothing refuses the settings.
+unfoldable pub begun_with : SettingsJob → Settings → Result Start NotStarted
+begun_with job s = cond (eqb (refusal s) 0) (Ok (started job s)) (Err (Refused (refusal s)))
+
+unfoldable pub begun_by : SettingsJob → Option Settings → Result Start NotStarted
+begun_by job (Some s) = begun_with job s
+begun_by job None = Err Usage
 
 -- The fewest arguments of a job, with the program's name, its own and the settings; four where it has a description, a hold file or a number of bytes.
 unfoldable pub fewest_of : SettingsJob → ℕ
@@ -67,19 +73,19 @@ most_of SettingsJob.Fit = 4
 unfoldable pub counted : ℕ → ℕ → ℕ → Bool
 counted count fewest most = leb fewest count && leb count most
 
-unfoldable pub begun : SettingsJob → ℕ → List ℕ → Start
-begun job count digits = cond (counted count (fewest_of job) (most_of job)) (begun_by job (settings_word digits)) Usage
+unfoldable pub begun : SettingsJob → ℕ → List ℕ → Result Start NotStarted
+begun job count digits = cond (counted count (fewest_of job) (most_of job)) (begun_by job (settings_word digits)) (Err Usage)
 
 -- A job without settings.
-unfoldable pub begun_plain : Start → ℕ → ℕ → ℕ → Start
-begun_plain start count fewest most = cond (counted count fewest most) start Usage
+unfoldable pub begun_plain : Start → ℕ → ℕ → ℕ → Result Start NotStarted
+begun_plain start count fewest most = cond (counted count fewest most) (Ok start) (Err Usage)
 
 -- The job by its name; anything else is answered with the usage. `nearest` has nothing but its name, `plan` a file and perhaps a super frame.
-unfoldable pub start_by : Named → ℕ → List ℕ → Start
-start_by (Named.Has job) count digits = begun job count digits
-start_by Named.Nearest count digits = begun_plain (Lines Nearest) count 2 2
-start_by Named.Plan count digits = begun_plain Plan count 3 4
-start_by Named.Unknown count digits = Usage
+unfoldable pub start_by : Option Named → ℕ → List ℕ → Result Start NotStarted
+start_by (Some (Named.Has job)) count digits = begun job count digits
+start_by (Some Named.Nearest) count digits = begun_plain (Lines Nearest) count 2 2
+start_by (Some Named.Plan) count digits = begun_plain Plan count 3 4
+start_by None count digits = Err Usage
 
-unfoldable pub start_of : ℕ → List ℕ → List ℕ → Start
+unfoldable pub start_of : ℕ → List ℕ → List ℕ → Result Start NotStarted
 start_of count word digits = start_by (named word) count digits

@@ -1,20 +1,20 @@
 // What the arguments ask for: a job, and settings in twenty hexadecimal digits.
 ghost use Rattle.std.specs.Prelude.{◌≡◌};
-ghost use Rattle.console.specs.Arguments.{settings_word, started, begun_with, fewest_of, most_of_frames, most_of, counted, begun, begun_plain, start_of};
+ghost use Rattle.console.specs.Arguments.{settings_word, started, not_started, begun_with, fewest_of, most_of_frames, most_of, counted, begun, begun_plain, start_of};
 
 use crate::bytes::put_bytes;
 use crate::names::named;
-use crate::{Job, LineJob, Named, SettingsJob, Start};
-use line::Parsed;
+use crate::{Job, LineJob, Named, NotStarted, SettingsJob, Start};
+use refusal::Refusal;
 use settings::Settings;
-use settings::refusals::refusal;
+use settings::refusals::check;
 
 // The settings of a word of twenty digits.
-fn settings_word(digits: &[u8]) -> Parsed
+fn settings_word(digits: &[u8]) -> Option<Settings>
     ensures { result ≡ settings_word digits.now }
 {
     if digits.len() != 20 {
-        return Parsed::Bad;
+        return None;
     }
     let mut line = [10u8; 21];
     put_bytes(digits, &mut line, 0);
@@ -22,6 +22,7 @@ fn settings_word(digits: &[u8]) -> Parsed
 }
 
 // A job with its settings.
+#[tactic(auto, unfolding(crate::specs::Arguments::started))]
 fn started(job: SettingsJob, s: Settings) -> Start
     ensures { result ≡ started job s }
 {
@@ -36,18 +37,26 @@ fn started(job: SettingsJob, s: Settings) -> Start
     }
 }
 
+// Settings that are refused.
+impl From<Refusal> for NotStarted {
+    ghost from_gives = { λ refusal not. not ≡ not_started refusal };
+
+    fn from(refusal: Refusal) -> NotStarted {
+        NotStarted::Refused(refusal.number())
+    }
+}
+
 // The same, if nothing refuses the settings.
-fn begin_with(job: SettingsJob, s: Settings) -> Start
+#[tactic(auto, using(refusal::proofs::Positive::number_positive), unfolding(crate::specs::Arguments::begun_with))]
+fn begin_with(job: SettingsJob, s: Settings) -> Result<Start, NotStarted>
     ensures { result ≡ begun_with job s }
 {
-    let number = refusal(s);
-    if number != 0 {
-        return Start::Refused(number);
-    }
-    started(job, s)
+    check(s)?;
+    Ok(started(job, s))
 }
 
 // The fewest arguments of a job, the program's name and the job's among them.
+#[tactic(auto, unfolding(crate::specs::Arguments::fewest_of))]
 fn fewest_of(job: SettingsJob) -> usize
     ensures { result ≡ fewest_of job }
 {
@@ -63,6 +72,7 @@ fn fewest_of(job: SettingsJob) -> usize
 }
 
 // The most arguments of a job on super frames.
+#[tactic(auto, unfolding(crate::specs::Arguments::most_of_frames))]
 fn most_of_frames(job: Job) -> usize
     ensures { result ≡ most_of_frames job }
 {
@@ -76,6 +86,7 @@ fn most_of_frames(job: Job) -> usize
 }
 
 // The most arguments of a job.
+#[tactic(auto, unfolding(crate::specs::Arguments::most_of))]
 fn most_of(job: SettingsJob) -> usize
     ensures { result ≡ most_of job }
 {
@@ -91,6 +102,7 @@ fn most_of(job: SettingsJob) -> usize
 }
 
 // Whether there are no fewer arguments and no more.
+#[tactic(auto, unfolding(crate::specs::Arguments::counted))]
 fn counted(count: usize, fewest: usize, most: usize) -> bool
     ensures { result ≡ counted count fewest most }
 {
@@ -98,38 +110,37 @@ fn counted(count: usize, fewest: usize, most: usize) -> bool
 }
 
 // A job with so many arguments, the program's name and the job's among them.
-fn begin(job: SettingsJob, count: usize, digits: &[u8]) -> Start
+#[tactic(auto, unfolding(crate::specs::Arguments::begun, crate::specs::Arguments::begun_by))]
+fn begin(job: SettingsJob, count: usize, digits: &[u8]) -> Result<Start, NotStarted>
     ensures { result ≡ begun job count digits.now }
 {
     if !counted(count, fewest_of(job), most_of(job)) {
-        return Start::Usage;
+        return Err(NotStarted::Usage);
     }
-    let parsed = settings_word(digits);
-    match parsed {
-        Parsed::Line(s) => begin_with(job, s),
-        Parsed::Bad => Start::Usage,
-    }
+    let s = settings_word(digits).ok_or(NotStarted::Usage)?;
+    begin_with(job, s)
 }
 
 // A job that has no settings, with so many arguments.
-fn begin_plain(start: Start, count: usize, fewest: usize, most: usize) -> Start
+#[tactic(auto, unfolding(crate::specs::Arguments::begun_plain))]
+fn begin_plain(start: Start, count: usize, fewest: usize, most: usize) -> Result<Start, NotStarted>
     ensures { result ≡ begun_plain start count fewest most }
 {
     if !counted(count, fewest, most) {
-        return Start::Usage;
+        return Err(NotStarted::Usage);
     }
-    start
+    Ok(start)
 }
 
 // What so many arguments ask for, of which the first word is the job's and the second the settings'.
-pub fn start(count: usize, word: &[u8], digits: &[u8]) -> Start
+#[tactic(auto, unfolding(crate::specs::Arguments::start_of, crate::specs::Arguments::start_by))]
+pub fn start(count: usize, word: &[u8], digits: &[u8]) -> Result<Start, NotStarted>
     ensures { result ≡ start_of count word.now digits.now }
 {
-    let job = named(word);
-    match job {
-        Named::Has(with) => begin(with, count, digits),
-        Named::Nearest => begin_plain(Start::Lines(LineJob::Nearest), count, 2, 2),
-        Named::Plan => begin_plain(Start::Plan, count, 3, 4),
-        Named::Unknown => Start::Usage,
+    match named(word) {
+        Some(Named::Has(job)) => begin(job, count, digits),
+        Some(Named::Nearest) => begin_plain(Start::Lines(LineJob::Nearest), count, 2, 2),
+        Some(Named::Plan) => begin_plain(Start::Plan, count, 3, 4),
+        None => Err(NotStarted::Usage),
     }
 }

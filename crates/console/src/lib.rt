@@ -57,15 +57,18 @@ pub enum Named {
     Has(SettingsJob),
     Nearest,
     Plan,
-    Unknown,
+}
+
+// Why the arguments start nothing: they are no job, or their settings are refused, by the number of the refusal.
+#[derive(Clone, Copy)]
+pub enum NotStarted {
+    Usage,
+    Refused(u8),
 }
 
 // What the arguments ask for.
 #[derive(Clone, Copy)]
 pub enum Start {
-    Usage,
-    // Settings that are refused.
-    Refused(u8),
     Begin(Job, Settings),
     Lines(LineJob),
     // A job whose third argument is a multiplex description.

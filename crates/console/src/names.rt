@@ -2,28 +2,25 @@
 ghost use Rattle.std.specs.Prelude.{◌≡◌, cond};
 ghost use Rattle.console.specs.Names.{same_bytes, frames_named, lines_named, multiplex_named, turn_named, asked_named, named};
 
-use crate::bytes::same_bytes;
 use crate::{Job, MuxJob, Named, SettingsJob, TurnJob};
 
 // What a word names, if it is the name, and otherwise what else it names.
-fn either(word: &[u8], name: &[u8], one: Named, other: Named) -> Named
-    ensures { result ≡ cond (same_bytes word.now name.now) one other }
+#[tactic(auto, using(crate::proofs::Words::same_is))]
+fn either(word: &[u8], name: &[u8], one: Named, other: Option<Named>) -> Option<Named>
+    ensures { result ≡ cond (same_bytes word.now name.now) (Some one) other }
 {
-    if same_bytes(word, name) {
-        return one;
-    }
-    other
+    if word == name { Some(one) } else { other }
 }
 
 // The same for a job that has settings.
-fn has(word: &[u8], name: &[u8], job: SettingsJob, other: Named) -> Named
-    ensures { result ≡ cond (same_bytes word.now name.now) (Named.Has job) other }
+fn has(word: &[u8], name: &[u8], job: SettingsJob, other: Option<Named>) -> Option<Named>
+    ensures { result ≡ cond (same_bytes word.now name.now) (Some (Named.Has job)) other }
 {
     either(word, name, Named::Has(job), other)
 }
 
 // The jobs on super frames.
-fn frames_named(word: &[u8], other: Named) -> Named
+fn frames_named(word: &[u8], other: Option<Named>) -> Option<Named>
     ensures { result ≡ frames_named word.now other }
 {
     let ungrid = has(word, b"ungrid", SettingsJob::Frames(Job::Ungrid), other);
@@ -34,7 +31,7 @@ fn frames_named(word: &[u8], other: Named) -> Named
 }
 
 // The jobs on lines.
-fn lines_named(word: &[u8], other: Named) -> Named
+fn lines_named(word: &[u8], other: Option<Named>) -> Option<Named>
     ensures { result ≡ lines_named word.now other }
 {
     let nearest = either(word, b"nearest", Named::Nearest, other);
@@ -43,7 +40,7 @@ fn lines_named(word: &[u8], other: Named) -> Named
 }
 
 // The jobs on multiplex frames.
-fn multiplex_named(word: &[u8], other: Named) -> Named
+fn multiplex_named(word: &[u8], other: Option<Named>) -> Option<Named>
     ensures { result ≡ multiplex_named word.now other }
 {
     let demux = has(word, b"demux", SettingsJob::Multiplex(MuxJob::Demux), other);
@@ -51,7 +48,7 @@ fn multiplex_named(word: &[u8], other: Named) -> Named
 }
 
 // The jobs on hold files.
-fn turn_named(word: &[u8], other: Named) -> Named
+fn turn_named(word: &[u8], other: Option<Named>) -> Option<Named>
     ensures { result ≡ turn_named word.now other }
 {
     let old = has(word, b"to-old", SettingsJob::Turn(TurnJob::ToOld), other);
@@ -59,7 +56,7 @@ fn turn_named(word: &[u8], other: Named) -> Named
 }
 
 // The jobs that ask one question.
-fn asked_named(word: &[u8], other: Named) -> Named
+fn asked_named(word: &[u8], other: Option<Named>) -> Option<Named>
     ensures { result ≡ asked_named word.now other }
 {
     let fit = has(word, b"fit", SettingsJob::Fit, other);
@@ -68,10 +65,10 @@ fn asked_named(word: &[u8], other: Named) -> Named
 }
 
 // The job that a word names.
-pub fn named(word: &[u8]) -> Named
+pub fn named(word: &[u8]) -> Option<Named>
     ensures { result ≡ named word.now }
 {
-    let asked = asked_named(word, Named::Unknown);
+    let asked = asked_named(word, None);
     let turn = turn_named(word, asked);
     let multiplex = multiplex_named(word, turn);
     let lines = lines_named(word, multiplex);

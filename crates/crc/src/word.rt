@@ -20,9 +20,7 @@ pub fn crc(word: u64) -> u8
     ensures { result ≡ digits (crc_bits (bits_of 64 word)) 0 8 }
 {
     let mut register: u8 = 255;
-    let mut n: u32 = 64;
-    while 0 < n {
-        n -= 1;
+    for n in (0u32..64).rev() {
         register = shift(register, ((word >> n) % 2) as u8);
     }
     register ^ 255

@@ -1,8 +1,8 @@
 -- The coordinates of the constellations' axes by their places: the decision by an axis's own list is the one by places. Assumes nothing.
-use Prim.Native.Nat.{ℕ, zero, suc, ◌+◌, ◌-◌, ◌*◌, ◌/◌, ◌%◌, ◌^◌, ◌≤◌, ◌<◌}
+use Prim.Native.Nat.{ℕ, ◌+◌, ◌-◌, ◌*◌, ◌/◌, ◌%◌, ◌^◌, ◌≤◌, ◌<◌}
 use mathlib.Core.Path.{◌≡◌, refl, sym}
 use mathlib.Core.Bool.{Bool, true, false, cond, ◌&&◌}
-use mathlib.Core.List.{List, [], ◌∷◌}
+use mathlib.Core.List.{List}
 use native.Mathlib.Omega.{arith}
 use lib.Dec.{T, eqb, ltb, leb, leb→le, ltb→lt}
 use lib.ListN.{length, get_or}
@@ -12,28 +12,25 @@ use Rattle.lists.proofs.Rules.{both_left, both_right, each, at}
 use Rattle.lists.specs.Lists.{table}
 use Rattle.lists.specs.Same.{same_number}
 use Rattle.lists.proofs.Same.{same_number_true}
-use Rattle.block.specs.Mapping.{coordinate, qam4, qam16, standard64, symmetric64, Constellation, constellation, axis}
+use Rattle.block.specs.declared.Constellation.{Constellation}
+use Rattle.block.specs.declared.Constellation.TheVariants.{Qam4, Qam16, Sm64, HmSym, HmMix}
+use Rattle.block.specs.Mapping.{coordinate, qam4, qam16, standard64, symmetric64, Labellings, constellation, axis}
 use Rattle.block.specs.Reading.{place_of}
 use Rattle.decision.specs.declared.Measured.{Measured}
 use Rattle.decision.specs.declared.MeasuredCell.{MeasuredCell}
 use Rattle.decision.specs.declared.MeasuredCell.TheVariants.{Pair}
 use Rattle.decision.specs.Distance.{decision, Among}
 use Rattle.decision.specs.Cells.{point_on, bit_on}
-use Rattle.decision.specs.Clauses.{coordinate_at, Placed}
+use Rattle.decision.specs.Clauses.{coordinate_at, first_place, Placed}
 use Rattle.decision.proofs.Nearness.{decision_is}
 
--- the place of a constellation's largest coordinate; that of the smallest is 7 less it
-unfoldable pub first_place : ℕ → ℕ
-first_place c = get_or (3 ∷ 2 ∷ 0 ∷ 0 ∷ 0 ∷ []) c 0
-
-pub first_low : (c : ℕ) → first_place c ≤ 3
+pub first_low : (c : Constellation) → first_place c ≤ 3
 unfolding first_place
-first_low zero = omega arith
-first_low (suc zero) = omega arith
-first_low (suc (suc zero)) = omega arith
-first_low (suc (suc (suc zero))) = omega arith
-first_low (suc (suc (suc (suc zero)))) = omega arith
-first_low (suc (suc (suc (suc (suc c))))) = omega arith
+first_low Qam4 = omega arith
+first_low Qam16 = omega arith
+first_low Sm64 = omega arith
+first_low HmSym = omega arith
+first_low HmMix = omega arith
 
 -- a coordinate at a place from the first to 7 less it
 pub record Inside (first : ℕ) (v : ℤ) : Type 0 where
@@ -112,7 +109,7 @@ unfolding element_test place_test coordinate_at symmetric64 standard64 table coo
 spans64s = spans 0 symmetric64 (omega arith) tt tt
 
 -- what holds of both axes holds of the axis of any number
-pub on_both : (P : List ℤ → Type 0) (k : Constellation) → P k.real → P k.imaginary → (m : ℕ) → P (axis k m)
+pub on_both : (P : List ℤ → Type 0) (k : Labellings) → P k.real → P k.imaginary → (m : ℕ) → P (axis k m)
 unfolding axis
 on_both P k p q m = go (eqb (m % 2) 0)
   where
@@ -121,17 +118,16 @@ on_both P k p q m = go (eqb (m % 2) 0)
     go false = q
 
 -- and what holds of the four labellings holds of the axes of the five constellations
-pub on_axes : (P : ℕ → List ℤ → Type 0) → P 3 qam4 → P 2 qam16 → P 0 standard64 → P 0 symmetric64 → (c : ℕ) → c < 5 → (m : ℕ) → P (first_place c) (axis (constellation c) m)
+pub on_axes : (P : ℕ → List ℤ → Type 0) → P 3 qam4 → P 2 qam16 → P 0 standard64 → P 0 symmetric64 → (c : Constellation) → (m : ℕ) → P (first_place c) (axis (constellation c) m)
 unfolding first_place constellation
-on_axes P a b d e zero h = on_both (P 3) (constellation 0) a a
-on_axes P a b d e (suc zero) h = on_both (P 2) (constellation 1) b b
-on_axes P a b d e (suc (suc zero)) h = on_both (P 0) (constellation 2) d d
-on_axes P a b d e (suc (suc (suc zero))) h = on_both (P 0) (constellation 3) e e
-on_axes P a b d e (suc (suc (suc (suc zero)))) h = on_both (P 0) (constellation 4) e d
-on_axes P a b d e (suc (suc (suc (suc (suc c))))) h = absurd (omega arith)
+on_axes P a b d e Qam4 = on_both (P 3) (constellation Qam4) a a
+on_axes P a b d e Qam16 = on_both (P 2) (constellation Qam16) b b
+on_axes P a b d e Sm64 = on_both (P 0) (constellation Sm64) d d
+on_axes P a b d e HmSym = on_both (P 0) (constellation HmSym) e e
+on_axes P a b d e HmMix = on_both (P 0) (constellation HmMix) e d
 
-axis_spans : (c : ℕ) → c < 5 → (m : ℕ) → Spans (first_place c) (axis (constellation c) m)
-axis_spans c h = on_axes (λ first l. Spans first l) spans4 spans16 spans64 spans64s c h
+axis_spans : (c : Constellation) (m : ℕ) → Spans (first_place c) (axis (constellation c) m)
+axis_spans c = on_axes (λ first l. Spans first l) spans4 spans16 spans64 spans64s c
 
 -- the place that the comparisons find is the decision's
 span_decided : {x : Float} {i : ℕ} (first : ℕ) (l : List ℤ) → Spans first l → Placed x first (7 - first) i → decision x l ≡ coordinate_at i
@@ -139,16 +135,16 @@ span_decided {x} {i} first l S P =
     decision_is x l (coordinate_at i) (S.has i P.low P.high)
     (λ n h. let q = S.inside n h in rw q.is (P.nearest q.index q.low q.high))
 
-pub place_decided : {x : Float} {i : ℕ} (c : ℕ) → c < 5 → Placed x (first_place c) (7 - first_place c) i → (m : ℕ) → coordinate_at i ≡ decision x (axis (constellation c) m)
-place_decided c h P m = sym (span_decided (first_place c) (axis (constellation c) m) (axis_spans c h m) P)
+pub place_decided : {x : Float} {i : ℕ} (c : Constellation) → Placed x (first_place c) (7 - first_place c) i → (m : ℕ) → coordinate_at i ≡ decision x (axis (constellation c) m)
+place_decided c P m = sym (span_decided (first_place c) (axis (constellation c) m) (axis_spans c m) P)
 
 -- the axis of a number is that of its remainder
-pub axis_side : (k : Constellation) (m : ℕ) → axis k (m % 2) ≡ axis k m
+pub axis_side : (k : Labellings) (m : ℕ) → axis k (m % 2) ≡ axis k m
 unfolding axis
 axis_side k m = let e : m % 2 % 2 ≡ m % 2 = omega arith in rw e
 
 -- a digit of the coordinate's number in the axis's labelling is the level bit
-pub bit_digit : (k : Constellation) (cell : MeasuredCell) (p : Measured) (m l n : ℕ) (v : ℤ) → cell ≡ Pair p → v ≡ point_on k cell m → n ≡ place_of (axis k (m % 2)) v
+pub bit_digit : (k : Labellings) (cell : MeasuredCell) (p : Measured) (m l n : ℕ) (v : ℤ) → cell ≡ Pair p → v ≡ point_on k cell m → n ≡ place_of (axis k (m % 2)) v
     → n / 2 ^ l % 2 ≡ bit_on k cell m l
 unfolding point_on bit_on
 bit_digit k cell p m l n v e f g = rw (g, axis_side k m, f, e)

@@ -1,9 +1,10 @@
--- A float is finite exactly if it lies between the infinities; the values of cells that aren't refused are. Assumes nothing.
+-- The library's test of a finite float, and the values of cells that aren't refused. Assumes nothing.
 use Prim.Native.Nat.{ℕ, ◌%◌}
 use mathlib.Core.Path.{◌≡◌, refl}
 use mathlib.Core.Bool.{Bool, true, false, cond, ◌&&◌}
 use lib.Dec.{eqb}
-use lib.Ieee.{Float, nan, inf, fin, lt}
+use lib.Ieee.{Float, nan, inf, fin}
+use Rattle.std.specs.Float.{float_is_finite}
 use borrow.Author.Tests.{not-false}
 use Rattle.lists.proofs.Bools.{never_both, and_left, and_right}
 use Rattle.decision.specs.declared.Measured.{Measured}
@@ -11,19 +12,11 @@ use Rattle.decision.specs.declared.MeasuredCell.TheVariants.{Pair}
 use Rattle.decision.specs.Cells.{is_finite, refused_cell, value_on}
 use Rattle.decision.specs.Clauses.{Finite}
 
-pub below_most : (x : Float) → lt x (inf false) ≡ true → lt (inf true) x ≡ is_finite x
-unfolding lt is_finite
-below_most nan e = absurd (never_both false e refl)
-below_most (inf true) e = refl
-below_most (inf false) e = absurd (never_both false e refl)
-below_most (fin s m d) e = refl
-
-pub not-below_most : (x : Float) → lt x (inf false) ≡ false → false ≡ is_finite x
-unfolding lt is_finite
-not-below_most nan e = refl
-not-below_most (inf true) e = absurd (never_both true refl e)
-not-below_most (inf false) e = refl
-not-below_most (fin s m d) e = absurd (never_both true refl e)
+pub finite_same : (x : Float) → float_is_finite x ≡ is_finite x
+unfolding is_finite float_is_finite
+finite_same nan = refl
+finite_same (inf s) = refl
+finite_same (fin s m d) = refl
 
 pub finite_is : (x : Float) → is_finite x ≡ true → Finite x
 unfolding is_finite

@@ -1,6 +1,8 @@
 -- What the functions of this crate require and promise: nothing of 02 is stated here.
 use Rattle.std.specs.Prelude.{ℕ, ◌+◌, ◌*◌, ◌≤◌, ◌<◌, Bool, true, false, List, [], ◌∷◌, ◌≡◌, ℤ, pos, negsuc, ◌-ℤ◌, Float}
 use Rattle.std.specs.Float.{fin}
+use Rattle.block.specs.declared.Constellation.{Constellation}
+use Rattle.block.specs.declared.Constellation.TheVariants.{Qam4, Qam16, Sm64, HmSym, HmMix}
 use Rattle.block.specs.Mapping.{constellation, axis}
 use Rattle.decision.specs.declared.MeasuredCell.{MeasuredCell}
 use Rattle.decision.specs.Distance.{distance, decision}
@@ -55,22 +57,27 @@ pub record Placed (x : Float) (first last i : ℕ) : Type 0 where
   pub high : i ≤ last
   pub nearest : (j : ℕ) → first ≤ j → j ≤ last → NotBefore x (coordinate_at j) (coordinate_at i)
 
--- decide_axis requires a constellation and a finite float.
-pub record Decides (c : ℕ) (x : Float) : Type 0 where
-  pub known : c < 5
+-- The place of a constellation's largest coordinate; that of the smallest is 7 less it.
+unfoldable pub first_place : Constellation → ℕ
+first_place Qam4 = 3
+first_place Qam16 = 2
+first_place Sm64 = 0
+first_place HmSym = 0
+first_place HmMix = 0
+
+-- decide_axis requires a finite float.
+pub record Decides (x : Float) : Type 0 where
   pub finite : is_finite x ≡ true
 
 -- It promises the decision on either axis.
-pub record Decided (c : ℕ) (x : Float) (r : ℤ) : Type 0 where
+pub record Decided (c : Constellation) (x : Float) (r : ℤ) : Type 0 where
   pub point : (m : ℕ) → r ≡ decision x (axis (constellation c) m)
 
--- point requires a constellation, and a cell that isn't refused.
-pub record OnCell (c : ℕ) (cell : MeasuredCell) : Type 0 where
-  pub known : c < 5
+-- point requires a cell that isn't refused.
+pub record OnCell (cell : MeasuredCell) : Type 0 where
   pub passed : refused_cell cell ≡ false
 
--- bit requires a constellation, a level, and the cell's point.
-pub record OnPoint (c : ℕ) (cell : MeasuredCell) (m : ℕ) (v : ℤ) (l : ℕ) : Type 0 where
-  pub known : c < 5
+-- bit requires a level, and the cell's point.
+pub record OnPoint (c : Constellation) (cell : MeasuredCell) (m : ℕ) (v : ℤ) (l : ℕ) : Type 0 where
   pub low : l < 3
   pub is : v ≡ point_on (constellation c) cell m

@@ -2,7 +2,9 @@
 ghost use Rattle.std.specs.Prelude.{◌≡◌, ◌<◌, get_or};
 ghost use Rattle.std.specs.Float.Ieee.{lt};
 ghost use Rattle.std.specs.Float.{nan};
-ghost use Rattle.decision.specs.Clauses.{middles, Chooses, Placed, Decides, Decided};
+ghost use Rattle.decision.specs.Clauses.{middles, first_place, Chooses, Placed, Decides, Decided};
+
+use block::Constellation;
 
 // The middle between coordinates 7 - 2i and 5 - 2i, at place i.
 const MIDDLES: [f32; 7] = [6.0, 4.0, 2.0, 0.0, -2.0, -4.0, -6.0];
@@ -20,26 +22,33 @@ fn place(x: f32, first: usize, last: usize) -> usize
     requires { Chooses x first last }
     ensures { Placed x first last result }
 {
-    let mut i = last;
-    while first < i {
-        if below(x, i - 1) {
-            return i;
+    for i in (first..last).rev() {
+        if below(x, i) {
+            return i + 1;
         }
-        i -= 1;
     }
-    i
+    first
 }
 
 const COORDINATES: [i16; 8] = [7, 5, 3, 1, -1, -3, -5, -7];
 
 // The place of each constellation's largest coordinate; that of the smallest is 7 less it.
-const FIRST: [usize; 5] = [3, 2, 0, 0, 0];
+#[tactic(auto, unfolding(crate::specs::Clauses::first_place))]
+fn first_place(c: Constellation) -> usize
+    ensures { result ≡ first_place c }
+{
+    match c {
+        Constellation::Qam4 => 3,
+        Constellation::Qam16 => 2,
+        Constellation::Sm64 | Constellation::HmSym | Constellation::HmMix => 0,
+    }
+}
 
 // The coordinate of a constellation's axes that a value is decided to: both axes have the same ones.
-pub fn decide_axis(c: u8, x: f32) -> i16
-    requires { Decides c x }
+pub fn decide_axis(c: Constellation, x: f32) -> i16
+    requires { Decides x }
     ensures { Decided c x result }
 {
-    let first = FIRST[c as usize];
+    let first = first_place(c);
     COORDINATES[place(x, first, 7 - first)]
 }

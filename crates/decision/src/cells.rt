@@ -1,52 +1,40 @@
 // A measured cell: whether it is refused, its point and its bits. 02, S-10.
 ghost use Rattle.std.specs.Prelude.{◌≡◌, ◌/◌, ◌%◌, ◌^◌, ◌<◌};
 ghost use Rattle.block.specs.Mapping.{constellation};
-ghost use Rattle.decision.specs.Cells.{is_finite, refused_cell, value_on, point_on, bit_on};
+ghost use Rattle.decision.specs.Cells.{refused_cell, value_on, point_on, bit_on};
 ghost use Rattle.decision.specs.Clauses.{OnCell, OnPoint};
 
 use crate::axis::decide_axis;
 use crate::{Measured, MeasuredCell};
+use block::Constellation;
 use mapping::points::axis_label;
-
-// Whether a float is neither infinite nor not a number.
-fn finite(x: f32) -> bool
-    ensures { result ≡ is_finite x }
-{
-    let most = f32::from_bits(0x7f80_0000);
-    if x < most {
-        return -most < x;
-    }
-    false
-}
 
 // Whether a cell is refused by 22.
 pub fn refused(cell: MeasuredCell) -> bool
     ensures { result ≡ refused_cell cell }
 {
     match cell {
-        MeasuredCell::Pair(p) => !(finite(p.real) & finite(p.imaginary)),
-        MeasuredCell::Fade(gain) => !finite(gain) | (gain < 0.0),
+        MeasuredCell::Pair(p) => !(p.real.is_finite() & p.imaginary.is_finite()),
+        MeasuredCell::Fade(gain) => !gain.is_finite() | (gain < 0.0),
     }
 }
 
 // The value on the axis of number m, real before imaginary.
+#[tactic(auto, unfolding(crate::specs::Cells::value_on))]
 fn value_on(p: Measured, m: usize) -> f32
     ensures { result ≡ value_on p m }
 {
-    if m % 2 == 0 {
-        return p.real;
-    }
-    p.imaginary
+    if m % 2 == 0 { p.real } else { p.imaginary }
 }
 
 // A cell's coordinate on the axis of number m of constellation c.
-pub fn point(c: u8, cell: MeasuredCell, m: usize) -> i16
-    requires { OnCell c cell }
+pub fn point(c: Constellation, cell: MeasuredCell, m: usize) -> i16
+    requires { OnCell cell }
     ensures { result ≡ point_on (constellation c) cell m }
 {
     match cell {
         MeasuredCell::Pair(p) => decide_axis(c, value_on(p, m)),
-        MeasuredCell::Fade(gain) => 0,
+        MeasuredCell::Fade(_) => 0,
     }
 }
 
@@ -59,12 +47,12 @@ fn digit(n: u8, l: usize) -> u8
 }
 
 // A cell's level bit l on the axis of number m of constellation c, from its coordinate v there; 2 for unknown.
-pub fn bit(c: u8, cell: MeasuredCell, m: usize, v: i16, l: usize) -> u8
+pub fn bit(c: Constellation, cell: MeasuredCell, m: usize, v: i16, l: usize) -> u8
     requires { OnPoint c cell m v l }
     ensures { result ≡ bit_on (constellation c) cell m l }
 {
     match cell {
         MeasuredCell::Pair(p) => digit(axis_label(c, m % 2, v), l),
-        MeasuredCell::Fade(gain) => 2,
+        MeasuredCell::Fade(_) => 2,
     }
 }

@@ -24,6 +24,7 @@ fn collect_column(pattern: &[u8], stride: usize, coded: &[u8], at: usize, out: &
     let width = pattern.len();
     let mut at = at;
     let mut j = i;
+    // Stays: j and at go on by a stride each, so that a for by step_by would count one of them and leave the other as it is.
     while j < out.len() {
         out[j] = coded[at] % 2;
         at += stride;
@@ -38,15 +39,14 @@ fn collect(pattern: &[u8], widths: &[usize], stride: usize, coded: &[u8], at: us
         × Collected pattern.now coded.now at (length pattern.now) out.new }
 {
     let mut at = at;
-    let mut i = 0;
-    while i < pattern.len() {
+    for i in 0..pattern.len() {
         collect_column(pattern, stride, coded, at, out, i);
         at += widths[i];
-        i += 1;
     }
 }
 
 // A bit of some bits times mask 133 octal, whose digits stand a step apart.
+#[tactic(auto, using(crate::proofs::Dividing::five), unfolding(crate::specs::Division::product))]
 fn product(bits: &[u8], step: usize, j: usize) -> u8
     requires { Reaches step bits.now j }
     ensures { result ≡ product step bits.now j }
@@ -60,9 +60,7 @@ fn multiply(bits: &mut [u8], step: usize)
     requires { Bits bits.old × (12 * step ≤ length bits.old) × (step < 3) }
     ensures { Multiplied step bits.old bits.new }
 {
-    let mut j = bits.len();
-    while 12 * step < j {
-        j -= 1;
+    for j in (12 * step..bits.len()).rev() {
         bits[j] = product(bits, step, j);
     }
 }
@@ -72,10 +70,8 @@ fn divide(products: &mut [u8])
     requires { Bits products.old }
     ensures { Divided products.old products.new }
 {
-    let mut j = FIRST;
-    while j < products.len() {
+    for j in FIRST..products.len() {
         products[j] = product(products, 4, j);
-        j += 1;
     }
 }
 
@@ -137,8 +133,6 @@ pub fn decode(pattern: Pattern, register: u32, coded: &[u8], at: usize, out: &mu
     requires { Held pattern × Decodes (pattern_of pattern) register coded.now at out.old }
     ensures { Decoded (pattern_of pattern) register coded.now at (length out.old) result.register result.at out.new }
 {
-    let columns = pattern.columns;
-    let width = pattern.width;
-    let widths = widths_of(columns);
-    decode_segment(&columns[0..width], &widths, register, coded, at, out)
+    let widths = widths_of(pattern.columns);
+    decode_segment(pattern.columns(), &widths, register, coded, at, out)
 }

@@ -3,22 +3,16 @@
 
 mod super_frames;
 
-use console::{Start, arguments};
+use console::{NotStarted, Start, arguments};
 use holdpipes::files;
 use linepipes::{fitting, lines, multiplex_frames, plans};
 use pipes::arguments::{argument, argument_count};
 use pipes::output::{say_settings, say_usage};
 use previewjobs::previews;
 
-fn main(rt: HostRuntime) {
-    let mut word = [0u8; 32];
-    let mut digits = [0u8; 32];
-    let n = argument(rt, 1, &mut word);
-    let m = argument(rt, 2, &mut digits);
-    let start = arguments::start(argument_count(rt), &word[..n], &digits[..m]);
+// What the arguments ask for.
+fn begin(rt: HostRuntime, start: Start) {
     match start {
-        Start::Usage => say_usage(),
-        Start::Refused(number) => say_settings(number),
         Start::Begin(job, s) => super_frames::begin(rt, job, s),
         Start::Lines(job) => lines::run_lines(rt, job),
         Start::Multiplex(job, s) => multiplex_frames::begin(rt, job, s),
@@ -26,5 +20,17 @@ fn main(rt: HostRuntime) {
         Start::Preview(s) => previews::preview(rt, s),
         Start::Fit(s) => fitting::begin(rt, s),
         Start::Plan => plans::begin(rt),
+    }
+}
+
+fn main(rt: HostRuntime) {
+    let mut word = [0u8; 32];
+    let mut digits = [0u8; 32];
+    let n = argument(rt, 1, &mut word);
+    let m = argument(rt, 2, &mut digits);
+    match arguments::start(argument_count(rt), &word[..n], &digits[..m]) {
+        Ok(start) => begin(rt, start),
+        Err(NotStarted::Usage) => say_usage(),
+        Err(NotStarted::Refused(number)) => say_settings(number),
     }
 }

@@ -1,29 +1,17 @@
 // Bits dispersed. 01 "Dispersal".
-ghost use Rattle.std.specs.Prelude.{◌≡◌, min};
+ghost use Rattle.std.specs.Prelude.{◌≡◌};
 ghost use Rattle.block.specs.Dispersal.{dispersed};
 ghost use Rattle.dispersal.specs.Clauses.{Adds};
 
 use crate::sequence::{PERIOD, place_in_period, whole_period};
-
-// The less of two numbers.
-fn smaller(a: usize, b: usize) -> usize
-    ensures { result ≡ min a b }
-{
-    if a < b {
-        return a;
-    }
-    b
-}
 
 // Bits added modulo 2 in place to those of one period from place `at` on.
 fn add_sequence(sequence: &[u8], at: usize, bits: &mut [u8])
     requires { Adds sequence.now at bits.old }
     ensures { bits.new ≡ dispersed at bits.old }
 {
-    let mut i = 0;
-    while i < bits.len() {
+    for i in 0..bits.len() {
         bits[i] = (bits[i] % 2 + sequence[at + i]) % 2;
-        i += 1;
     }
 }
 
@@ -34,8 +22,9 @@ pub fn disperse(treated: u16, bits: &mut [u8])
     let sequence = whole_period();
     let mut at = place_in_period(treated);
     let mut i = 0;
+    // Stays: a turn takes what is left of a period, so that i goes on by pieces of two sizes, as no range or chunk does.
     while i < bits.len() {
-        let n = smaller(PERIOD - at, bits.len() - i);
+        let n = (PERIOD - at).min(bits.len() - i);
         add_sequence(&sequence, at, &mut bits[i..i + n]);
         at = (at + n) % PERIOD;
         i += n;

@@ -2,36 +2,20 @@
 #![tactic(auto)]
 
 ghost use Rattle.std.specs.Prelude.{◌≡◌};
-ghost use Rattle.dispersecall.specs.Calls.{dispersed_bytes, disperse_refusal, disperse_yield, disperse_of};
+ghost use Rattle.refusal.specs.Numbers.{answer};
+ghost use Rattle.dispersecall.specs.Calls.{dispersed_bytes, disperse_yield, disperse_of};
 ghost use Rattle.dispersecall.specs.Clauses.{Disperses};
 
 use block::buffers::bit_buffer;
 use dispersal::bits::disperse;
 use dispersal::sequence::PERIOD;
 use packing::bits::{pack, spare_zero, unpack};
+use refusal::Refusal;
 
 // The bytes and the bits of a piece.
 const PIECE: usize = 4096;
 
 const PIECE_BITS: usize = 32768;
-
-// 9, 10 and 11, lowest number first.
-fn disperse_refusal(bits: u16, bytes: &[u8], out: usize) -> u8
-    ensures { result ≡ disperse_refusal bits bytes.now out }
-{
-    let n = bits as usize;
-    let wanted = (n + 7) / 8;
-    if bytes.len() != wanted {
-        return 9;
-    }
-    if out != wanted {
-        return 10;
-    }
-    if !spare_zero(bytes, n) {
-        return 11;
-    }
-    0
-}
 
 // At most a block's bits, packed from the start of a byte.
 fn disperse_piece(treated: u16, n: usize, bytes: &[u8], out: &mut [u8])
@@ -63,14 +47,22 @@ fn disperse_accepted(treated: u16, n: usize, bytes: &[u8], out: &mut [u8])
     );
 }
 
-// The first `bits` of the packed bits, bit i added modulo 2 to p(treated + i), packed again.
-pub fn disperse_bytes(treated: u16, bits: u16, bytes: &[u8], out: &mut [u8]) -> u8
-    ensures { disperse_yield result out.new ≡ disperse_of treated bits bytes.now out.old }
+// The first `bits` of the packed bits, bit i added modulo 2 to p(treated + i), packed again. Refusals 9, 10 and 11, lowest number first.
+#[tactic(auto, unfolding(crate::specs::Calls::disperse_of, crate::specs::Calls::disperse_refusal, lists::specs::Bytes::bytes_for))]
+pub fn disperse_bytes(treated: u16, bits: u16, bytes: &[u8], out: &mut [u8]) -> Result<(), Refusal>
+    ensures { disperse_yield (answer result) out.new ≡ disperse_of treated bits bytes.now out.old }
 {
-    let number = disperse_refusal(bits, bytes, out.len());
-    if number != 0 {
-        return number;
+    let n = bits as usize;
+    let wanted = n.div_ceil(8);
+    if bytes.len() != wanted {
+        return Err(Refusal::InputLength);
     }
-    disperse_accepted(treated, bits as usize, bytes, out);
-    0
+    if out.len() != wanted {
+        return Err(Refusal::OutputLength);
+    }
+    if !spare_zero(bytes, n) {
+        return Err(Refusal::SpareBit);
+    }
+    disperse_accepted(treated, n, bytes, out);
+    Ok(())
 }

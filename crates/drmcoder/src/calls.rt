@@ -8,24 +8,23 @@ ghost use Rattle.drmcoder.specs.Calls.{code_yields, read_yields, reset_bytes, co
 use codecall::code::code;
 use patterns::table::standard_table;
 use readcall::read::read;
+use refusal::{Refusal, answer};
 use resetcall::reset::reset_table;
 use settingbytes::bytes::settings_of;
-use statebytes::answers::{finish, finish_read};
+use statebytes::answers::{finish, finish_read, refusal_word};
 use statebytes::bytes::state_of;
 
 // Begins a run of settings and a table on a memory.
+#[tactic(auto, unfolding(crate::specs::Calls::reset_bytes))]
 fn reset_bytes(state: &mut [u8], settings: &[u8], table: &[u8], memory: &mut [u8]) -> u8
     ensures { reset_yields result state.new memory.new
         ≡ reset_bytes state.old settings.now table.now memory.old }
 {
-    if state.len() != 208 {
-        return 255;
+    if state.len() != 208 || settings.len() != 10 {
+        return Refusal::FixedLength.number();
     }
-    if settings.len() != 10 {
-        return 255;
-    }
-    let done = reset_table(state_of(state), settings_of(settings), table, memory);
-    finish(done, state)
+    let outcome = reset_table(settings_of(settings), table, memory);
+    answer(finish(outcome, state))
 }
 
 // Begins a run with the standard's table.
@@ -33,8 +32,7 @@ pub fn drm_reset(state: &mut [u8], settings: &[u8], memory: &mut [u8]) -> u8
     ensures { reset_yields result state.new memory.new
         ≡ reset_bytes state.old settings.now table65 memory.old }
 {
-    let table = standard_table();
-    reset_bytes(state, settings, &table, memory)
+    reset_bytes(state, settings, &standard_table(), memory)
 }
 
 // Begins a run with a table of its own. 02 S-11.
@@ -46,6 +44,7 @@ pub fn drm_reset_table(state: &mut [u8], settings: &[u8], table: &[u8], memory: 
 }
 
 // Three FAC blocks, an SDC block and three multiplex frames to the cells of a super frame.
+#[tactic(auto, unfolding(crate::specs::Calls::code_bytes))]
 pub fn drm_code(
     state: &mut [u8],
     memory: &mut [u8],
@@ -61,9 +60,9 @@ pub fn drm_code(
         (code_call fac.now sdc.now msc.now faccells.old sdccells.old msccells.old) }
 {
     if state.len() != 208 {
-        return 255;
+        return Refusal::FixedLength.number();
     }
-    let done = code(
+    let outcome = code(
         state_of(state),
         fac,
         sdc,
@@ -73,10 +72,11 @@ pub fn drm_code(
         sdccells,
         msccells,
     );
-    finish(done, state)
+    answer(finish(outcome, state))
 }
 
 // The cells of a super frame to three FAC blocks, an SDC block and the multiplex frames that it finishes.
+#[tactic(auto, unfolding(crate::specs::Calls::read_bytes))]
 pub fn drm_read(
     state: &mut [u8],
     memory: &mut [u8],
@@ -92,9 +92,9 @@ pub fn drm_read(
         (read_call faccells.now sdccells.now msccells.now fac.old sdc.old msc.old) }
 {
     if state.len() != 208 {
-        return 65280;
+        return refusal_word(Refusal::FixedLength, 0);
     }
-    let reading = read(
+    let outcome = read(
         state_of(state),
         faccells,
         sdccells,
@@ -104,5 +104,5 @@ pub fn drm_read(
         sdc,
         msc,
     );
-    finish_read(reading, state)
+    finish_read(outcome, state)
 }

@@ -6,6 +6,7 @@ ghost use Rattle.measured.specs.Bytes.{decide_bytes};
 
 use measured::Channel;
 use measured::bytes::decide_cells;
+use refusal::answer;
 
 // Measured FAC cells to points and bits.
 pub fn drm_decide_fac(
@@ -18,7 +19,7 @@ pub fn drm_decide_fac(
     ensures { decide_yield result points.new bits.new
         ≡ decide_bytes Fac settings.now kinds.now values.now points.old bits.old }
 {
-    decide_cells(Channel::Fac, settings, kinds, values, points, bits)
+    answer(decide_cells(Channel::Fac, settings, kinds, values, points, bits))
 }
 
 // Measured SDC cells to points and bits.
@@ -32,7 +33,7 @@ pub fn drm_decide_sdc(
     ensures { decide_yield result points.new bits.new
         ≡ decide_bytes Sdc settings.now kinds.now values.now points.old bits.old }
 {
-    decide_cells(Channel::Sdc, settings, kinds, values, points, bits)
+    answer(decide_cells(Channel::Sdc, settings, kinds, values, points, bits))
 }
 
 // Measured MSC cells to points and bits.
@@ -46,5 +47,5 @@ pub fn drm_decide_msc(
     ensures { decide_yield result points.new bits.new
         ≡ decide_bytes Msc settings.now kinds.now values.now points.old bits.old }
 {
-    decide_cells(Channel::Msc, settings, kinds, values, points, bits)
+    answer(decide_cells(Channel::Msc, settings, kinds, values, points, bits))
 }

@@ -8,25 +8,28 @@ ghost use Rattle.drmcoder.specs.Fac.{build_bytes, read_fields};
 use crate::bytes::settings_of;
 use facfields::calls::{build, read};
 use nearest::fac::fac_nearest;
+use refusal::{Refusal, answer};
 
 // An FAC block from fourteen fields.
+#[tactic(auto, unfolding(crate::specs::Fac::build_bytes))]
 pub fn drm_fac_build(settings: &[u8], fields: &[u32], block: &mut [u8]) -> u8
     ensures { build_yield result block.new ≡ build_bytes settings.now fields.now block.old }
 {
     if settings.len() != 10 {
-        return 255;
+        return Refusal::FixedLength.number();
     }
-    build(settings_of(settings), fields, block)
+    answer(build(settings_of(settings), fields, block))
 }
 
 // The fourteen fields of an FAC block.
+#[tactic(auto, unfolding(crate::specs::Fac::read_fields))]
 pub fn drm_fac_read(settings: &[u8], block: &[u8], fields: &mut [u32]) -> u8
     ensures { read_yield result fields.new ≡ read_fields settings.now block.now fields.old }
 {
     if settings.len() != 10 {
-        return 255;
+        return Refusal::FixedLength.number();
     }
-    read(settings_of(settings), block, fields)
+    answer(read(settings_of(settings), block, fields))
 }
 
 // 130 received values in the order of the mapped cells to the nearest FAC block and its number of disagreements.
@@ -34,5 +37,5 @@ pub fn drm_fac_nearest(received: &[u8], block: &mut [u8], disagreement: &mut [u1
     ensures { nearest_yield result block.new disagreement.new
         ≡ nearest_of received.now block.old disagreement.old }
 {
-    fac_nearest(received, block, disagreement)
+    answer(fac_nearest(received, block, disagreement))
 }

@@ -7,21 +7,24 @@ ghost use Rattle.drmcoder.specs.Grids.{grid_sizes_bytes, place_bytes, take_bytes
 
 use crate::bytes::settings_of;
 use grid::calls;
+use refusal::{Refusal, answer};
 
 // Symbols of a super frame, carriers of a symbol, numbers of a grid.
+#[tactic(auto, unfolding(crate::specs::Grids::grid_sizes_bytes))]
 pub fn drm_grid_sizes(settings: &[u8], sizes: &mut [u32]) -> u8
     ensures { yielded result sizes.new ≡ grid_sizes_bytes settings.now sizes.old }
 {
     if settings.len() != 10 {
-        return 255;
+        return Refusal::FixedLength.number();
     }
     if sizes.len() != 3 {
-        return 255;
+        return Refusal::FixedLength.number();
     }
-    calls::put_grid_sizes(calls::sizes(settings_of(settings)), sizes)
+    answer(calls::put_grid_sizes(calls::sizes(settings_of(settings)), sizes))
 }
 
 // The cells of a super frame onto a grid.
+#[tactic(auto, unfolding(crate::specs::Grids::place_bytes))]
 pub fn drm_grid_place(
     settings: &[u8],
     faccells: &[i16],
@@ -33,12 +36,13 @@ pub fn drm_grid_place(
         sdccells.now msccells.now) grid.old }
 {
     if settings.len() != 10 {
-        return 255;
+        return Refusal::FixedLength.number();
     }
-    calls::place(settings_of(settings), faccells, sdccells, msccells, grid)
+    answer(calls::place(settings_of(settings), faccells, sdccells, msccells, grid))
 }
 
 // The cells of a super frame off a grid.
+#[tactic(auto, unfolding(crate::specs::Grids::take_bytes))]
 pub fn drm_grid_take(
     settings: &[u8],
     grid: &[i16],
@@ -51,7 +55,7 @@ pub fn drm_grid_take(
         msccells.old) }
 {
     if settings.len() != 10 {
-        return 255;
+        return Refusal::FixedLength.number();
     }
-    calls::take(settings_of(settings), grid, faccells, sdccells, msccells)
+    answer(calls::take(settings_of(settings), grid, faccells, sdccells, msccells))
 }

@@ -9,30 +9,33 @@ use crate::bytes::settings_of;
 use holdbytes::holds::{convert_file, put_hold_sizes};
 use holdfile::convert;
 use holdlines::Form;
+use refusal::{Refusal, answer};
 
 // The bytes of an old and of a new file.
+#[tactic(auto, unfolding(holdbytes::specs::Holds::hold_sizes_bytes))]
 pub fn drm_hold_sizes(settings: &[u8], sizes: &mut [u32]) -> u8
     ensures { yielded result sizes.new ≡ hold_sizes_bytes settings.now sizes.old }
 {
     if settings.len() != 10 {
-        return 255;
+        return Refusal::FixedLength.number();
     }
     if sizes.len() != 2 {
-        return 255;
+        return Refusal::FixedLength.number();
     }
-    put_hold_sizes(convert::sizes(settings_of(settings)), sizes)
+    let found = convert::sizes(settings_of(settings));
+    answer(put_hold_sizes(found, sizes))
 }
 
 // An old file to its new form.
 pub fn drm_to_new(settings: &[u8], oldfile: &[u8], newfile: &mut [u8]) -> u8
     ensures { convert_yield result newfile.new ≡ convert_bytes Old settings.now oldfile.now newfile.old }
 {
-    convert_file(Form::Old, settings, oldfile, newfile)
+    answer(convert_file(Form::Old, settings, oldfile, newfile))
 }
 
 // A new file to its old form.
 pub fn drm_to_old(settings: &[u8], newfile: &[u8], oldfile: &mut [u8]) -> u8
     ensures { convert_yield result oldfile.new ≡ convert_bytes New settings.now newfile.now oldfile.old }
 {
-    convert_file(Form::New, settings, newfile, oldfile)
+    answer(convert_file(Form::New, settings, newfile, oldfile))
 }

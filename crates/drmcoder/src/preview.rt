@@ -4,10 +4,12 @@ ghost use Rattle.superframe.specs.Clauses.{code_call};
 ghost use Rattle.drmcoder.specs.Preview.{preview_yields, preview_bytes};
 
 use previewcall::preview;
+use refusal::{Refusal, answer};
 use statebytes::answers::finish;
 use statebytes::bytes::state_of;
 
 // The cells of the next super frame, and the state after it, with state and memory only read.
+#[tactic(auto, unfolding(crate::specs::Preview::preview_bytes))]
 pub fn drm_preview(
     state: &[u8],
     memory: &[u8],
@@ -24,13 +26,10 @@ pub fn drm_preview(
         (code_call fac.now sdc.now msc.now faccells.old sdccells.old msccells.old)
         next.old }
 {
-    if state.len() != 208 {
-        return 255;
+    if state.len() != 208 || next.len() != 208 {
+        return Refusal::FixedLength.number();
     }
-    if next.len() != 208 {
-        return 255;
-    }
-    let done = preview(
+    let outcome = preview(
         state_of(state),
         fac,
         sdc,
@@ -40,5 +39,5 @@ pub fn drm_preview(
         sdccells,
         msccells,
     );
-    finish(done, next)
+    answer(finish(outcome, next))
 }

@@ -4,10 +4,12 @@ ghost use Rattle.readoncall.specs.Clauses.{read_on_call};
 ghost use Rattle.drmcoder.specs.ReadOn.{read_on_yields, read_on_bytes};
 
 use readoncall::read::read_on;
-use statebytes::answers::finish_read;
+use refusal::Refusal;
+use statebytes::answers::{finish_read, refusal_word};
 use statebytes::bytes::state_of;
 
 // The cells of a super frame to its blocks and the multiplex frames that it finishes, each with its bits or lost.
+#[tactic(auto, unfolding(crate::specs::ReadOn::read_on_bytes))]
 pub fn drm_read_on(
     state: &mut [u8],
     memory: &mut [u8],
@@ -25,9 +27,9 @@ pub fn drm_read_on(
         fac.old sdc.old msc.old lost.old) }
 {
     if state.len() != 208 {
-        return 65280;
+        return refusal_word(Refusal::FixedLength, 0);
     }
-    let reading = read_on(
+    let outcome = read_on(
         state_of(state),
         faccells,
         sdccells,
@@ -38,5 +40,5 @@ pub fn drm_read_on(
         msc,
         lost,
     );
-    finish_read(reading, state)
+    finish_read(outcome, state)
 }

@@ -38,11 +38,9 @@ fn lay(
     if column % 2 == 0 {
         return at;
     }
-    let mut k = 0;
-    while k < pairs {
+    for k in 0..pairs {
         out[at + 2 * k * stride] = parity(registers[2 * k * width] as u32, mask);
         out[at + (2 * k + 1) * stride] = parity(registers[(2 * k + 1) * width] as u32, mask);
-        k += 1;
     }
     at + 1
 }
@@ -91,10 +89,8 @@ fn registers_of(bits: &[u8], from: usize, registers: &mut [u8])
     ensures { registers.new
         ≡ table (λ k. register_at bits.now (from + k)) 0 (length registers.old) }
 {
-    let mut k = 0;
-    while k < registers.len() {
+    for k in 0..registers.len() {
         registers[k] = register_at(bits, from + k);
-        k += 1;
     }
 }
 
@@ -112,10 +108,9 @@ fn lay_columns(
         ≡ rounds_laid pattern.now registers.now (length pattern.now) (2 * pairs) out.old at stride }
 {
     let mut at = at;
-    let mut i = 0;
-    while i < pattern.len() {
+    for (i, column) in pattern.iter().enumerate() {
         at = lay_column(
-            pattern[i],
+            *column,
             &registers[i..],
             pattern.len(),
             pairs,
@@ -123,7 +118,6 @@ fn lay_columns(
             at,
             stride,
         );
-        i += 1;
     }
 }
 
@@ -161,10 +155,7 @@ fn pairs_of(left: usize, width: usize) -> usize
     requires { 0 < width }
     ensures { Pairs left width result }
 {
-    if left < BLOCK {
-        return left / width / 2;
-    }
-    BLOCK / width / 2
+    left.min(BLOCK) / width / 2
 }
 
 // What is left of a segment from a place behind its first rounds on: one block of pairs of rounds after the other, and the rest bit by bit.
@@ -178,6 +169,7 @@ fn encode_blocks(pattern: &[u8], bits: &[u8], first: usize, out: &mut [u8], at: 
     let mut first = first;
     let mut at = at;
     let mut pairs = pairs_of(bits.len() - first, width);
+    // Stays: a block takes the rounds that are left, up to its room, so that no range says how far a turn goes.
     while 0 < pairs {
         encode_rounds(pattern, stride, bits, first, pairs, out, at);
         at += 2 * pairs * stride;
@@ -206,7 +198,5 @@ pub fn encode(pattern: Pattern, register: u32, bits: &[u8], out: &mut [u8], at: 
     requires { Held pattern × Encodes (pattern_of pattern) register bits.now out.old at }
     ensures { Encoded (pattern_of pattern) register bits.now out.old at result.register result.at out.new }
 {
-    let columns = pattern.columns;
-    let width = pattern.width;
-    encode_segment(&columns[0..width], register, bits, out, at)
+    encode_segment(pattern.columns(), register, bits, out, at)
 }

@@ -5,7 +5,7 @@ pub mod lines;
 pub mod marks;
 
 // What a run that reads on has lost, by kind: FAC blocks, SDC blocks, multiplex frames.
-#[derive(Clone, Copy)]
+#[derive(Clone, Copy, Default)]
 pub struct Lost {
     pub fac: u64,
     pub sdc: u64,

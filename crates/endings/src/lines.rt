@@ -1,40 +1,38 @@
 // What is said beside a run's report: what was lost, and what is wrong with a hold file.
-ghost use Rattle.std.specs.Prelude.{◌++◌, ◌+◌, ◌≤◌, length};
-ghost use Rattle.line.specs.Written.{decimal};
-ghost use Rattle.words.specs.Clauses.{Put};
+ghost use Rattle.std.specs.Prelude.{◌≡◌};
 ghost use Rattle.endings.specs.Endings.{lost_line, file_line};
 
 use crate::Lost;
 use turns::End;
-use words::report::{failed, put, put_decimal, put_why};
-
-// A kind, and how many of it.
-fn put_count(kind: &[u8], n: u64, out: &mut [u8], at: usize) -> usize
-    requires { at + (length kind.now + 20) ≤ length out.old }
-    ensures { Put (length kind.now + 20) (kind.now ++ decimal n) out.old at result out.new }
-{
-    let a = put(kind, out, at);
-    put_decimal(n, out, a)
-}
+use words::report::{failed, say_why};
+use words::text::Text;
 
 // What a run that read on has lost. 02, S-13.
-pub fn lost_said(lost: Lost, out: &mut [u8; 1024]) -> usize
-    ensures { Put 1024 (lost_line lost) out.old 0 result out.new }
+#[tactic(auto, using(std::proofs::Common::append_assoc), unfolding(crate::specs::Endings::lost_line, console::specs::Text::bytes_in, lists::specs::Lists::table))]
+pub fn lost_said(lost: Lost) -> Text
+    ensures { result ≡ lost_line lost }
 {
-    let a = put_count(b"lost: FAC ", lost.fac, out, 0);
-    let b = put_count(b", SDC ", lost.sdc, out, a);
-    let c = put_count(b", frames ", lost.frames, out, b);
-    put(b"\n", out, c)
+    let mut text = Text::new();
+    text.put(b"lost: FAC ");
+    text.put_decimal(lost.fac);
+    text.put(b", SDC ");
+    text.put_decimal(lost.sdc);
+    text.put(b", frames ");
+    text.put_decimal(lost.frames);
+    text.put(b"\n");
+    text
 }
 
 // What is wrong with a hold file, if anything is. 02, S-7.
-pub fn file_said(end: End, out: &mut [u8; 1024]) -> usize
-    ensures { Put 1024 (file_line end) out.old 0 result out.new }
+#[tactic(auto, using(std::proofs::Common::append_assoc), unfolding(crate::specs::Endings::file_line, console::specs::Text::bytes_in, lists::specs::Lists::table))]
+pub fn file_said(end: End) -> Text
+    ensures { result ≡ file_line end }
 {
-    if !failed(end) {
-        return 0;
+    let mut text = Text::new();
+    if failed(end) {
+        text.put(b"hold file: ");
+        say_why(&mut text, end);
+        text.put(b"\n");
     }
-    let a = put(b"hold file: ", out, 0);
-    let b = put_why(end, out, a);
-    put(b"\n", out, b)
+    text
 }

@@ -8,17 +8,15 @@ use crate::Lost;
 const MARKS: usize = 7;
 
 // A number with three marks more.
+#[tactic(auto, unfolding(crate::specs::Lost::added))]
 fn added(n: u64, a: u8, b: u8, c: u8) -> u64
     ensures { result ≡ added n (a + b + c) }
 {
-    let k = a as u64 + b as u64 + c as u64;
-    if u64::MAX - n < k {
-        return u64::MAX;
-    }
-    n + k
+    n.saturating_add(a as u64 + b as u64 + c as u64)
 }
 
 // With a super frame more, whose marks come first in what was written for it.
+#[tactic(auto, unfolding(crate::specs::Lost::lost_after))]
 pub fn lost_after(lost: Lost, written: &[u8]) -> Lost
     ensures { result ≡ lost_after lost written.now }
 {

@@ -1,5 +1,5 @@
 // Fields as numbers that a caller lends and as the parameters of a block, and the tests of 15.
-ghost use Rattle.std.specs.Prelude.{◌≡◌, length};
+ghost use Rattle.std.specs.Prelude.{◌≡◌};
 ghost use Rattle.facblocks.specs.Fields.{parameters, fields_among, fields_of, numbers_of, agrees};
 
 use crate::Fields;
@@ -9,8 +9,8 @@ use settings::Settings;
 pub const FIELDS: usize = 14;
 
 // Fields from their fourteen numbers.
-pub fn fields_of(numbers: &[u32]) -> Fields
-    requires { length numbers.now ≡ 14 }
+#[tactic(auto, unfolding(crate::specs::Fields::fields_of))]
+pub fn fields_of(numbers: &[u32; FIELDS]) -> Fields
     ensures { result ≡ fields_of numbers.now }
 {
     Fields {
@@ -31,27 +31,31 @@ pub fn fields_of(numbers: &[u32]) -> Fields
     }
 }
 
-pub fn put_fields(f: Fields, numbers: &mut [u32])
-    requires { length numbers.old ≡ 14 }
-    ensures { numbers.new ≡ numbers_of f }
+// The fourteen numbers of fields.
+#[tactic(auto, unfolding(crate::specs::Fields::numbers_of))]
+pub fn numbers_of(f: Fields) -> [u32; FIELDS]
+    ensures { result ≡ numbers_of f }
 {
-    numbers[0] = f.enhancement;
-    numbers[1] = f.identity;
-    numbers[2] = f.occupancy;
-    numbers[3] = f.interleaving;
-    numbers[4] = f.msc;
-    numbers[5] = f.sdc;
-    numbers[6] = f.services;
-    numbers[7] = f.reconfiguration;
-    numbers[8] = f.service;
-    numbers[9] = f.shortid;
-    numbers[10] = f.ca;
-    numbers[11] = f.language;
-    numbers[12] = f.dataflag;
-    numbers[13] = f.descriptor;
+    [
+        f.enhancement,
+        f.identity,
+        f.occupancy,
+        f.interleaving,
+        f.msc,
+        f.sdc,
+        f.services,
+        f.reconfiguration,
+        f.service,
+        f.shortid,
+        f.ca,
+        f.language,
+        f.dataflag,
+        f.descriptor,
+    ]
 }
 
 // The sixteen parameters in the order of a block, the reserved ones zero.
+#[tactic(auto, unfolding(crate::specs::Fields::parameters, crate::specs::Fields::numbers_of))]
 pub fn parameters(f: Fields) -> [u32; 16]
     ensures { result ≡ parameters f }
 {
@@ -76,6 +80,7 @@ pub fn parameters(f: Fields) -> [u32; 16]
 }
 
 // The fields among the sixteen parameters of a block.
+#[tactic(auto, unfolding(crate::specs::Fields::fields_among, crate::specs::Fields::fields_of, crate::specs::Fields::field_places))]
 pub fn fields_among(p: [u32; 16]) -> Fields
     ensures { result ≡ fields_among p }
 {
@@ -98,10 +103,12 @@ pub fn fields_among(p: [u32; 16]) -> Fields
 }
 
 // Whether fields and settings agree where both name the same thing.
+#[tactic(auto, unfolding(crate::specs::Fields::agrees))]
 pub fn agrees(s: Settings, f: Fields) -> bool
     ensures { result ≡ agrees s f }
 {
-    (f.occupancy == s.occupancy as u32)
-        & ((f.interleaving == s.interleaving as u32)
-            & ((f.msc == s.msc as u32) & (f.sdc == s.sdc as u32)))
+    f.occupancy == s.occupancy as u32
+        && f.interleaving == s.interleaving as u32
+        && f.msc == s.msc as u32
+        && f.sdc == s.sdc as u32
 }

@@ -1,12 +1,11 @@
 -- The two calls, accepted and refused. Assumes nothing.
 use Prim.Native.Nat.{ℕ}
 use mathlib.Core.Path.{◌≡◌, refl}
-use mathlib.Core.Bool.{Bool, true, false, cond, not, ◌&&◌}
+use mathlib.Core.Bool.{Bool, true, false, cond}
 use mathlib.Core.List.{List}
-use native.Mathlib.Omega.{arith}
-use borrow.Author.Tests.{lt-ltb, eq-eqb, ne_eqb, eqb-true, not-false}
+use borrow.Author.Tests.{eq-eqb, eqb-true, not-false}
 use lib.ListN.{length}
-use lib.Dec.{ltb, eqb, lit≤}
+use lib.Dec.{eqb, lit≤}
 use Rattle.lists.proofs.Bools.{and_left, and_right}
 use Rattle.settings.specs.declared.Settings.{Settings}
 use Rattle.settings.specs.Refusal.{first, refusal}
@@ -15,11 +14,6 @@ use Rattle.facblocks.specs.Fields.{field_count, fields_of, numbers_of, within, a
 use Rattle.facblocks.specs.Block.{block_bytes, block_of, fields_in, crc_right}
 use Rattle.facfields.specs.Build.{build_yield, build_refusal, build_of}
 use Rattle.facfields.specs.Read.{read_yield, read_refusal, read_of}
-
--- settings that are refused come first
-own : (r m : ℕ) → (r ≡ 0 → ⊥) → r ≡ first (ltb 0 r) r m
-unfolding first
-own r m h = rw (lt-ltb 0 r (omega arith))
 
 module _ (s : Settings) (numbers block : List ℕ) where
   -- what acceptance of a call that builds says
@@ -45,32 +39,10 @@ module _ (s : Settings) (numbers block : List ℕ) where
         agreed = and_right (within (fields_of numbers)) (agrees s (fields_of numbers)) both;
       }
 
-  -- the refusals of that call, from the tests that find them
-  pub build_settings : (refusal s ≡ 0 → ⊥) → refusal s ≡ build_refusal s numbers block
-  unfolding build_refusal
-  build_settings h = own (refusal s) _ h
-
-  pub build_fields : refusal s ≡ 0 → (length numbers ≡ 14 → ⊥) → 9 ≡ build_refusal s numbers block
-  unfolding build_refusal first field_count
-  build_fields e h = rw (e, ne_eqb (length numbers) 14 h)
-
-  pub build_bytes_lem : refusal s ≡ 0 → length numbers ≡ 14 → (length block ≡ 9 → ⊥) → 10 ≡ build_refusal s numbers block
-  unfolding build_refusal first field_count block_bytes
-  build_bytes_lem e n h = rw (e, eq-eqb (length numbers) 14 n, ne_eqb (length block) 9 h)
-
-  pub build_test : (b : Bool) → refusal s ≡ 0 → length numbers ≡ 14 → length block ≡ 9 → b ≡ (within (fields_of numbers) && agrees s (fields_of numbers))
-      → first (not b) 15 0 ≡ build_refusal s numbers block
-  unfolding build_refusal first field_count block_bytes
-  build_test b e n m t = rw (e, eq-eqb (length numbers) 14 n, eq-eqb (length block) 9 m, t)
-
   -- what the call yields
   pub build_yields : BuildAccepted → build_of s numbers block ≡ build_yield 0 (block_of (fields_of numbers))
   unfolding build_of build_refusal first field_count block_bytes
   build_yields A = rw (A.settings, eq-eqb (length numbers) 14 A.fields, eq-eqb (length block) 9 A.bytes, A.inside, A.agreed)
-
-  pub build_refused : (r : ℕ) → r ≡ build_refusal s numbers block → (r ≡ 0 → ⊥) → build_yield r block ≡ build_of s numbers block
-  unfolding build_of
-  build_refused r e h = rw (← e, ne_eqb r 0 h)
 
   -- an answer of 0 is acceptance
   pub build_zero : (build_of s numbers block).answer ≡ 0 → BuildAccepted
@@ -107,30 +79,9 @@ module _ (s : Settings) (block numbers : List ℕ) where
         crc = not-false _ (first_passes _ 16 0 (lit≤ tt) h₄);
       }
 
-  pub read_settings : (refusal s ≡ 0 → ⊥) → refusal s ≡ read_refusal s block numbers
-  unfolding read_refusal
-  read_settings h = own (refusal s) _ h
-
-  pub read-bytes : refusal s ≡ 0 → (length block ≡ 9 → ⊥) → 9 ≡ read_refusal s block numbers
-  unfolding read_refusal first block_bytes
-  read-bytes e h = rw (e, ne_eqb (length block) 9 h)
-
-  pub read_fields_lem : refusal s ≡ 0 → length block ≡ 9 → (length numbers ≡ 14 → ⊥) → 10 ≡ read_refusal s block numbers
-  unfolding read_refusal first field_count block_bytes
-  read_fields_lem e m h = rw (e, eq-eqb (length block) 9 m, ne_eqb (length numbers) 14 h)
-
-  pub read_test : (a b : Bool) → refusal s ≡ 0 → length block ≡ 9 → length numbers ≡ 14 → a ≡ agrees s (fields_in block) → b ≡ crc_right block
-      → first (not a) 15 (first (not b) 16 0) ≡ read_refusal s block numbers
-  unfolding read_refusal first field_count block_bytes
-  read_test a b e m n t u = rw (e, eq-eqb (length block) 9 m, eq-eqb (length numbers) 14 n, t, u)
-
   pub read-yields : ReadAccepted → read_of s block numbers ≡ read_yield 0 (numbers_of (fields_in block))
   unfolding read_of read_refusal first field_count block_bytes
   read-yields A = rw (A.settings, eq-eqb (length block) 9 A.bytes, eq-eqb (length numbers) 14 A.fields, A.agreed, A.crc)
-
-  pub read-refused : (r : ℕ) → r ≡ read_refusal s block numbers → (r ≡ 0 → ⊥) → read_yield r numbers ≡ read_of s block numbers
-  unfolding read_of
-  read-refused r e h = rw (← e, ne_eqb r 0 h)
 
   pub read-zero : (read_of s block numbers).answer ≡ 0 → ReadAccepted
   unfolding read_of

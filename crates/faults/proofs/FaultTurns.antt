@@ -16,6 +16,8 @@ use Rattle.settings.specs.Lengths.{n_mux, n_sfa}
 use Rattle.settings.specs.Sizes.{depth}
 use Rattle.lists.specs.Same.{same_numbers}
 use Rattle.lists.specs.Bools.{every, first_fault}
+use Rattle.block.specs.declared.Constellation.{Constellation}
+use Rattle.block.specs.declared.Constellation.TheVariants.{Qam4}
 use Rattle.channels.specs.Sdc.{sdc_constellation}
 use Rattle.superframe.specs.Memory.{slot_size}
 use Rattle.superframe.specs.Interleaving.{fillers}
@@ -24,38 +26,37 @@ use Rattle.superframe.specs.Read.{ReadCall, row_points, count_at, fillers_of, po
 use Rattle.pointtests.specs.PointTests.{points_pass, points_only}
 use Rattle.channels.specs.Msc.{msc_constellation}
 use Rattle.faults.specs.Clauses.{fault_of, point_test, CellsLent}
-use Rattle.faults.specs.declared.Fault.{Fault}
-use Rattle.faults.specs.declared.Fault.TheVariants.{Nowhere, At}
+use Rattle.std.proofs.Common.{Option, Some, None}
 use Rattle.cellmemory.specs.Clauses.{filler_numbers}
 use Rattle.cellmemory.proofs.Points.{row_test, row_points_lem, sdc_points, fac_points}
 use Rattle.superframe.proofs.Laid.{part_is, length_mid}
 use lib.Seq.{length-take-le, take_all}
 
 -- Not a fault, or the place of one.
-is_at : Fault → Bool
-is_at Nowhere = false
-is_at (At i) = true
+is_at : Option ℕ → Bool
+is_at None = false
+is_at (Some i) = true
 
-place_at : Fault → ℕ
-place_at Nowhere = 0
-place_at (At i) = i
+place_at : Option ℕ → ℕ
+place_at None = 0
+place_at (Some i) = i
 
 -- What a fault says of the tests.
-pub fault_at : (tests : List Bool) (f : Fault) (i : ℕ) → f ≡ fault_of tests → f ≡ At i → (every tests ≡ false) × (first_fault tests ≡ i)
+pub fault_at : (tests : List Bool) (f : Option ℕ) (i : ℕ) → f ≡ fault_of tests → f ≡ Some i → (every tests ≡ false) × (first_fault tests ≡ i)
 unfolding fault_of is_at place_at
 fault_at tests f i e h = go (every tests) refl
   where
     go : (b : Bool) → every tests ≡ b → (b ≡ false) × (first_fault tests ≡ i)
-    go true g = let n : fault_of tests ≡ Nowhere = rw g in absurd (true≢false (ap is_at (sym h ∙ e ∙ n)))
-    go false g = let a : fault_of tests ≡ At (first_fault tests) = rw g in (refl, sym (ap place_at (sym h ∙ e ∙ a)))
+    go true g = let n : fault_of tests ≡ None = rw g in absurd (true≢false (ap is_at (sym h ∙ e ∙ n)))
+    go false g = let a : fault_of tests ≡ Some (first_fault tests) = rw g in (refl, sym (ap place_at (sym h ∙ e ∙ a)))
 
-pub fault_nowhere : (tests : List Bool) (f : Fault) → f ≡ fault_of tests → f ≡ Nowhere → every tests ≡ true
+pub fault_nowhere : (tests : List Bool) (f : Option ℕ) → f ≡ fault_of tests → f ≡ None → every tests ≡ true
 unfolding fault_of is_at
 fault_nowhere tests f e h = go (every tests) refl
   where
     go : (b : Bool) → every tests ≡ b → b ≡ true
     go true g = refl
-    go false g = let a : fault_of tests ≡ At (first_fault tests) = rw g in absurd (true≢false (ap is_at (sym (sym h ∙ e ∙ a))))
+    go false g = let a : fault_of tests ≡ Some (first_fault tests) = rw g in absurd (true≢false (ap is_at (sym (sym h ∙ e ∙ a))))
 
 -- The tests before turn i hold.
 pub record Faultless (f : ℕ → Bool) (n i : ℕ) : Type 0 where
@@ -78,20 +79,20 @@ module _ (f : ℕ → Bool) (n : ℕ) where
       let r : first_fault (table f i (n - i)) ≡ suc (first_fault (table f (i + 1) (n - (i + 1)))) = rw (one_more i h, g) in
       record { upto = omega arith; tests = w.tests ∙ rw (one_more i h, g); rest = w.rest ∙ omega arith }
 
-  pub faultless_stop : (i : ℕ) (b : Bool) → i < n → b ≡ f i → not b ≡ true → Faultless f n i → At i ≡ fault_of (table f 0 n)
+  pub faultless_stop : (i : ℕ) (b : Bool) → i < n → b ≡ f i → not b ≡ true → Faultless f n i → Some i ≡ fault_of (table f 0 n)
   unfolding every first_fault fault_of
   faultless_stop i b h e t w =
       let g : f i ≡ false = sym e ∙ not-true b t in
       sym (rw (w.tests, w.rest, one_more i h, g, add-zero i))
 
-  pub faultless_end : (i : ℕ) → n ≤ i → Faultless f n i → Nowhere ≡ fault_of (table f 0 n)
+  pub faultless_end : (i : ℕ) → n ≤ i → Faultless f n i → None ≡ fault_of (table f 0 n)
   unfolding every fault_of table
   faultless_end i h w =
       let e : n - i ≡ 0 = omega arith in
       sym (rw (w.tests, e))
 
 -- A row's test from its parts.
-pub row_test_is : (s : Scheme) (k D n seen count i : ℕ) (msc : List ℤ) (b : Bool) → k ≡ msc_constellation s.settings.msc → D ≡ depth s.settings → n ≡ slot_size s.settings
+pub row_test_is : (s : Scheme) (k : Constellation) (D n seen count i : ℕ) (msc : List ℤ) (b : Bool) → k ≡ msc_constellation s.settings.msc → D ≡ depth s.settings → n ≡ slot_size s.settings
     → seen ≡ min (count + i) (D - 1) → n * i + n ≤ length msc → b ≡ points_pass (row_test k D seen) (take (n * i + n - n * i) (drop (n * i) msc))
     → b ≡ row_points s (count_at s.settings count i) (part (slot_size s.settings) msc i)
 unfolding count_at slot_size
@@ -101,13 +102,13 @@ row_test_is s k D n seen count i msc b p e f g h q =
 
 -- The test of a block, case by case.
 module _ (s : Scheme) (count : ℕ) (fac sdc msc : List ℤ) (i : ℕ) (b : Bool) where
-  pub test_fac : i < 3 → length fac ≡ 390 → b ≡ points_pass (points_only 0) (take (130 * i + 130 - 130 * i) (drop (130 * i) fac)) → b ≡ point_test s count fac sdc msc i
+  pub test_fac : i < 3 → length fac ≡ 390 → b ≡ points_pass (points_only Qam4) (take (130 * i + 130 - 130 * i) (drop (130 * i) fac)) → b ≡ point_test s count fac sdc msc i
   unfolding point_test
   test_fac h l e =
       let n = length_mid (130 * i) 130 fac (omega arith) in
       e ∙ fac_points s _ (rw n) ∙ rw (lt-ltb i 3 h, part_is 130 i fac)
 
-  pub test_sdc : (k : ℕ) → i ≡ 3 → length sdc % 2 ≡ 0 → k ≡ sdc_constellation s.settings.sdc → b ≡ points_pass (points_only k) sdc → b ≡ point_test s count fac sdc msc i
+  pub test_sdc : (k : Constellation) → i ≡ 3 → length sdc % 2 ≡ 0 → k ≡ sdc_constellation s.settings.sdc → b ≡ points_pass (points_only k) sdc → b ≡ point_test s count fac sdc msc i
   unfolding point_test
   test_sdc k h l p e = e ∙ rw (p, h) (sdc_points s sdc l)
 

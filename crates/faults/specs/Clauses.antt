@@ -1,5 +1,5 @@
 -- What the functions of this crate require and promise: nothing of 01 is stated here.
-use Rattle.std.specs.Prelude.{ℕ, ◌-◌, ◌*◌, ◌<◌, ◌≡◌, Bool, cond, List, length, ℤ, eqb, ltb}
+use Rattle.std.specs.Prelude.{ℕ, ◌-◌, ◌*◌, ◌<◌, ◌≡◌, Bool, cond, List, length, ℤ, eqb, ltb, Option, Some, None}
 use Rattle.channels.specs.declared.Scheme.{Scheme}
 use Rattle.settings.specs.Accepted.{Accepted}
 use Rattle.settings.specs.Lengths.{n_sdc, n_sfa}
@@ -14,12 +14,10 @@ use Rattle.superframe.specs.Memory.{slot_size}
 use Rattle.superframe.specs.Interleaving.{fillers}
 use Rattle.superframe.specs.Call.{part, fac_numbers}
 use Rattle.superframe.specs.Read.{row_points, count_at, fillers_of}
-use Rattle.faults.specs.declared.Fault.{Fault}
-use Rattle.faults.specs.declared.Fault.TheVariants.{Nowhere, At}
 
 -- The lowest test that fails.
-unfoldable pub fault_of : List Bool → Fault
-fault_of tests = cond (every tests) Nowhere (At (first_fault tests))
+unfoldable pub fault_of : List Bool → Option ℕ
+fault_of tests = cond (every tests) None (Some (first_fault tests))
 
 -- The test of 13 of block i: 0 to 2 FAC, 3 SDC, 4 to 6 the sent rows, 7 the fillers.
 unfoldable pub point_test : Scheme → ℕ → List ℤ → List ℤ → List ℤ → ℕ → Bool

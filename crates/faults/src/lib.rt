@@ -2,10 +2,3 @@
 #![tactic(auto)]
 
 pub mod lowest;
-
-// The lowest block at fault, if there is one.
-#[derive(Clone, Copy)]
-pub enum Fault {
-    Nowhere,
-    At(u8),
-}

@@ -10,8 +10,7 @@ ghost use Rattle.cellmemory.specs.Clauses.{filler_numbers};
 ghost use Rattle.superframe.specs.Read.{row_points, count_at};
 ghost use Rattle.faults.specs.Clauses.{fault_of, point_test, CellsLent};
 
-use crate::Fault;
-use block::QAM4;
+use block::Constellation;
 use cellmemory::fillers::write_fillers;
 use cellmemory::rows::slot_size;
 use channels::Scheme;
@@ -67,7 +66,7 @@ fn point_test(s: Scheme, count: usize, fac: &[i16], sdc: &[i16], msc: &[i16], i:
 {
     if i < 3 {
         return all_pass(
-            QAM4,
+            Constellation::Qam4,
             false,
             &fac[FAC_NUMBERS * i..FAC_NUMBERS * i + FAC_NUMBERS],
         );
@@ -82,30 +81,26 @@ fn point_test(s: Scheme, count: usize, fac: &[i16], sdc: &[i16], msc: &[i16], i:
 }
 
 // 13: the lowest block whose test fails.
-pub fn point_fault(s: Scheme, count: usize, fac: &[i16], sdc: &[i16], msc: &[i16]) -> Fault
+pub fn point_fault(s: Scheme, count: usize, fac: &[i16], sdc: &[i16], msc: &[i16]) -> Option<u8>
     requires { CellsLent s count fac.now sdc.now msc.now }
     ensures { result ≡ fault_of (table (point_test s count fac.now sdc.now msc.now) 0 8) }
 {
-    let mut i: u8 = 0;
-    while i < 8 {
+    for i in 0..8 {
         if !point_test(s, count, fac, sdc, msc, i as usize) {
-            return Fault::At(i);
+            return Some(i);
         }
-        i += 1;
     }
-    Fault::Nowhere
+    None
 }
 
 // 14: the lowest block that no bits give.
-pub fn lost_fault(given: [bool; 7]) -> Fault
+pub fn lost_fault(given: [bool; 7]) -> Option<u8>
     ensures { result ≡ fault_of given }
 {
-    let mut i: u8 = 0;
-    while i < 7 {
+    for i in 0..7 {
         if !given[i as usize] {
-            return Fault::At(i);
+            return Some(i);
         }
-        i += 1;
     }
-    Fault::Nowhere
+    None
 }

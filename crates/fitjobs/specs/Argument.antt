@@ -1,7 +1,11 @@
 -- BYTES, the third argument of `desk fit`: a decimal number below 2^32.
-use Rattle.std.specs.Prelude.{ℕ, ◌+◌, ◌-◌, ◌*◌, Bool, true, false, cond, ◌&&◌, List, [], ◌∷◌, length, ltb}
+use Rattle.std.specs.Prelude.{ℕ, ◌+◌, ◌-◌, ◌*◌, Bool, true, false, cond, ◌&&◌, Option, Some, None, List, [], ◌∷◌, length, ltb}
 use Rattle.numerals.specs.Numbers.{is_digit}
-use Rattle.fitjobs.specs.declared.Count.{Count}
+
+-- A word of digits as far as it is read: its number, and whether every byte was a digit and the number has 32 bits.
+pub record Count : Type 0 where
+  pub value : ℕ
+  pub good : Bool
 
 -- A byte behind the digits before it: one that is no digit, or that makes a number of 2^32 or more, makes the word none.
 unfoldable pub with_digit : Count → ℕ → Count
@@ -21,3 +25,7 @@ count_in word = count_from (record { value = 0; good = true }) word
 -- At least one digit. A word of 32 bytes or more may be a part of a longer one: the program holds no more.
 unfoldable pub is_count : List ℕ → Bool
 is_count word = (count_in word).good && (ltb 0 (length word) && ltb (length word) 32)
+
+-- The number of a word that is read.
+unfoldable pub counted : Count → Option ℕ
+counted c = cond c.good (Some c.value) None

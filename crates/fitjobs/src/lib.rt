@@ -3,11 +3,3 @@
 
 pub mod argument;
 pub mod text;
-
-// A word of decimal digits, as far as it is read.
-#[derive(Clone, Copy)]
-pub struct Count {
-    pub value: u32,
-    // Every byte was a digit, and the number has 32 bits.
-    pub good: bool,
-}

@@ -1,5 +1,5 @@
 // The three numbers with what they are, and the time on air.
-ghost use Rattle.std.specs.Prelude.{◌≡◌, ◌++◌, ◌+◌, ◌≤◌, length};
+ghost use Rattle.std.specs.Prelude.{◌≡◌, ◌++◌, ◌+◌, ◌≤◌, length, IfOk};
 ghost use Rattle.line.specs.Written.{decimal};
 ghost use Rattle.turns.specs.Yield.{made_yield};
 ghost use Rattle.words.specs.Clauses.{Put};
@@ -8,8 +8,8 @@ ghost use Rattle.fitjobs.specs.Fit.{counts_text, time_text, fit_text, fit_of};
 use crate::argument::count;
 use howlong::calls::how_long;
 use settings::Settings;
-use turns::Made;
-use turns::answers::{bad, refused, through};
+use turns::Failure;
+use turns::answers::{bad, through};
 use words::report::{put, put_decimal};
 
 // A number, and what it is.
@@ -52,18 +52,17 @@ fn put_fit(numbers: &[u32], out: &mut [u8]) -> usize
 }
 
 // `fit`: what a number of bytes takes.
-pub fn fit(s: Settings, word: &[u8], out: &mut [u8; 1024]) -> Made
+pub fn fit(s: Settings, word: &[u8], out: &mut [u8; 1024]) -> Result<usize, Failure>
     ensures out_after { made_yield result out.new ≡ fit_of s word.now out.old }
-    ensures length_bound { result.length ≤ 1024 }
+    ensures length_bound { IfOk result (λ n. n ≤ 1024) }
 {
-    let c = count(word);
-    if !(c.good & ((0 < word.len()) & (word.len() < 32))) {
+    if !((0 < word.len()) & (word.len() < 32)) {
         return bad();
     }
+    let Some(bytes) = count(word) else {
+        return bad();
+    };
     let mut numbers = [0u32; 3];
-    let answer = how_long(s, c.value, &mut numbers);
-    if answer != 0 {
-        return refused(answer);
-    }
+    how_long(s, bytes, &mut numbers)?;
     through(put_fit(&numbers, out))
 }

@@ -1,18 +1,12 @@
 -- Lists stored into a list. Assumes nothing.
-use Prim.Native.Nat.{ℕ, zero, suc, ◌+◌, ◌-◌, ◌≤◌, ◌<◌}
+use Prim.Native.Nat.{ℕ, suc, ◌+◌, ◌-◌, ◌≤◌, ◌<◌}
 use mathlib.Core.Path.{◌≡◌, refl, ap, ◌∙◌}
 use mathlib.Core.List.{List, [], ◌∷◌, ◌++◌, append_assoc}
 use native.Mathlib.Omega.{arith}
 use lib.ListN.{length, set, take, drop, length-drop}
-use lib.Seq.{sets, sets-eq, set_comm, drop-nil, drop-drop, length-sets, length-take-le}
-use Rattle.lists.proofs.Parts.{from_start, to_end, both_written}
+use lib.Seq.{sets, sets-eq, set_comm, drop-drop, length-sets, length-take-le}
+use Rattle.lists.proofs.Parts.{from_start, to_end}
 use Rattle.frameparts.specs.Clauses.{Puts}
-
--- nothing stands past the end
-pub drop_past : {A : Type 0} (i : ℕ) (l : List A) → length l ≤ i → drop i l ≡ []
-drop_past i [] h = drop-nil i
-drop_past zero (a ∷ l) h = absurd (omega arith)
-drop_past (suc i) (a ∷ l) h = drop_past i l (omega arith)
 
 -- a part of a list written anew
 pub part-stored : {A : Type 0} (l x : List A) (i n : ℕ) → length x ≡ n → i + n ≤ length l → take i l ++ (x ++ drop n (drop i l)) ≡ sets l i x
@@ -44,14 +38,3 @@ both_stored frame parts a toa tob p ex ey =
     part-stored parts (take a frame) toa a (length-take-le a frame p.short) p.room_a in
     rw (ex, ey, from_start a, to_end a frame, less toa a, less tob b, one)
     (part-stored (sets parts toa (take a frame)) (drop a frame) tob b (length-drop a frame) (rw (length-sets parts toa (take a frame)) p.room_b))
-
--- and copied from their places
-pub both_taken : (frame parts : List ℕ) (a froma fromb : ℕ) {x y : List ℕ} → Puts frame a froma fromb parts
-    → x ≡ take ((froma + a) - froma) (drop froma parts) → y ≡ take ((fromb + (length frame - a)) - fromb) (drop fromb parts)
-    → let one = x ++ drop (a - 0) frame in
-    take a one ++ (y ++ drop (length one - a) (drop a one)) ≡ take a (drop froma parts) ++ take (length frame - a) (drop fromb parts)
-both_taken frame parts a froma fromb p ex ey =
-    let b = length frame - a in
-    let long : length (take a (drop froma parts)) ≡ a = length-take-le a (drop froma parts) (rw (length-drop froma parts) (omega (arith, p.room_a))) in
-    rw (ex, ey, less froma a, less fromb b)
-    (both_written frame (take a (drop froma parts)) a p.short long (take b (drop fromb parts)))

@@ -17,10 +17,8 @@ fn bit_at(bytes: &[u8], i: usize) -> u8
 pub fn unpack(bytes: &[u8], out: &mut [u8])
     ensures { out.new ≡ unpacked (length out.old) bytes.now }
 {
-    let mut i = 0;
-    while i < out.len() {
-        out[i] = bit_at(bytes, i);
-        i += 1;
+    for (i, bit) in out.iter_mut().enumerate() {
+        *bit = bit_at(bytes, i);
     }
 }
 
@@ -28,12 +26,5 @@ pub fn unpack(bytes: &[u8], out: &mut [u8])
 pub fn all_zero(bits: &[u8]) -> bool
     ensures { result ≡ eqb (total bits.now) 0 }
 {
-    let mut i = 0;
-    while i < bits.len() {
-        if bits[i] != 0 {
-            return false;
-        }
-        i += 1;
-    }
-    true
+    bits.iter().all(|bit| *bit == 0)
 }

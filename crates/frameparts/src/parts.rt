@@ -5,7 +5,6 @@ ghost use Rattle.frameparts.specs.Streams.{shares_in, sums, lent_in, lent_of, pa
 ghost use Rattle.frameparts.specs.Clauses.{Puts, Lays};
 
 use crate::Share;
-use lists::bytes::copy;
 
 // The bytes of all parts A and of all parts B: of each stream two numbers.
 pub fn sums(numbers: &[u16]) -> Share
@@ -15,13 +14,11 @@ pub fn sums(numbers: &[u16]) -> Share
 {
     let mut a = 0;
     let mut b = 0;
-    let mut k = 0;
-    while k + 1 < numbers.len() {
-        a += numbers[k] as usize;
-        b += numbers[k + 1] as usize;
-        k += 2;
+    for k in 0..numbers.len() / 2 {
+        a += numbers[2 * k] as usize;
+        b += numbers[2 * k + 1] as usize;
     }
-    Share { a: a, b: b }
+    Share { a, b }
 }
 
 // A logical frame with a bytes of part A: part A from place `toa` on, part B from place `tob` on.
@@ -30,8 +27,8 @@ fn put_logical(frame: &[u8], a: usize, toa: usize, tob: usize, parts: &mut [u8])
     ensures { parts.new ≡ sets (sets parts.old toa (take a frame.now)) tob (drop a frame.now) }
 {
     let b = frame.len() - a;
-    copy(&frame[0..a], &mut parts[toa..toa + a]);
-    copy(&frame[a..], &mut parts[tob..tob + b]);
+    parts[toa..toa + a].copy_from_slice(&frame[0..a]);
+    parts[tob..tob + b].copy_from_slice(&frame[a..]);
 }
 
 // Part A of each stream, then part B of each, from the logical frames.
@@ -43,15 +40,13 @@ pub fn lay_parts(numbers: &[u16], streams: &[u8], parts: &mut [u8])
     let mut toa = 0;
     let mut tob = sums(numbers).a;
     let mut from = 0;
-    let mut k = 0;
-    while k + 1 < numbers.len() {
-        let a = numbers[k] as usize;
-        let b = numbers[k + 1] as usize;
+    for k in 0..numbers.len() / 2 {
+        let a = numbers[2 * k] as usize;
+        let b = numbers[2 * k + 1] as usize;
         put_logical(&streams[from..from + (a + b)], a, toa, tob, parts);
         toa += a;
         tob += b;
         from += a + b;
-        k += 2;
     }
 }
 
@@ -62,8 +57,8 @@ fn take_logical(parts: &[u8], froma: usize, fromb: usize, a: usize, frame: &mut 
         ≡ take a (drop froma parts.now) ++ take (length frame.old - a) (drop fromb parts.now) }
 {
     let b = frame.len() - a;
-    copy(&parts[froma..froma + a], &mut frame[0..a]);
-    copy(&parts[fromb..fromb + b], &mut frame[a..]);
+    frame[0..a].copy_from_slice(&parts[froma..froma + a]);
+    frame[a..].copy_from_slice(&parts[fromb..fromb + b]);
 }
 
 // The logical frames from part A of each stream and then part B of each.
@@ -75,14 +70,12 @@ pub fn take_parts(numbers: &[u16], parts: &[u8], streams: &mut [u8])
     let mut froma = 0;
     let mut fromb = sums(numbers).a;
     let mut to = 0;
-    let mut k = 0;
-    while k + 1 < numbers.len() {
-        let a = numbers[k] as usize;
-        let b = numbers[k + 1] as usize;
+    for k in 0..numbers.len() / 2 {
+        let a = numbers[2 * k] as usize;
+        let b = numbers[2 * k + 1] as usize;
         take_logical(parts, froma, fromb, a, &mut streams[to..to + (a + b)]);
         froma += a;
         fromb += b;
         to += a + b;
-        k += 2;
     }
 }

@@ -7,7 +7,6 @@ use cellmemory::buffers::row_buffer;
 use cellmemory::rows::{next_state, row_places, slot_size, take_row};
 use channels::blocks::msc_block;
 use finishedframes::finished::{frames_buffer, lay_finished};
-use lists::bytes::clear;
 use superframe::State;
 
 // Three rows taken into memory, each frame that they finish taken out right after its row, since the next row overwrites its slot, and then those frames read.
@@ -21,16 +20,14 @@ pub fn read_rows(state: State, msc: &[i16], memory: &mut [u8], out: &mut [u8]) -
     let mut cells = frames_buffer();
     let mut finished: u8 = 0;
     let mut after = state;
-    let mut i = 0;
-    while i < 3 {
+    for i in 0..3 {
         let at = n * i;
         take_row(after, &places, &msc[at..at + n], memory);
         finished = lay_finished(finished, after, memory, &mut cells);
         after = next_state(after);
-        i += 1;
     }
     let k = msc_block(state.scheme);
-    clear(out);
+    out.fill(0);
     let given = read_several(k, finished as usize, &cells, out);
     Frames {
         given,

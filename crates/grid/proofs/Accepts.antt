@@ -19,11 +19,10 @@ use Rattle.settings.specs.Accepted.{Ranges}
 use Rattle.settings.specs.Refusal.{first, refusal, paired}
 use Rattle.settings.specs.Lengths.{n_sdc, n_sfa}
 use Rattle.settings.proofs.Bounds.{accepted_of}
-use Rattle.grid.specs.declared.GridSizes.{GridSizes}
 use Rattle.kinds.specs.Carriers.{frame_symbols, symbols, carriers}
 use Rattle.kinds.specs.Places.{places, grid_kinds}
 use Rattle.placing.specs.Cells.{Cells, placed, taken}
-use Rattle.grid.specs.Calls.{kinds, grid_numbers, no_grid, some_grid, grid_sizes, cells_fit, grid_refusal, place_refusal, take_refusal, place_of, take_of}
+use Rattle.grid.specs.Calls.{SizesYield, kinds, grid_numbers, no_grid, some_grid, grid_sizes, cells_fit, grid_refusal, place_refusal, take_refusal, place_of, take_of}
 use Rattle.grid.specs.Clauses.{lengths_refusal, CallFits}
 use Rattle.placing.specs.Clauses.{GridFits, AllFit}
 use Rattle.kinds.specs.Clauses.{Pairing, KindsFit}
@@ -85,16 +84,16 @@ size-refusal s = go (eqb (refusal s) 0) refl
     go true e = sym (eqb-true (refusal s) 0 e)
     go false e = refl
 
-module _ (s : Settings) (z : GridSizes) (e : z ≡ grid_sizes s) where
+module _ (s : Settings) (z : SizesYield) (e : z ≡ grid_sizes s) where
   is_refusal : z.refusal ≡ refusal s
-  is_refusal = ap (λ (y : GridSizes). y.refusal) e ∙ size-refusal s
+  is_refusal = ap (λ (y : SizesYield). y.refusal) e ∙ size-refusal s
 
   pub sized : z.refusal ≡ 0 → refusal s ≡ 0
   sized h = sym is_refusal ∙ h
 
   is_numbers : refusal s ≡ 0 → z.numbers ≡ grid_numbers s
   unfolding some_grid
-  is_numbers h = ap (λ (y : GridSizes). y.numbers) (e ∙ grid_accepts s h)
+  is_numbers h = ap (λ (y : SizesYield). y.numbers) (e ∙ grid_accepts s h)
 
   -- The number that is given, by the first test that fails.
   module _ (n f d m g : ℕ) where

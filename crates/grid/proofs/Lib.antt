@@ -2,4 +2,3 @@ pub mod Pairings
 pub mod Counts
 pub mod Accepts
 pub mod Inverses
-pub mod Stores

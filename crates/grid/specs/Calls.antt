@@ -5,7 +5,6 @@ use Rattle.settings.specs.declared.Settings.{Settings}
 use Rattle.settings.specs.Refusal.{first, refusal}
 use Rattle.settings.specs.Lengths.{n_sdc, n_sfa}
 use Rattle.settingbytes.specs.Numbers.{Numbers, yielded}
-use Rattle.grid.specs.declared.GridSizes.{GridSizes}
 use Rattle.kinds.specs.Carriers.{symbols, carriers}
 use Rattle.kinds.specs.Places.{places, grid_kinds}
 use Rattle.placing.specs.Cells.{Cells, placed, taken}
@@ -17,11 +16,18 @@ kinds s = grid_kinds s.mode s.occupancy
 unfoldable pub grid_numbers : Settings → ℕ
 grid_numbers s = 3 * places s.mode s.occupancy
 
+-- What the sizes of a grid yield: the answer, and the sizes.
+pub record SizesYield : Type 0 where
+  pub refusal : ℕ
+  pub symbols : ℕ
+  pub carriers : ℕ
+  pub numbers : ℕ
+
 -- Sizes: 0, the symbols of a super frame, the carriers of a symbol, the numbers of a grid; or the refusal 1 to 7 and zeros.
-unfoldable pub no_grid : ℕ → GridSizes
+unfoldable pub no_grid : ℕ → SizesYield
 no_grid r = record { refusal = r; symbols = 0; carriers = 0; numbers = 0 }
 
-unfoldable pub some_grid : Settings → GridSizes
+unfoldable pub some_grid : Settings → SizesYield
 some_grid s =
     record {
       refusal = 0;
@@ -30,11 +36,11 @@ some_grid s =
       numbers = grid_numbers s;
     }
 
-unfoldable pub grid_sizes : Settings → GridSizes
+unfoldable pub grid_sizes : Settings → SizesYield
 grid_sizes s = cond (eqb (refusal s) 0) (some_grid s) (no_grid (refusal s))
 
 -- Symbols of a super frame, carriers of a symbol, numbers of a grid; a refusal leaves the numbers as they were.
-unfoldable pub grid_sizes_into : GridSizes → List ℕ → Numbers
+unfoldable pub grid_sizes_into : SizesYield → List ℕ → Numbers
 grid_sizes_into z numbers =
     cond (eqb z.refusal 0) (yielded 0 (z.symbols ∷ z.carriers ∷ z.numbers ∷ [])) (yielded z.refusal numbers)
 

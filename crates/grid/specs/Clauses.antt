@@ -1,10 +1,13 @@
 -- What inner functions require and promise: nothing of 001 or 02 is stated here.
-use Rattle.std.specs.Prelude.{ℕ, ◌*◌, ◌≡◌, not, ◌&&◌, List, length, ℤ, eqb, ltb}
+use Rattle.std.specs.Prelude.{ℕ, ◌*◌, ◌≡◌, not, ◌&&◌, List, length, ℤ, eqb, ltb, Result, Ok, Err}
 use Rattle.settings.specs.declared.Settings.{Settings}
 use Rattle.settings.specs.Refusal.{first, refusal}
 use Rattle.settings.specs.Lengths.{n_sdc, n_sfa}
 use Rattle.placing.specs.Cells.{Cells}
-use Rattle.grid.specs.Calls.{grid_numbers, PlaceYield, TakeYield}
+use Rattle.refusal.specs.declared.Refusal.{Refusal}
+use Rattle.refusal.specs.Numbers.{number}
+use Rattle.grid.specs.declared.GridSizes.{GridSizes}
+use Rattle.grid.specs.Calls.{SizesYield, grid_numbers, PlaceYield, TakeYield}
 use Rattle.placing.specs.Clauses.{cells_from}
 
 -- The numbers of three FAC blocks of 65 cells.
@@ -25,6 +28,11 @@ pub record CallFits (s : Settings) (cells : Cells) (grid : List ℤ) : Type 0 wh
   pub sdc_long : length cells.sdc ≡ 2 * n_sdc s
   pub msc_long : length cells.msc ≡ 2 * n_sfa s
   pub grid_long : length grid ≡ grid_numbers s
+
+-- What the sizes yield, from their outcome.
+abbrev pub sizes_yield : Result GridSizes Refusal → SizesYield
+sizes_yield (Ok z) = record { refusal = 0; symbols = z.symbols; carriers = z.carriers; numbers = z.numbers }
+sizes_yield (Err r) = record { refusal = number r; symbols = 0; carriers = 0; numbers = 0 }
 
 -- Yields from their parts.
 abbrev pub place_yield : ℕ → List ℤ → PlaceYield

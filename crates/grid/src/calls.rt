@@ -1,74 +1,69 @@
 // The calls: sizes, place and take. 02, S-4.
 ghost use Rattle.std.specs.Prelude.{◌≡◌, length};
 ghost use Rattle.placing.specs.Cells.{placed, taken};
+ghost use Rattle.refusal.specs.Numbers.{answer, number};
 ghost use Rattle.settingbytes.specs.Numbers.{yielded};
 ghost use Rattle.grid.specs.Calls.{kinds, grid_sizes, grid_sizes_into, place_of, take_of};
-ghost use Rattle.grid.specs.Clauses.{lengths_refusal, CallFits, place_yield, take_yield};
+ghost use Rattle.grid.specs.Clauses.{lengths_refusal, CallFits, sizes_yield, place_yield, take_yield};
 ghost use Rattle.placing.specs.Clauses.{cells_from};
 
 use crate::GridSizes;
 use kinds::{rows, tables};
 use partlengths::tables::{FAC_NUMBERS, n_sdc, n_sfa};
 use placing::cells;
+use refusal::Refusal;
 use settings::{Settings, refusals};
 
 // The numbers of three FAC blocks.
 const FAC_LENGTH: usize = 3 * FAC_NUMBERS;
 
-// Symbols, carriers and numbers of a grid, 0 where the settings are refused.
-pub fn sizes(s: Settings) -> GridSizes
-    ensures { result ≡ grid_sizes s }
+// Symbols, carriers and numbers of a grid.
+#[tactic(auto, using(refusal::proofs::Positive::number_positive), unfolding(crate::specs::Calls::grid_sizes, crate::specs::Calls::no_grid))]
+pub fn sizes(s: Settings) -> Result<GridSizes, Refusal>
+    ensures { sizes_yield result ≡ grid_sizes s }
 {
-    let number = refusals::refusal(s);
-    if number != 0 {
-        return GridSizes {
-            refusal: number,
-            symbols: 0,
-            carriers: 0,
-            numbers: 0,
-        };
-    }
+    refusals::check(s)?;
     let symbols = 3 * tables::frame_symbols(s.mode);
     let carriers = tables::carriers(s.mode, s.occupancy);
-    GridSizes {
-        refusal: 0,
+    Ok(GridSizes {
         symbols: symbols as u32,
         carriers: carriers as u32,
         numbers: (3 * (symbols * carriers)) as u32,
-    }
+    })
 }
 
 // The sizes into the caller's numbers, which a refusal leaves as they were.
-pub fn put_grid_sizes(z: GridSizes, numbers: &mut [u32]) -> u8
+#[tactic(auto, using(refusal::proofs::Positive::number_positive), unfolding(crate::specs::Calls::grid_sizes_into))]
+pub fn put_grid_sizes(sizes: Result<GridSizes, Refusal>, numbers: &mut [u32]) -> Result<(), Refusal>
     requires { length numbers.old ≡ 3 }
-    ensures { yielded result numbers.new ≡ grid_sizes_into z numbers.old }
+    ensures { yielded (answer result) numbers.new ≡ grid_sizes_into (sizes_yield sizes) numbers.old }
 {
-    if z.refusal != 0 {
-        return z.refusal;
-    }
-    numbers[0] = z.symbols;
-    numbers[1] = z.carriers;
-    numbers[2] = z.numbers;
-    0
+    let z = sizes?;
+    numbers.copy_from_slice(&[z.symbols, z.carriers, z.numbers]);
+    Ok(())
 }
 
-// The lowest number that applies: 1 to 7, the number for cells of the wrong length, 17.
-fn refusal(s: Settings, number: u8, fac: usize, sdc: usize, msc: usize, grid: usize) -> u8
-    ensures { result ≡ lengths_refusal number s fac sdc msc grid }
+// Whether a call is refused: by 1 to 7, by the refusal for cells of the wrong length, or by 17, lowest number first.
+fn check(
+    s: Settings,
+    cells: Refusal,
+    fac: usize,
+    sdc: usize,
+    msc: usize,
+    grid: usize,
+) -> Result<(), Refusal>
+    ensures { answer result ≡ lengths_refusal (number cells) s fac sdc msc grid }
 {
-    let z = sizes(s);
-    if z.refusal != 0 {
-        return z.refusal;
-    }
+    let z = sizes(s)?;
     let sdc_fits = sdc == 2 * n_sdc(s.mode, s.occupancy);
     let msc_fits = msc == 2 * n_sfa(s.mode, s.occupancy);
     if !((fac == FAC_LENGTH) & (sdc_fits & msc_fits)) {
-        return number;
+        return Err(cells);
     }
     if grid != z.numbers as usize {
-        return 17;
+        return Err(Refusal::GridLength);
     }
-    0
+    Ok(())
 }
 
 // A byte for each place of the greatest grid.
@@ -101,26 +96,48 @@ fn take_accepted(s: Settings, grid: &[i16], fac: &mut [i16], sdc: &mut [i16], ms
 }
 
 // Cells onto a grid; a refusal leaves the grid as it was.
-pub fn place(s: Settings, fac: &[i16], sdc: &[i16], msc: &[i16], grid: &mut [i16]) -> u8
-    ensures { place_yield result grid.new ≡ place_of s (cells_from fac.now sdc.now msc.now) grid.old }
+#[tactic(auto, using(refusal::proofs::Positive::number_positive))]
+pub fn place(
+    s: Settings,
+    fac: &[i16],
+    sdc: &[i16],
+    msc: &[i16],
+    grid: &mut [i16],
+) -> Result<(), Refusal>
+    ensures { place_yield (answer result) grid.new ≡ place_of s (cells_from fac.now sdc.now msc.now) grid.old }
 {
-    let number = refusal(s, 9, fac.len(), sdc.len(), msc.len(), grid.len());
-    if number != 0 {
-        return number;
-    }
+    check(
+        s,
+        Refusal::InputLength,
+        fac.len(),
+        sdc.len(),
+        msc.len(),
+        grid.len(),
+    )?;
     place_accepted(s, fac, sdc, msc, grid);
-    0
+    Ok(())
 }
 
 // Cells off a grid; a refusal leaves the cells as they were.
-pub fn take(s: Settings, grid: &[i16], fac: &mut [i16], sdc: &mut [i16], msc: &mut [i16]) -> u8
-    ensures { take_yield result fac.new sdc.new msc.new
+#[tactic(auto, using(refusal::proofs::Positive::number_positive))]
+pub fn take(
+    s: Settings,
+    grid: &[i16],
+    fac: &mut [i16],
+    sdc: &mut [i16],
+    msc: &mut [i16],
+) -> Result<(), Refusal>
+    ensures { take_yield (answer result) fac.new sdc.new msc.new
         ≡ take_of s grid.now (cells_from fac.old sdc.old msc.old) }
 {
-    let number = refusal(s, 10, fac.len(), sdc.len(), msc.len(), grid.len());
-    if number != 0 {
-        return number;
-    }
+    check(
+        s,
+        Refusal::OutputLength,
+        fac.len(),
+        sdc.len(),
+        msc.len(),
+        grid.len(),
+    )?;
     take_accepted(s, grid, fac, sdc, msc);
-    0
+    Ok(())
 }

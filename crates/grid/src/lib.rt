@@ -4,10 +4,9 @@
 pub mod calls;
 pub mod theorems;
 
-// The answer of `sizes`: the refusal, or 0 and the symbols of a super frame, the carriers of a symbol and the numbers of a grid.
-#[derive(Clone, Copy)]
+// The symbols of a super frame, the carriers of a symbol and the numbers of a grid.
+#[derive(Clone, Copy, Debug, PartialEq, Eq)]
 pub struct GridSizes {
-    pub refusal: u8,
     pub symbols: u32,
     pub carriers: u32,
     pub numbers: u32,

@@ -6,8 +6,7 @@ use native.Mathlib.Omega.{arith}
 use lib.ListN.{length, take, drop, replicate, length-replicate}
 use lib.IntN.{ℤ, pos}
 use Rattle.settings.specs.declared.Settings.{Settings}
-use Rattle.settings.specs.declared.Sizes.{Sizes}
-use Rattle.settings.specs.Sizes.{sizes_of}
+use Rattle.settings.specs.Sizes.{SizesYield, sizes_of}
 use Rattle.superframe.specs.declared.State.{State}
 use Rattle.grid.specs.Calls.{grid_sizes, place_of, take_of}
 use Rattle.placing.specs.Clauses.{cells_from}
@@ -20,7 +19,7 @@ use Rattle.jobs.proofs.Rooms.{enough}
 use Rattle.jobs.proofs.Lengths.{grid_most}
 use Rattle.jobs.proofs.Fronts.{front_blank, front_long, past}
 
-pub place_called : (state : State) (z : Sizes) (memory : List ℕ) (cells grid : List ℤ) (bytes out : List ℕ) (n : ℕ) (y : JobYield) → z ≡ sizes_of state.scheme.settings → cells ≡ bytes_cells bytes
+pub place_called : (state : State) (z : SizesYield) (memory : List ℕ) (cells grid : List ℤ) (bytes out : List ℕ) (n : ℕ) (y : JobYield) → z ≡ sizes_of state.scheme.settings → cells ≡ bytes_cells bytes
     → grid ≡ replicate 62235 (pos 0) → n ≡ (grid_sizes state.scheme.settings).numbers
     → y ≡ grid_written (place_of state.scheme.settings (cells_from (take 390 cells) (take (390 + z.sdcnumbers - 390) (drop 390 cells)) (drop (390 + z.sdcnumbers) cells)) (take (n - 0) grid)) state memory out
     → y ≡ job_call Grid state memory bytes out
@@ -28,7 +27,7 @@ unfolding job_call cells_in
 place_called state z memory cells grid bytes out n y e f g k h =
     h ∙ rw (past 390 z.sdcnumbers, front_blank (pos 0) n 62235 grid g (rw k (grid_most state.scheme.settings)), f, e, k)
 
-pub take_called : (state : State) (z : Sizes) (memory : List ℕ) (fac sdc msc grid : List ℤ) (bytes out : List ℕ) (y : JobYield) → Enough z → z ≡ sizes_of state.scheme.settings → grid ≡ bytes_cells bytes
+pub take_called : (state : State) (z : SizesYield) (memory : List ℕ) (fac sdc msc grid : List ℤ) (bytes out : List ℕ) (y : JobYield) → Enough z → z ≡ sizes_of state.scheme.settings → grid ≡ bytes_cells bytes
     → fac ≡ replicate 390 (pos 0) → sdc ≡ replicate 1692 (pos 0) → msc ≡ replicate 36712 (pos 0)
     → y ≡ cells_written (take_of state.scheme.settings grid (cells_from fac (take (z.sdcnumbers - 0) sdc) (take (z.mscnumbers - 0) msc))) state memory out
     → y ≡ job_call Ungrid state memory bytes out
@@ -37,7 +36,7 @@ take_called state z memory fac sdc msc grid bytes out y h e f ef es em g =
     g ∙ rw (ef, front_blank (pos 0) z.sdcnumbers 1692 sdc es h.sdcnumbers, front_blank (pos 0) z.mscnumbers 36712 msc em h.mscnumbers, f, e)
 
 -- What the calls require of the buffers.
-pub place_room : (state : State) (z : Sizes) (bytes : List ℕ) (cells grid : List ℤ) (n : ℕ) (out : List ℕ) → Lent Grid state z bytes out → cells ≡ bytes_cells bytes
+pub place_room : (state : State) (z : SizesYield) (bytes : List ℕ) (cells grid : List ℤ) (n : ℕ) (out : List ℕ) → Lent Grid state z bytes out → cells ≡ bytes_cells bytes
     → grid ≡ replicate 62235 (pos 0) → n ≡ (grid_sizes state.scheme.settings).numbers → GridRoom (390 + z.sdcnumbers) cells (take (n - 0) grid) out
 unfolding input_length output_length cells_length grid_length
 place_room state z bytes cells grid n out p e g k =
@@ -48,7 +47,7 @@ place_room state z bytes cells grid n out p e g k =
       room = omega (arith, p.output, k, front_long (pos 0) n 62235 grid g (rw k (grid_most state.scheme.settings)));
     }
 
-pub take_room : (state : State) (z : Sizes) (bytes out : List ℕ) (fac sdc msc : List ℤ) → Lent Ungrid state z bytes out
+pub take_room : (state : State) (z : SizesYield) (bytes out : List ℕ) (fac sdc msc : List ℤ) → Lent Ungrid state z bytes out
     → fac ≡ replicate 390 (pos 0) → sdc ≡ replicate 1692 (pos 0) → msc ≡ replicate 36712 (pos 0)
     → 2 * length fac + 2 * length (take (z.sdcnumbers - 0) sdc) + 2 * length (take (z.mscnumbers - 0) msc) ≤ length out
 unfolding output_length cells_length

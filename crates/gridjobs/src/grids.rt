@@ -1,5 +1,6 @@
 // A super frame of the jobs `grid` and `ungrid`. 02, S-4.
-ghost use Rattle.std.specs.Prelude.{◌≡◌, List, ℕ, ◌+◌, ◌*◌, ◌-◌, ◌≤◌, length, take as List·take, drop};
+ghost use Rattle.std.specs.Prelude.{◌≡◌, List, ℕ, ◌+◌, ◌*◌, ◌-◌, ◌≤◌, length, take as List·take, drop, IfOk, Ok};
+ghost use Rattle.settings.specs.Sizes.{sizes_yield};
 ghost use Rattle.console.specs.declared.Job.{Job};
 ghost use Rattle.grid.specs.Calls.{place_of, take_of};
 ghost use Rattle.placing.specs.Clauses.{cells_from};
@@ -9,29 +10,28 @@ ghost use Rattle.jobs.specs.SuperFrame.{fac_cells_length, job_yield, answered, g
 
 use deskcells::numbers::put_cells;
 use grid::calls::{place, take};
-use jobs::buffers::numbers_in;
+use jobs::buffers::{MOST_GRID_NUMBERS, MOST_MSC_NUMBERS, MOST_SDC_NUMBERS, numbers_in};
 use jobs::sizes::{FAC_CELLS_LENGTH, grid_length};
 use jobs::written::{refused, write_cells};
 use jobs::{Step, buffers};
+use refusal::answer;
 use settings::Sizes;
 use superframe::State;
-use turns::Outcome;
 
 // What the output is after placing: the bytes of the grid, or nothing where the call was refused.
 fn write_grid(number: u8, state: State, grid: &[i16], out: &mut [u8]) -> Step
     requires { 2 * length grid.now ≤ length out.old }
     ensures by_index { (memory : List ℕ) → job_yield result memory out.new
         ≡ answered number state memory (cell_bytes grid.now) out.old }
-    ensures length_in_bounds { result.length ≤ length out.old }
+    ensures length_in_bounds { IfOk result.made (λ n. n ≤ length out.old) }
 {
     if number != 0 {
         return refused(number, state);
     }
     put_cells(grid, out, 0);
     Step {
-        outcome: Outcome::Through,
+        made: Ok(2 * grid.len()),
         state,
-        length: 2 * grid.len(),
     }
 }
 
@@ -45,27 +45,27 @@ fn place_with(state: State, cells: &[i16], at: usize, grid: &mut [i16], out: &mu
         (List·take (at - fac_cells_length) (drop fac_cells_length cells.now)) (drop at cells.now))
         grid.old)
         state memory out.old }
-    ensures length_in_bounds { result.length ≤ length out.old }
+    ensures length_in_bounds { IfOk result.made (λ n. n ≤ length out.old) }
 {
-    let number = place(
+    let number = answer(place(
         state.scheme.settings,
         &cells[0..FAC_CELLS_LENGTH],
         &cells[FAC_CELLS_LENGTH..at],
         &cells[at..],
         grid,
-    );
+    ));
     write_grid(number, state, grid, out)
 }
 
 // The job `grid` on buffers of the right lengths.
 pub fn place_bytes(state: State, z: Sizes, bytes: &[u8], out: &mut [u8]) -> Step
-    requires { Lent Job.Grid state z bytes.now out.old }
+    requires { Lent Job.Grid state (sizes_yield (Ok z)) bytes.now out.old }
     ensures by_index { (memory : List ℕ) → job_yield result memory out.new ≡ job_call Job.Grid state memory bytes.now out.old }
-    ensures length_in_bounds { result.length ≤ length out.old }
+    ensures length_in_bounds { IfOk result.made (λ n. n ≤ length out.old) }
 {
     let cells = numbers_in(bytes);
     let end = bytes.len() / 2;
-    let mut grid = buffers::numbers();
+    let mut grid = buffers::numbers::<MOST_GRID_NUMBERS>();
     let at = FAC_CELLS_LENGTH + z.sdcnumbers as usize;
     let n = grid_length(state.scheme.settings) / 2;
     place_with(state, &cells[0..end], at, &mut grid[0..n], out)
@@ -85,23 +85,23 @@ fn take_with(
         ≡ cells_written
         (take_of state.scheme.settings grid.now (cells_from fac.old sdc.old msc.old))
         state memory out.old }
-    ensures length_in_bounds { result.length ≤ length out.old }
+    ensures length_in_bounds { IfOk result.made (λ n. n ≤ length out.old) }
 {
-    let number = take(state.scheme.settings, grid, fac, sdc, msc);
+    let number = answer(take(state.scheme.settings, grid, fac, sdc, msc));
     write_cells(number, state, fac, sdc, msc, out)
 }
 
 // The job `ungrid` on buffers of the right lengths.
 pub fn take_bytes(state: State, z: Sizes, bytes: &[u8], out: &mut [u8]) -> Step
-    requires { Lent Job.Ungrid state z bytes.now out.old }
+    requires { Lent Job.Ungrid state (sizes_yield (Ok z)) bytes.now out.old }
     ensures by_index { (memory : List ℕ) → job_yield result memory out.new ≡ job_call Job.Ungrid state memory bytes.now out.old }
-    ensures length_in_bounds { result.length ≤ length out.old }
+    ensures length_in_bounds { IfOk result.made (λ n. n ≤ length out.old) }
 {
     let grid = numbers_in(bytes);
     let end = bytes.len() / 2;
-    let mut fac = buffers::fac_cells();
-    let mut sdc = buffers::sdc_cells();
-    let mut msc = buffers::msc_cells();
+    let mut fac = buffers::numbers::<FAC_CELLS_LENGTH>();
+    let mut sdc = buffers::numbers::<MOST_SDC_NUMBERS>();
+    let mut msc = buffers::numbers::<MOST_MSC_NUMBERS>();
     let n = z.sdcnumbers as usize;
     let m = z.mscnumbers as usize;
     take_with(

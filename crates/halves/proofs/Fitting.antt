@@ -1,10 +1,10 @@
 -- The call's refusals, and what it yields. Assumes nothing.
-use Prim.Native.Nat.{ℕ, ◌-◌, ◌*◌, ◌≤◌, ◌<◌}
+use Prim.Native.Nat.{ℕ, ◌-◌, ◌*◌, ◌≤◌}
 use mathlib.Core.Path.{◌≡◌, sym, ◌∙◌}
-use mathlib.Core.Bool.{Bool, true, false, not, ◌&&◌}
+use mathlib.Core.Bool.{Bool, true, false, not}
 use mathlib.Core.List.{List}
 use native.Mathlib.Omega.{arith}
-use borrow.Author.Tests.{lt-ltb, eq-eqb, ne_eqb, eqb-true, leb-true, le-leb, lt-leb, not-false}
+use borrow.Author.Tests.{lt-ltb, eq-eqb, ne_eqb, eqb-true, leb-true, not-false}
 use lib.ListN.{length}
 use lib.IntN.{ℤ}
 use lib.Dec.{eqb, leb, lit≤}
@@ -47,15 +47,6 @@ pub two_few : {bits cut n m : ℕ} → LongHalves bits cut n m → bits ≤ 3670
 unfolding bytes_for
 two_few L l = omega (arith, L.two_long, L.inside)
 
--- the test of the lengths, where the cut is above the frame's bits, and where it isn't
-pub above : (bits cut n m : ℕ) → bits < cut → false ≡ halves_long bits cut n m
-unfolding halves_long
-above bits cut n m h = rw (lt-leb cut bits h)
-
-pub below : (bits cut n m : ℕ) {a b : ℕ} → cut ≤ bits → a ≡ bytes_for cut → b ≡ bytes_for (bits - cut) → (eqb n a && eqb m b) ≡ halves_long bits cut n m
-unfolding halves_long
-below bits cut n m h e f = rw (e, f, le-leb cut bits h)
-
 module _ (s : Scheme) (cut : ℕ) (one two : List ℕ) (numbers : ℕ) where
   -- the refusals, from the tests that find them
   pub of_settings : {r : ℕ} → r ≡ scheme_refusal s → (r ≡ 0 → ⊥) → r ≡ halves_refusal s cut one two numbers
@@ -91,12 +82,8 @@ fit s cut one two cells h =
       cells_long = eqb-true (length cells) (2 * n_mux s.settings) (not-false _ (first_passes _ 10 _ (lit≤ tt) h₂));
     }
 
--- a call that is refused, and one that isn't
+-- a call that isn't refused
 module _ (s : Scheme) (cut : ℕ) (one two : List ℕ) (cells : List ℤ) {r : ℕ} (e : r ≡ halves_refusal s cut one two (length cells)) where
-  pub refused : (r ≡ 0 → ⊥) → halves_yield r cells ≡ halves_of s cut one two cells
-  unfolding halves_of
-  refused h = rw (← e, ne_eqb r 0 h)
-
   pub accepted : r ≡ 0 → {cells' : List ℤ} → cells' ≡ cells_of (msc_block s) (joined_bits s cut one two) → halves_yield 0 cells' ≡ halves_of s cut one two cells
   unfolding halves_of
   accepted z f = rw (← e, eq-eqb r 0 z, f)

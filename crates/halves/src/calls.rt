@@ -1,5 +1,6 @@
 // Two halves of a multiplex frame to its cells. 02, S-6.
 ghost use Rattle.std.specs.Prelude.{◌≡◌, ◌-◌, ◌≤◌, ◌++◌, length};
+ghost use Rattle.refusal.specs.Numbers.{answer};
 ghost use Rattle.block.specs.Packing.{unpacked};
 ghost use Rattle.block.specs.Dispersal.{dispersed_parts};
 ghost use Rattle.block.specs.Block.{cells_of};
@@ -11,42 +12,38 @@ use block::buffers::bit_buffer;
 use blockcoder::code::code_bits;
 use channels::Scheme;
 use channels::blocks::msc_block;
-use channels::tables::scheme_refusal;
+use channels::tables::check_scheme;
 use dispersal::parts::unpack_parts;
 use packing::bits::spare_zero;
 use partlengths::tables::n_mux;
+use refusal::Refusal;
 use settings::answers::{bytes_for, frame_bits};
 
 // Whether halves of so many bytes are those of a frame of `bits` bits that is cut at bit `cut`.
+#[tactic(auto, unfolding(crate::specs::Halves::halves_long))]
 fn halves_long(bits: usize, cut: usize, first: usize, second: usize) -> bool
     requires { bits ≤ 65535 }
     ensures { result ≡ halves_long bits cut first second }
 {
-    if bits < cut {
-        return false;
-    }
-    (first == bytes_for(cut)) & (second == bytes_for(bits - cut))
+    cut <= bits && first == bytes_for(cut) && second == bytes_for(bits - cut)
 }
 
-// 1 to 7, 23, 9, 10 and 11, in this order.
-fn halves_refusal(s: Scheme, cut: usize, first: &[u8], second: &[u8], numbers: usize) -> u8
-    ensures { result ≡ halves_refusal s cut first.now second.now numbers }
+// Whether halves are refused: by 1 to 7, 23, 9, 10 or 11, in this order.
+fn check(s: Scheme, cut: usize, first: &[u8], second: &[u8], numbers: usize) -> Result<(), Refusal>
+    ensures { answer result ≡ halves_refusal s cut first.now second.now numbers }
 {
-    let number = scheme_refusal(s);
-    if number != 0 {
-        return number;
-    }
+    check_scheme(s)?;
     let bits = frame_bits(s.settings);
     if !halves_long(bits, cut, first.len(), second.len()) {
-        return 9;
+        return Err(Refusal::InputLength);
     }
     if numbers != 2 * n_mux(s.settings.mode, s.settings.occupancy) {
-        return 10;
+        return Err(Refusal::OutputLength);
     }
     if !(spare_zero(first, cut) & spare_zero(second, bits - cut)) {
-        return 11;
+        return Err(Refusal::SpareBit);
     }
-    0
+    Ok(())
 }
 
 // The halves treated one after the other: the second goes on where the first ends.
@@ -72,13 +69,17 @@ fn code_accepted(s: Scheme, cut: usize, first: &[u8], second: &[u8], out: &mut [
 }
 
 // The cells of a multiplex frame whose bits below `cut` are in the first half and whose others are in the second, each packed from the start of a byte.
-pub fn code_halves(s: Scheme, cut: usize, first: &[u8], second: &[u8], out: &mut [i16]) -> u8
-    ensures { halves_yield result out.new ≡ halves_of s cut first.now second.now out.old }
+#[tactic(auto, using(refusal::proofs::Positive::number_positive), unfolding(crate::specs::Halves::halves_of))]
+pub fn code_halves(
+    s: Scheme,
+    cut: usize,
+    first: &[u8],
+    second: &[u8],
+    out: &mut [i16],
+) -> Result<(), Refusal>
+    ensures { halves_yield (answer result) out.new ≡ halves_of s cut first.now second.now out.old }
 {
-    let number = halves_refusal(s, cut, first, second, out.len());
-    if number != 0 {
-        return number;
-    }
+    check(s, cut, first, second, out.len())?;
     code_accepted(s, cut, first, second, out);
-    0
+    Ok(())
 }

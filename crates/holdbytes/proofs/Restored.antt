@@ -3,7 +3,13 @@ use Prim.Native.Nat.{ℕ}
 use mathlib.Core.Path.{◌≡◌}
 use mathlib.Core.List.{List}
 use lib.ListN.{length}
-use borrow.Author.Tests.{eq-eqb}
+use native.Mathlib.Omega.{arith}
+use borrow.Author.Tests.{eq-eqb, ne_eqb}
+use Rattle.std.proofs.Common.{Err}
+use Rattle.refusal.specs.declared.Refusal.{Refusal}
+use Rattle.refusal.specs.Numbers.{number}
+use Rattle.refusal.proofs.Positive.{number_positive}
+use Rattle.superframe.specs.Answers.{done}
 use Rattle.settings.specs.declared.Settings.{Settings}
 use Rattle.channels.specs.Scheme.{scheme_of}
 use Rattle.superframe.specs.declared.State.{State}
@@ -28,3 +34,8 @@ pub restore_right : (form : Form) (state settings table file memory : List ℕ) 
 unfolding restore_bytes reset_answered
 restore_right form state settings table file memory old s y r state' hs ht eo es ey er e' =
     rw (er, e', ey, es, eo) (both_right _ _ _ _ _ _ hs ht)
+
+-- A refusal leaves the bytes of the state.
+pub state_kept : (old : State) (r : Refusal) (state : List ℕ) → state ≡ state_after (done old (Err r)) state
+unfolding state_after
+state_kept old r state = rw (ne_eqb (number r) 0 (λ e. omega (arith, e, number_positive r)))

@@ -4,25 +4,19 @@ use mathlib.Core.Path.{◌≡◌}
 use mathlib.Core.List.{List, [], ◌∷◌}
 use lib.ListN.{length}
 use lib.Seq.{sets}
-use borrow.Author.Tests.{eq-eqb, ne_eqb}
+use borrow.Author.Tests.{eq-eqb}
 use Rattle.lists.proofs.Parts.{sets-whole}
 use Rattle.settings.specs.declared.Settings.{Settings}
 use Rattle.settingbytes.specs.Bytes.{settings_of}
 use Rattle.settingbytes.specs.Numbers.{Numbers, yielded}
 use Rattle.settingbytes.proofs.TwoLengths.{both_right}
-use Rattle.holdfile.specs.declared.FileSizes.{FileSizes}
-use Rattle.holdfile.specs.Convert.{file_sizes_of}
+use Rattle.holdfile.specs.Convert.{SizesYield, file_sizes_of}
 use Rattle.holdbytes.specs.Holds.{file_sizes_into, hold_sizes_bytes}
 
-pub hold_sizes_stored : (z : FileSizes) (d : List ℕ) → z.refusal ≡ 0 → length d ≡ 2 → yielded 0 (sets d 0 (z.old ∷ z.new ∷ [])) ≡ file_sizes_into z d
+pub hold_sizes_stored : (z : SizesYield) (d : List ℕ) → z.refusal ≡ 0 → length d ≡ 2 → yielded 0 (sets d 0 (z.old ∷ z.new ∷ [])) ≡ file_sizes_into z d
 unfolding file_sizes_into
 hold_sizes_stored z d e h = rw (eq-eqb z.refusal 0 e, sets-whole d (z.old ∷ z.new ∷ []) h)
 
-pub hold_sizes_refused : (z : FileSizes) (d : List ℕ) → (z.refusal ≡ 0 → ⊥) → yielded z.refusal d ≡ file_sizes_into z d
-unfolding file_sizes_into
-hold_sizes_refused z d h = rw (ne_eqb z.refusal 0 h)
-
-pub hold_sizes_right : (s d : List ℕ) (t : Settings) (z : FileSizes) (y : Numbers) → length s ≡ 10 → length d ≡ 2 → t ≡ settings_of s → z ≡ file_sizes_of t
-    → y ≡ file_sizes_into z d → y ≡ hold_sizes_bytes s d
+pub hold_sizes_right : (s d : List ℕ) (t : Settings) (y : Numbers) → length s ≡ 10 → length d ≡ 2 → t ≡ settings_of s → y ≡ file_sizes_into (file_sizes_of t) d → y ≡ hold_sizes_bytes s d
 unfolding hold_sizes_bytes
-hold_sizes_right s d t z y hs hd et ez ey = rw (ey, ez, et) (both_right _ _ _ _ _ _ hs hd)
+hold_sizes_right s d t y hs hd et ey = rw (ey, et) (both_right _ _ _ _ _ _ hs hd)

@@ -1,13 +1,12 @@
 -- What the calls on hold files yield, by the calls on settings. 02, S-7.
 use Rattle.std.specs.Prelude.{ℕ, cond, ◌&&◌, List, [], ◌∷◌, length, eqb}
 use Rattle.holdlines.specs.declared.Form.{Form}
-use Rattle.holdfile.specs.declared.FileSizes.{FileSizes}
-use Rattle.holdfile.specs.Convert.{ConvertYield, convert_yield, convert_of, file_sizes_of}
+use Rattle.holdfile.specs.Convert.{SizesYield, ConvertYield, convert_yield, convert_of, file_sizes_of}
 use Rattle.statebytes.specs.Bytes.{settings_of}
 use Rattle.settingbytes.specs.Numbers.{Numbers, yielded}
 
 -- The bytes of an old and of a new file; a refusal leaves the numbers as they were.
-unfoldable pub file_sizes_into : FileSizes → List ℕ → Numbers
+unfoldable pub file_sizes_into : SizesYield → List ℕ → Numbers
 file_sizes_into z numbers =
     cond (eqb z.refusal 0) (yielded 0 (z.old ∷ z.new ∷ [])) (yielded z.refusal numbers)
 

@@ -1,32 +1,33 @@
 // The sizes of hold files, and turning one form into the other, with the bytes that a caller lends. 02, S-7.
 ghost use Rattle.std.specs.Prelude.{◌≡◌, length};
-ghost use Rattle.holdfile.specs.Convert.{convert_yield};
+ghost use Rattle.refusal.specs.Numbers.{answer};
+ghost use Rattle.holdfile.specs.Convert.{convert_yield, file_sizes_yield};
 ghost use Rattle.settingbytes.specs.Numbers.{yielded};
 ghost use Rattle.holdbytes.specs.Holds.{file_sizes_into, convert_bytes};
 
 use holdfile::{FileSizes, convert};
 use holdlines::Form;
+use refusal::Refusal;
 use settingbytes::bytes::settings_of;
 
-// The sizes into the caller's numbers, which a refusal leaves as they were.
-pub fn put_hold_sizes(z: FileSizes, numbers: &mut [u32]) -> u8
+// The sizes of files into the caller's numbers, which a refusal leaves as they were.
+#[tactic(auto, using(refusal::proofs::Positive::number_positive), unfolding(crate::specs::Holds::file_sizes_into))]
+pub fn put_hold_sizes(sizes: Result<FileSizes, Refusal>, numbers: &mut [u32]) -> Result<(), Refusal>
     requires { length numbers.old ≡ 2 }
-    ensures { yielded result numbers.new ≡ file_sizes_into z numbers.old }
+    ensures { yielded (answer result) numbers.new ≡ file_sizes_into (file_sizes_yield sizes) numbers.old }
 {
-    if z.refusal != 0 {
-        return z.refusal;
-    }
-    numbers[0] = z.old;
-    numbers[1] = z.new;
-    0
+    let sizes = sizes?;
+    numbers[0] = sizes.old;
+    numbers[1] = sizes.new;
+    Ok(())
 }
 
 // A file of either form to the other.
-pub fn convert_file(form: Form, settings: &[u8], file: &[u8], out: &mut [u8]) -> u8
-    ensures { convert_yield result out.new ≡ convert_bytes form settings.now file.now out.old }
+pub fn convert_file(form: Form, settings: &[u8], file: &[u8], out: &mut [u8]) -> Result<(), Refusal>
+    ensures { convert_yield (answer result) out.new ≡ convert_bytes form settings.now file.now out.old }
 {
     if settings.len() != 10 {
-        return 255;
+        return Err(Refusal::FixedLength);
     }
     convert::convert(form, settings_of(settings), file, out)
 }

@@ -1,6 +1,7 @@
 // Storing a state and its memory in a hold file, and restoring them, with the bytes that a caller lends. 02, S-7 and S-11.
 ghost use Rattle.std.specs.Prelude.{◌≡◌};
 ghost use Rattle.patterns.specs.Patterns.{table65};
+ghost use Rattle.refusal.specs.Numbers.{answer};
 ghost use Rattle.holdfile.specs.Convert.{convert_yield};
 ghost use Rattle.statebytes.specs.Answers.{reset_yields};
 ghost use Rattle.holdbytes.specs.Restores.{store_bytes, restore_bytes};
@@ -9,16 +10,16 @@ use holdcalls::restore::restore_table;
 use holdcalls::store::store;
 use holdlines::Form;
 use patterns::table::standard_table;
+use refusal::Refusal;
 use settingbytes::bytes::settings_of;
-use statebytes::answers::finish;
-use statebytes::bytes::state_of;
+use statebytes::bytes::{put_state, state_of};
 
 // A state and its memory to a file of a form.
-pub fn store_bytes(form: Form, state: &[u8], memory: &[u8], file: &mut [u8]) -> u8
-    ensures { convert_yield result file.new ≡ store_bytes form state.now memory.now file.old }
+pub fn store_bytes(form: Form, state: &[u8], memory: &[u8], file: &mut [u8]) -> Result<(), Refusal>
+    ensures { convert_yield (answer result) file.new ≡ store_bytes form state.now memory.now file.old }
 {
     if state.len() != 208 {
-        return 255;
+        return Err(Refusal::FixedLength);
     }
     store(form, state_of(state), memory, file)
 }
@@ -31,25 +32,16 @@ pub fn restore_bytes(
     table: &[u8],
     file: &[u8],
     memory: &mut [u8],
-) -> u8
-    ensures { reset_yields result state.new memory.new
+) -> Result<(), Refusal>
+    ensures { reset_yields (answer result) state.new memory.new
         ≡ restore_bytes form state.old settings.now table.now file.now memory.old }
 {
-    if state.len() != 208 {
-        return 255;
+    if state.len() != 208 || settings.len() != 10 {
+        return Err(Refusal::FixedLength);
     }
-    if settings.len() != 10 {
-        return 255;
-    }
-    let done = restore_table(
-        form,
-        state_of(state),
-        settings_of(settings),
-        table,
-        file,
-        memory,
-    );
-    finish(done, state)
+    let after = restore_table(form, settings_of(settings), table, file, memory)?;
+    put_state(after, state);
+    Ok(())
 }
 
 // The same with the standard's table.
@@ -59,10 +51,9 @@ pub fn restore_standard(
     settings: &[u8],
     file: &[u8],
     memory: &mut [u8],
-) -> u8
-    ensures { reset_yields result state.new memory.new
+) -> Result<(), Refusal>
+    ensures { reset_yields (answer result) state.new memory.new
         ≡ restore_bytes form state.old settings.now table65 file.now memory.old }
 {
-    let table = standard_table();
-    restore_bytes(form, state, settings, &table, file, memory)
+    restore_bytes(form, state, settings, &standard_table(), file, memory)
 }

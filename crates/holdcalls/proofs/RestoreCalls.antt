@@ -28,6 +28,11 @@ use Rattle.holdwriting.specs.Clauses.{held_from}
 use Rattle.holdlines.specs.Clauses.{digit_or}
 use Rattle.holdreading.proofs.Valid.{valid_long, three_bytes}
 use Rattle.holdfile.proofs.Turning.{held_memory}
+use Rattle.std.proofs.Common.{Err}
+use Rattle.refusal.specs.declared.Refusal.{Refusal}
+use Rattle.refusal.specs.Numbers.{number}
+use Rattle.refusal.proofs.Positive.{number_positive}
+use Rattle.superframe.specs.Answers.{done}
 use Rattle.holdcalls.specs.Restore.{restore_refusal, held_state, restore_yield, restore_of}
 use Rattle.holdcalls.specs.Clauses.{MemoryTaken}
 use Rattle.holdcalls.proofs.StoreCalls.{reset_chain, early_fits}
@@ -59,10 +64,6 @@ module _ (form : Form) (old : State) (s : Scheme) (file memory : List ℕ) where
 
   -- The refusals in order.
   module _ (n : ℕ) (g : n ≡ reset_refusal s memory) where
-    pub refused_early : (n ≡ 0 → ⊥) → restore_yield (record { refusal = n; state = old }) memory ≡ restore_of form old s file memory
-    refused_early h =
-        sym (restore_refuses n (restore_then ∙ sym (then_stops s memory true true n (reset_chain s memory n g) _ h)) (omega arith))
-
     -- An accepted table has 196 numbers, and memory its settings' length.
     pub table_long : n ≡ 0 → length s.table ≡ 196
     table_long h = long (scheme-accepted s (early_fits s memory n g h).scheme).table
@@ -104,3 +105,11 @@ module _ (form : Form) (old : State) (s : Scheme) (file memory : List ℕ) where
           ap (λ x. restore_yield (record { refusal = 0; state = x }) after) (restored-state c p q f e d k)
           ∙ ap (restore_yield (record { refusal = 0; state = held_state s (held_in form s.settings file) })) (t.cells f)
           ∙ sym (restore_accepts (restore_rest ∙ rw f))
+
+-- A refusal before the file is looked at.
+pub refused_early : (form : Form) (old : State) (s : Scheme) (file memory : List ℕ) (r : Refusal) → number r ≡ reset_refusal s memory
+    → restore_yield (done old (Err r)) memory ≡ restore_of form old s file memory
+refused_early form old s file memory r g =
+    sym (restore_refuses form old s file memory (number r)
+    (restore_then form old s file memory ∙ sym (then_stops s memory true true (number r) (reset_chain s memory (number r) g) _ (λ e. omega (arith, e, number_positive r))))
+    (number_positive r))

@@ -5,7 +5,7 @@ use Rattle.channels.specs.declared.Scheme.{Scheme}
 use Rattle.channels.specs.Scheme.{scheme_refusal}
 use Rattle.cellbytes.specs.CellBytes.{bytes}
 use Rattle.superframe.specs.declared.State.{State}
-use Rattle.superframe.specs.declared.Done.{Done}
+use Rattle.superframe.specs.Answers.{Done}
 use Rattle.superframe.specs.Call.{memory_length}
 use Rattle.superframe.specs.Reset.{ResetYield}
 use Rattle.holdlines.specs.declared.Form.{Form}

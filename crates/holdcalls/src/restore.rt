@@ -4,19 +4,21 @@ ghost use Rattle.settings.specs.Accepted.{Accepted};
 ghost use Rattle.settings.specs.Lengths.{n_mux};
 ghost use Rattle.settings.specs.Sizes.{depth};
 ghost use Rattle.channels.specs.Scheme.{scheme_of, standard_scheme};
+ghost use Rattle.superframe.specs.declared.State.{State};
+ghost use Rattle.superframe.specs.Answers.{done};
 ghost use Rattle.holdcalls.specs.Restore.{restore_yield, restore_of};
 ghost use Rattle.holdcalls.specs.Clauses.{MemoryRoom, MemoryTaken};
 
-use callrefusals::refusal::reset_refusal;
+use callrefusals::refusals::check_reset;
 use cellmemory::buffers::memory_buffer;
 use channels::tables::scheme_of;
 use holdlines::Form;
 use holdlines::digits::digit_or;
 use holdreading::reading::take_file;
-use lists::bytes::copy;
 use patterns::table::standard_table;
+use refusal::Refusal;
 use settings::Settings;
-use superframe::{Done, State};
+use superframe::State;
 
 // The cells of a file into memory, if it is valid, by way of a working memory.
 fn take_in(form: Form, s: Settings, file: &[u8], work: &mut [u8], memory: &mut [u8]) -> bool
@@ -26,7 +28,7 @@ fn take_in(form: Form, s: Settings, file: &[u8], work: &mut [u8], memory: &mut [
     if !take_file(form, s, file, work) {
         return false;
     }
-    copy(work, memory);
+    memory.copy_from_slice(work);
     true
 }
 
@@ -39,46 +41,33 @@ fn take_memory(form: Form, s: Settings, file: &[u8], memory: &mut [u8]) -> bool
     take_in(form, s, file, &mut work[0..n], memory)
 }
 
-// Acceptance takes settings and table, and position, count and cells of the file; a refusal gives the old state back and leaves memory.
+// Acceptance takes settings and table, and position, count and cells of the file; a refusal leaves memory, and the caller keeps the old state.
+#[tactic(auto, using(crate::proofs::RestoreCalls::refused_early))]
 pub fn restore_table(
     form: Form,
-    old: State,
     s: Settings,
     table: &[u8],
     file: &[u8],
     memory: &mut [u8],
-) -> Done
-    ensures { restore_yield result memory.new
+) -> Result<State, Refusal>
+    ensures { (old : State) → restore_yield (done old result) memory.new
         ≡ restore_of form old (scheme_of s table.now) file.now memory.old }
 {
-    let number = reset_refusal(s, table, memory);
-    if number != 0 {
-        return Done {
-            refusal: number,
-            state: old,
-        };
-    }
+    check_reset(s, table, memory)?;
     if !take_memory(form, s, file, memory) {
-        return Done {
-            refusal: 18,
-            state: old,
-        };
+        return Err(Refusal::HoldFile);
     }
-    Done {
-        refusal: 0,
-        state: State {
-            scheme: scheme_of(s, table),
-            position: digit_or(file[0]),
-            count: digit_or(file[1]),
-        },
-    }
+    Ok(State {
+        scheme: scheme_of(s, table),
+        position: digit_or(file[0]),
+        count: digit_or(file[1]),
+    })
 }
 
 // The same with the standard's table.
-pub fn restore(form: Form, old: State, s: Settings, file: &[u8], memory: &mut [u8]) -> Done
-    ensures { restore_yield result memory.new
+pub fn restore(form: Form, s: Settings, file: &[u8], memory: &mut [u8]) -> Result<State, Refusal>
+    ensures { (old : State) → restore_yield (done old result) memory.new
         ≡ restore_of form old (standard_scheme s) file.now memory.old }
 {
-    let table = standard_table();
-    restore_table(form, old, s, &table, file, memory)
+    restore_table(form, s, &standard_table(), file, memory)
 }

@@ -202,10 +202,6 @@ module _ (form : Form) (s : Settings) (file out : List ℕ) where
   unfolding convert_of
   refused_by r e n = rw (e, ne_eqb r 0 n)
 
-  pub refused_settings : (r : ℕ) → r ≡ refusal s → (r ≡ 0 → ⊥) → convert_yield r out ≡ convert_of form s file out
-  unfolding convert_refusal first
-  refused_settings r e n = refused_by r (rw (← e, lt-ltb 0 r (omega (arith, n)))) n
-
   pub refused_room : refusal s ≡ 0 → (length out ≡ file_length (other form) s → ⊥) → convert_yield 10 out ≡ convert_of form s file out
   unfolding convert_refusal first
   refused_room e n = refused_by 10 (rw (e, ne_eqb (length out) (file_length (other form) s) n)) (λ z. omega arith)
@@ -222,10 +218,6 @@ module _ (form : Form) (s : Settings) (file out : List ℕ) where
     file_turned f = rw (e, eq-eqb (length out) (file_length (other form) s) l, sym t.test ∙ f) (ap (convert_yield 0) (t.turned f))
 
 -- the bytes of files
-pub sizes_refused : (s : Settings) (r : ℕ) → r ≡ refusal s → (r ≡ 0 → ⊥) → record { refusal = r; old = 0; new = 0 } ≡ file_sizes_of s
-unfolding file_sizes_of
-sizes_refused s r e n = rw (← e, ne_eqb r 0 n)
-
 pub sizes_found : (s : Settings) (old new : ℕ) → refusal s ≡ 0 → old ≡ file_length Old s → new ≡ file_length New s
     → record { refusal = 0; old = old; new = new } ≡ file_sizes_of s
 unfolding file_sizes_of

@@ -1,5 +1,7 @@
 -- The calls that turn a file into the other form, and the bytes of files. 02, S-7.
-use Rattle.std.specs.Prelude.{ℕ, cond, not, List, length, eqb, ltb}
+use Rattle.std.specs.Prelude.{ℕ, Result, Ok, Err, cond, not, List, length, eqb, ltb}
+use Rattle.refusal.specs.declared.Refusal.{Refusal}
+use Rattle.refusal.specs.Numbers.{number}
 use Rattle.settings.specs.declared.Settings.{Settings}
 use Rattle.settings.specs.Refusal.{first, refusal}
 use Rattle.holdlines.specs.declared.Form.{Form}
@@ -33,8 +35,19 @@ convert_of form s file out =
     cond (eqb (convert_refusal form s file out) 0) (convert_yield 0 (file_of (other form) s (held_in form s file)))
     (convert_yield (convert_refusal form s file out) out)
 
+-- The answer of sizes: 0 and the bytes of both files, or the refusal and two zeros.
+pub record SizesYield : Type 0 where
+  pub refusal : ℕ
+  pub old : ℕ
+  pub new : ℕ
+
 -- The bytes of an old and of a new file, 0 where the settings are refused.
-unfoldable pub file_sizes_of : Settings → FileSizes
+unfoldable pub file_sizes_of : Settings → SizesYield
 file_sizes_of s =
     cond (eqb (refusal s) 0) (record { refusal = 0; old = file_length Old s; new = file_length New s })
     (record { refusal = refusal s; old = 0; new = 0 })
+
+-- What a result of the call answers.
+abbrev pub file_sizes_yield : Result FileSizes Refusal → SizesYield
+file_sizes_yield (Ok z) = record { refusal = 0; old = z.old; new = z.new }
+file_sizes_yield (Err r) = record { refusal = number r; old = 0; new = 0 }

@@ -1,9 +1,10 @@
 // The calls that turn a file into the other form, and the bytes of files. 02, S-7.
 ghost use Rattle.std.specs.Prelude.{◌≡◌, length};
 ghost use Rattle.lists.specs.Buffers.{Long};
+ghost use Rattle.refusal.specs.Numbers.{answer};
 ghost use Rattle.settings.specs.Accepted.{Accepted};
 ghost use Rattle.holdlines.specs.Files.{file_of, held_in, file_length};
-ghost use Rattle.holdfile.specs.Convert.{other, convert_yield, convert_of, file_sizes_of};
+ghost use Rattle.holdfile.specs.Convert.{other, convert_yield, convert_of, file_sizes_yield, file_sizes_of};
 ghost use Rattle.holdfile.specs.Clauses.{Turnable, TurnRoom, Turned};
 
 use crate::FileSizes;
@@ -13,26 +14,20 @@ use holdlines::digits::digit_or;
 use holdlines::lengths::file_bytes;
 use holdreading::reading::take_file;
 use holdwriting::writing::put_file;
-use settings::refusals::refusal;
+use refusal::Refusal;
+use settings::refusals::check;
 use settings::{Settings, answers};
 
-// The bytes of an old and of a new file, 0 where the settings are refused.
-pub fn sizes(s: Settings) -> FileSizes
-    ensures { result ≡ file_sizes_of s }
+// The bytes of an old and of a new file.
+#[tactic(auto, using(refusal::proofs::Positive::number_positive), unfolding(crate::specs::Convert::file_sizes_of))]
+pub fn sizes(s: Settings) -> Result<FileSizes, Refusal>
+    ensures { file_sizes_yield result ≡ file_sizes_of s }
 {
-    let number = refusal(s);
-    if number != 0 {
-        return FileSizes {
-            refusal: number,
-            old: 0,
-            new: 0,
-        };
-    }
-    FileSizes {
-        refusal: 0,
+    check(s)?;
+    Ok(FileSizes {
         old: file_bytes(Form::Old, s) as u32,
         new: file_bytes(Form::New, s) as u32,
-    }
+    })
 }
 
 // Memory of the largest settings: five slots.
@@ -89,18 +84,16 @@ fn turn_file(form: Form, s: Settings, file: &[u8], out: &mut [u8]) -> bool
 }
 
 // The other form of a file.
-pub fn convert(form: Form, s: Settings, file: &[u8], out: &mut [u8]) -> u8
-    ensures { convert_yield result out.new ≡ convert_of form s file.now out.old }
+#[tactic(auto, using(refusal::proofs::Positive::number_positive), unfolding(crate::specs::Convert::convert_refusal, crate::specs::Convert::convert_of, settings::specs::Refusal::first))]
+pub fn convert(form: Form, s: Settings, file: &[u8], out: &mut [u8]) -> Result<(), Refusal>
+    ensures { convert_yield (answer result) out.new ≡ convert_of form s file.now out.old }
 {
-    let number = refusal(s);
-    if number != 0 {
-        return number;
-    }
+    check(s)?;
     if out.len() != file_bytes(other_form(form), s) {
-        return 10;
+        return Err(Refusal::OutputLength);
     }
     if !turn_file(form, s, file, out) {
-        return 18;
+        return Err(Refusal::HoldFile);
     }
-    0
+    Ok(())
 }

@@ -4,10 +4,9 @@
 pub mod convert;
 pub mod theorems;
 
-// The bytes of an old and of a new file, with the refusal of the settings.
+// The bytes of an old and of a new file.
 #[derive(Clone, Copy)]
 pub struct FileSizes {
-    pub refusal: u8,
     pub old: u32,
     pub new: u32,
 }

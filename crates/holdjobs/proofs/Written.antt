@@ -1,11 +1,11 @@
 -- What calls leave of the front of a buffer. Assumes nothing.
-use Prim.Native.Nat.{ℕ, ◌-◌, ◌≤◌, ◌<◌, min}
+use Prim.Native.Nat.{ℕ, ◌-◌, ◌≤◌, min}
 use mathlib.Core.Path.{◌≡◌, refl, sym, ap, ap₂, ◌∙◌}
 use mathlib.Core.Bool.{Bool, true, false, cond}
 use mathlib.Core.Logic.{inl, inr}
 use mathlib.Core.List.{List, ◌++◌}
 use native.Mathlib.Omega.{arith}
-use borrow.Author.Tests.{eq-eqb, ne_eqb, eqb-false}
+use borrow.Author.Tests.{eqb-false}
 use lib.ListN.{length, take, drop, take-append-drop}
 use lib.Seq.{take_all}
 use lib.Dec.{eqb}
@@ -13,15 +13,15 @@ use Rattle.lists.proofs.Counting.{below_or}
 use Rattle.lists.proofs.Parts.{length-start, stored-front}
 use Rattle.settings.specs.declared.Settings.{Settings}
 use Rattle.superframe.specs.declared.State.{State}
-use Rattle.holdfile.specs.declared.FileSizes.{FileSizes}
 use Rattle.holdlines.specs.declared.Form.{Form}
 use Rattle.holdlines.specs.declared.Form.TheVariants.{New}
-use Rattle.holdfile.specs.Convert.{ConvertYield, convert_yield, other, convert_refusal, convert_of, file_sizes_of}
+use Rattle.holdfile.specs.Convert.{ConvertYield, convert_yield, other, convert_refusal, convert_of}
 use Rattle.holdlines.specs.Files.{file_of, held_in}
 use Rattle.holdcalls.specs.Store.{held_of, store_refusal, store_of}
-use Rattle.turns.specs.declared.Made.{Made}
+use Rattle.std.specs.Prelude.{Result, IfOk}
+use Rattle.turns.specs.declared.Failure.{Failure}
 use Rattle.turns.specs.Yield.{made_yield, made_through, made_refused, through, refused, answered}
-use Rattle.holdjobs.specs.Files.{size_in, file_bytes, made_by, written, turned_of, stored_of}
+use Rattle.holdjobs.specs.Files.{file_bytes, made_by, written, turned_of, stored_of}
 
 -- The front of a buffer, or all of it where it is shorter.
 least_front : (n m : ℕ) (l : List ℕ) → n ≡ min (length l) m → take (n - 0) l ≡ take m l
@@ -58,12 +58,12 @@ module _ (number : ℕ) (part out : List ℕ) (n : ℕ) (low : n ≤ length out)
       ap (λ o. made_yield (made_refused number) o)
       (ap (λ p. p ++ drop (n - 0) out) (kept (eqb-false number 0 t)) ∙ take-append-drop (n - 0) out)
 
-  pub made-written : (made : Made) → made ≡ made_by number n → made_yield made (part ++ drop (n - 0) out) ≡ written (convert_yield number part) out
+  pub made-written : (made : Result ℕ Failure) → made ≡ made_by number n → made_yield made (part ++ drop (n - 0) out) ≡ written (convert_yield number part) out
   unfolding made_by written answered
   made-written made e = ap (λ m. made_yield m (part ++ drop (n - 0) out)) e ∙ by_number (eqb number 0) refl
 
 -- A file in its other form, and the file of a run.
-pub turned : (from to : Form) (s : Settings) (file out : List ℕ) (n number : ℕ) (part : List ℕ) (made : Made) → n ≡ min (length out) (file_bytes to s)
+pub turned : (from to : Form) (s : Settings) (file out : List ℕ) (n number : ℕ) (part : List ℕ) (made : Result ℕ Failure) → n ≡ min (length out) (file_bytes to s)
     → convert_yield number part ≡ convert_of from s file (take (n - 0) out) → length part ≡ length (take (n - 0) out) → made ≡ made_by number n
     → made_yield made (part ++ drop (n - 0) out) ≡ turned_of from to s file out
 unfolding turned_of
@@ -71,7 +71,7 @@ turned from to s file out n number part made en e long em =
     made-written number part out n (omega (arith, en)) long (convert_keeps from s file (take (n - 0) out) number part e) made em
     ∙ ap (λ y. written y out) (e ∙ ap (convert_of from s file) (least_front n (file_bytes to s) out en))
 
-pub stored : (state : State) (memory out : List ℕ) (n number : ℕ) (part : List ℕ) (made : Made) → n ≡ min (length out) (file_bytes New state.scheme.settings)
+pub stored : (state : State) (memory out : List ℕ) (n number : ℕ) (part : List ℕ) (made : Result ℕ Failure) → n ≡ min (length out) (file_bytes New state.scheme.settings)
     → convert_yield number part ≡ store_of New state memory (take (n - 0) out) → length part ≡ length (take (n - 0) out) → made ≡ made_by number n
     → made_yield made (part ++ drop (n - 0) out) ≡ stored_of state memory out
 unfolding stored_of
@@ -79,30 +79,10 @@ stored state memory out n number part made en e long em =
     made-written number part out n (omega (arith, en)) long (store_keeps New state memory (take (n - 0) out) number part e) made em
     ∙ ap (λ y. written y out) (e ∙ ap (store_of New state memory) (least_front n (file_bytes New state.scheme.settings) out en))
 
--- By the number of a refusal.
-pub made-refused : (number n : ℕ) → (number ≡ 0 → ⊥) → made_refused number ≡ made_by number n
+low_by : (b : Bool) (number n m : ℕ) → n ≤ m → IfOk (cond b (made_through n) (made_refused number)) (λ k. k ≤ m)
+low_by true number n m h = h
+low_by false number n m h = tt
+
+pub made_low : (number n m : ℕ) (made : Result ℕ Failure) → made ≡ made_by number n → n ≤ m → IfOk made (λ k. k ≤ m)
 unfolding made_by
-made-refused number n h = rw (ne_eqb number 0 h)
-
-pub made-through : (number n : ℕ) → number ≡ 0 → made_through n ≡ made_by number n
-unfolding made_by
-made-through number n h = rw (eq-eqb number 0 h)
-
-low_by : (b : Bool) (number n : ℕ) → (cond b (made_through n) (made_refused number)).length ≤ n
-low_by true number n = omega arith
-low_by false number n = omega arith
-
-pub made_low : (number n m : ℕ) (made : Made) → made ≡ made_by number n → n ≤ m → made.length ≤ m
-unfolding made_by
-made_low number n m made e h = let l = low_by (eqb number 0) number n in omega (arith, ap (λ (x : Made). x.length) e, l)
-
--- The room for a file.
-pub room_low : (form : Form) (s : Settings) (all n : ℕ) → n ≡ file_bytes form s → n < all → n ≡ min all (file_bytes form s)
-room_low form s all n e h = omega (arith, e)
-
-pub room_all_lem : (form : Form) (s : Settings) (all n : ℕ) → n ≡ file_bytes form s → all ≤ n → all ≡ min all (file_bytes form s)
-room_all_lem form s all n e h = omega (arith, e)
-
-pub size-found : (form : Form) (s : Settings) (z : FileSizes) (n : ℕ) → z ≡ file_sizes_of s → n ≡ size_in form z → n ≡ file_bytes form s
-unfolding file_bytes
-size-found form s z n e f = f ∙ ap (size_in form) e
+made_low number n m made e h = rw e (low_by (eqb number 0) number n m h)

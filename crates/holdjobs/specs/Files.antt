@@ -1,19 +1,18 @@
 -- Hold files that the desk's program writes: `to-new`, `to-old`, and the file of a run. 02, S-7.
-use Rattle.std.specs.Prelude.{ℕ, cond, List, take, eqb}
+use Rattle.std.specs.Prelude.{ℕ, cond, List, take, eqb, Result}
 use Rattle.settings.specs.declared.Settings.{Settings}
 use Rattle.superframe.specs.declared.State.{State}
-use Rattle.holdfile.specs.declared.FileSizes.{FileSizes}
 use Rattle.holdlines.specs.declared.Form.{Form}
 use Rattle.holdlines.specs.declared.Form.TheVariants.{Old, New}
-use Rattle.holdfile.specs.Convert.{ConvertYield, convert_of, file_sizes_of}
+use Rattle.holdfile.specs.Convert.{SizesYield, ConvertYield, convert_of, file_sizes_of}
 use Rattle.holdcalls.specs.Store.{store_of}
 use Rattle.console.specs.declared.TurnJob.{TurnJob}
 use Rattle.console.specs.declared.TurnJob.TheVariants.{ToNew, ToOld}
-use Rattle.turns.specs.declared.Made.{Made}
+use Rattle.turns.specs.declared.Failure.{Failure}
 use Rattle.turns.specs.Yield.{MadeYield, made_through, made_refused, answered}
 
 -- The bytes of a file; 0 where the settings are refused.
-unfoldable pub size_in : Form → FileSizes → ℕ
+unfoldable pub size_in : Form → SizesYield → ℕ
 size_in Old z = z.old
 size_in New z = z.new
 
@@ -21,7 +20,7 @@ unfoldable pub file_bytes : Form → Settings → ℕ
 file_bytes form s = size_in form (file_sizes_of s)
 
 -- By the number of a refusal: so many bytes are to be written, or none.
-unfoldable pub made_by : ℕ → ℕ → Made
+unfoldable pub made_by : ℕ → ℕ → Result ℕ Failure
 made_by number n = cond (eqb number 0) (made_through n) (made_refused number)
 
 -- What a call makes of the front of a buffer.

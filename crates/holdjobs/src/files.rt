@@ -1,5 +1,7 @@
 // A hold file at the start of a buffer: one in its other form, and that of a run.
-ghost use Rattle.std.specs.Prelude.{◌≡◌, ◌≤◌, min, length, replicate};
+ghost use Rattle.std.specs.Prelude.{◌≡◌, ◌≤◌, min, length, replicate, IfOk, Ok};
+ghost use Rattle.refusal.specs.Numbers.{answer};
+ghost use Rattle.holdfile.specs.Convert.{file_sizes_yield};
 ghost use Rattle.turns.specs.Yield.{made_yield};
 ghost use Rattle.holdjobs.specs.Files.{size_in, file_bytes, made_by, turned_of, turn_of, stored_of};
 
@@ -8,10 +10,10 @@ use holdcalls::store::store;
 use holdfile::FileSizes;
 use holdfile::convert::{convert, sizes};
 use holdlines::Form;
+use refusal::Refusal;
 use settings::Settings;
 use superframe::State;
-use turns::Made;
-use turns::answers::{refused, through};
+use turns::Failure;
 
 // A byte more than the largest file has, so that a longer one is seen.
 pub const FILE_BYTES: usize = 244729;
@@ -23,8 +25,9 @@ pub fn file_buffer() -> [u8; FILE_BYTES]
 }
 
 // The bytes of a file of one form.
+#[tactic(auto, unfolding(crate::specs::Files::size_in))]
 fn size_in(form: Form, z: FileSizes) -> usize
-    ensures { result ≡ size_in form z }
+    ensures { result ≡ size_in form (file_sizes_yield (Ok z)) }
 {
     match form {
         Form::Old => z.old as usize,
@@ -33,40 +36,46 @@ fn size_in(form: Form, z: FileSizes) -> usize
 }
 
 // The same of some settings, or all there are where they are fewer.
+#[tactic(auto, unfolding(crate::specs::Files::file_bytes, crate::specs::Files::size_in))]
 fn file_room(form: Form, s: Settings, all: usize) -> usize
     ensures { result ≡ min all (file_bytes form s) }
 {
-    let n = size_in(form, sizes(s));
-    if n < all {
-        return n;
+    match sizes(s) {
+        Ok(z) => size_in(form, z).min(all),
+        Err(_) => 0,
     }
-    all
 }
 
-// What was made, by the number of a refusal.
-fn made_by(number: u8, n: usize) -> Made
-    ensures { result ≡ made_by number n }
+// What was made, by what a call answered.
+#[tactic(auto, using(refusal::proofs::Positive::number_positive), unfolding(crate::specs::Files::made_by))]
+fn made_by(outcome: Result<(), Refusal>, n: usize) -> Result<usize, Failure>
+    ensures { result ≡ made_by (answer outcome) n }
 {
-    if number != 0 {
-        return refused(number);
-    }
-    through(n)
+    outcome?;
+    Ok(n)
 }
 
 // A file of one form in the other.
-fn turn_from(from: Form, to: Form, s: Settings, file: &[u8], out: &mut [u8]) -> Made
+fn turn_from(
+    from: Form,
+    to: Form,
+    s: Settings,
+    file: &[u8],
+    out: &mut [u8],
+) -> Result<usize, Failure>
     ensures out_after { made_yield result out.new ≡ turned_of from to s file.now out.old }
-    ensures length_in_bounds { result.length ≤ length out.old }
+    ensures length_in_bounds { IfOk result (λ n. n ≤ length out.old) }
 {
     let n = file_room(to, s, out.len());
-    let number = convert(from, s, file, &mut out[0..n]);
-    made_by(number, n)
+    let outcome = convert(from, s, file, &mut out[0..n]);
+    made_by(outcome, n)
 }
 
 // What `to-new` and `to-old` make of a whole input.
-pub fn turn_file(job: TurnJob, s: Settings, file: &[u8], out: &mut [u8]) -> Made
+#[tactic(auto, unfolding(crate::specs::Files::turn_of))]
+pub fn turn_file(job: TurnJob, s: Settings, file: &[u8], out: &mut [u8]) -> Result<usize, Failure>
     ensures out_after { made_yield result out.new ≡ turn_of job s file.now out.old }
-    ensures length_in_bounds { result.length ≤ length out.old }
+    ensures length_in_bounds { IfOk result (λ n. n ≤ length out.old) }
 {
     match job {
         TurnJob::ToNew => turn_from(Form::Old, Form::New, s, file, out),
@@ -75,12 +84,12 @@ pub fn turn_file(job: TurnJob, s: Settings, file: &[u8], out: &mut [u8]) -> Made
 }
 
 // The new file of a run's state and memory.
-pub fn store_file(state: State, memory: &[u8], out: &mut [u8]) -> Made
+pub fn store_file(state: State, memory: &[u8], out: &mut [u8]) -> Result<usize, Failure>
     ensures out_after { made_yield result out.new ≡ stored_of state memory.now out.old }
-    ensures length_in_bounds { result.length ≤ length out.old }
+    ensures length_in_bounds { IfOk result (λ n. n ≤ length out.old) }
 {
     let s = state.scheme.settings;
     let n = file_room(Form::New, s, out.len());
-    let number = store(Form::New, state, memory, &mut out[0..n]);
-    made_by(number, n)
+    let outcome = store(Form::New, state, memory, &mut out[0..n]);
+    made_by(outcome, n)
 }

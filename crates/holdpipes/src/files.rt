@@ -1,5 +1,5 @@
 // Hold files: turned into the other form, begun from, and stored. 02, S-7.
-ghost use Rattle.std.specs.Prelude.{◌≡◌, ◌≤◌, length};
+ghost use Rattle.std.specs.Prelude.{◌≡◌, ◌≤◌, length, IfOk};
 ghost use Rattle.channels.specs.Scheme.{standard_scheme};
 ghost use Rattle.holdlines.specs.declared.Form.TheVariants.{New};
 ghost use Rattle.holdcalls.specs.Restore.{restore_of};
@@ -11,48 +11,37 @@ use holdcalls::restore::restore;
 use holdjobs::{asked, files};
 use holdlines::Form;
 use pipes::arguments::{argument, argument_count};
-use pipes::input::{Taken, take_all, take_none};
+use pipes::input::{take_all, take_none};
 use pipes::output::{STDOUT_FILENO, say_file};
 use resetcall::reset::reset;
 use settings::Settings;
 use std::fs::File;
 use std::os::fd::AsRawFd;
 use superframe::State;
-use turns::{End, Next, Outcome, turn};
+use turns::{End, turn};
 
 // A file that has come.
-fn pass_file(job: TurnJob, s: Settings, file: &[u8]) {
+fn pass_file(job: TurnJob, s: Settings, file: &[u8]) -> Result<(), End> {
     let mut out = files::file_buffer();
-    let made = files::turn_file(job, s, file, &mut out);
-    let n = made.length;
-    let written = io::write_all(STDOUT_FILENO, &out[0..n]);
-    let outcome = made.outcome;
-    let next = turn::after_write(outcome, written);
-    if let Next::Over(end) = next {
-        say_file(end);
-    }
+    let n = files::turn_file(job, s, file, &mut out)?;
+    turn::after_write(io::write_all(STDOUT_FILENO, &out[..n]))
+}
+
+// The whole input.
+fn pass_input(rt: HostRuntime, job: TurnJob, s: Settings) -> Result<(), End> {
+    let mut file = files::file_buffer();
+    let n = take_all(&mut rt.stdin(), &mut file)?;
+    pass_file(job, s, &file[..n])
 }
 
 // The job `to-new` or `to-old` on the whole input.
 pub fn turn_input(rt: HostRuntime, job: TurnJob, s: Settings) {
-    let mut file = files::file_buffer();
-    let taken = take_all(&mut rt.stdin(), &mut file);
-    let next = taken.next;
-    let n = taken.got;
-    match next {
-        Next::On => pass_file(job, s, &file[0..n]),
-        Next::Over(end) => say_file(end),
+    if let Err(end) = pass_input(rt, job, s) {
+        say_file(end);
     }
 }
 
-// A state to begin from, or what is wrong with the file that it was to come from.
-#[derive(Clone, Copy)]
-pub struct Begun {
-    pub next: Next,
-    pub state: State,
-}
-
-// What a call is handed that looks at nothing of its old state.
+// The state of the settings before any call: a run has it where a reset refuses them.
 fn blank(s: Settings) -> State
     ensures { result ≡ blank_state s }
 {
@@ -64,21 +53,21 @@ fn blank(s: Settings) -> State
 }
 
 // A run that goes on where a file was stored.
-fn restore_file(s: Settings, file: &[u8], memory: &mut [u8]) -> Begun
+fn restore_file(s: Settings, file: &[u8], memory: &mut [u8]) -> Result<State, End>
     ensures { begun_yield result memory.new
         ≡ restored_begun (restore_of New (blank_state s) (standard_scheme s) file.now memory.old) }
 {
-    let done = restore(Form::New, blank(s), s, file, memory);
-    let state = done.state;
-    Begun {
-        next: turn::after_call(done.refusal),
-        state,
+    let restored = restore(Form::New, s, file, memory);
+    match restored {
+        Ok(state) => Ok(state),
+        Err(refusal) => Err(End::Stopped(refusal.number(), 0)),
     }
 }
 
 // The whole of the file of a name. A name that is no text names no file that can be opened.
-fn take_file(rt: HostRuntime, path: &[u8], bytes: &mut [u8]) -> Taken
-    ensures { result.got ≤ length bytes.new }
+#[tactic(auto, unfolding(turns::specs::Turn::after_all))]
+fn take_file(rt: HostRuntime, path: &[u8], bytes: &mut [u8]) -> Result<usize, End>
+    ensures { IfOk result (λ got. got ≤ length bytes.new) }
 {
     let Ok(name) = str::from_utf8(path) else {
         return take_none(bytes);
@@ -90,42 +79,41 @@ fn take_file(rt: HostRuntime, path: &[u8], bytes: &mut [u8]) -> Taken
 }
 
 // The same of an open file, which is closed after it.
-fn take_open(from: File, bytes: &mut [u8]) -> Taken
-    ensures { result.got ≤ length bytes.new }
+fn take_open(from: File, bytes: &mut [u8]) -> Result<usize, End>
+    ensures { IfOk result (λ got. got ≤ length bytes.new) }
 {
     let mut from = from;
     take_all(&mut from, bytes)
 }
 
-// From the new hold file of a name.
-pub fn restore_from(rt: HostRuntime, path: &[u8], s: Settings, memory: &mut [u8]) -> Begun
+// From the new hold file of a name: a state to begin from, or what is wrong with the file.
+// Stays: a `match`, since with `?` the proof did not close.
+pub fn restore_from(
+    rt: HostRuntime,
+    path: &[u8],
+    s: Settings,
+    memory: &mut [u8],
+) -> Result<State, End>
     ensures { FromFile s memory.old (begun_yield result memory.new) }
 {
     let mut file = files::file_buffer();
-    let taken = take_file(rt, path, &mut file);
-    let next = taken.next;
-    let n = taken.got;
-    match next {
-        Next::On => restore_file(s, &file[0..n], memory),
-        Next::Over(end) => Begun {
-            next: Next::Over(end),
-            state: blank(s),
-        },
+    match take_file(rt, path, &mut file) {
+        Ok(n) => restore_file(s, &file[..n], memory),
+        Err(end) => Err(end),
     }
 }
 
 // From a reset, or from the file that the third argument names; settings that a reset refuses are refused at the first super frame too.
-pub fn begin_from(rt: HostRuntime, s: Settings, memory: &mut [u8]) -> Begun
+pub fn begin_from(rt: HostRuntime, s: Settings, memory: &mut [u8]) -> Result<State, End>
     ensures { Begins s memory.old (begun_yield result memory.new) }
 {
     let mut path = io::buffer();
     let n = argument(rt, 3, &mut path);
     if asked::from_reset(argument_count(rt), &path[..n]) {
-        let done = reset(blank(s), s, memory);
-        let state = done.state;
-        return Begun {
-            next: Next::On,
-            state,
+        let done = reset(s, memory);
+        return match done {
+            Ok(state) => Ok(state),
+            Err(_) => Ok(blank(s)),
         };
     }
     restore_from(rt, &path[..n], s, memory)
@@ -155,16 +143,10 @@ fn write_file(rt: HostRuntime, path: &[u8], file: &[u8]) -> bool {
 }
 
 // The state and its memory to a new file of a name.
-fn store_to(rt: HostRuntime, path: &[u8], state: State, memory: &[u8]) -> Next {
+fn store_to(rt: HostRuntime, path: &[u8], state: State, memory: &[u8]) -> Result<(), End> {
     let mut file = files::file_buffer();
-    let made = files::store_file(state, memory, &mut file);
-    let n = made.length;
-    let outcome = made.outcome;
-    let next = turn::after_write(outcome, true);
-    match next {
-        Next::On => turn::after_write(Outcome::Through, write_file(rt, path, &file[0..n])),
-        Next::Over(end) => Next::Over(end),
-    }
+    let n = files::store_file(state, memory, &mut file)?;
+    turn::after_write(write_file(rt, path, &file[..n]))
 }
 
 // Stores a run's state and memory in the file that the fourth argument names, where there is one.
@@ -174,8 +156,7 @@ pub fn store_at(rt: HostRuntime, end: End, state: State, memory: &[u8]) {
     }
     let mut path = io::buffer();
     let n = argument(rt, 4, &mut path);
-    let next = store_to(rt, &path[..n], state, memory);
-    if let Next::Over(end) = next {
+    if let Err(end) = store_to(rt, &path[..n], state, memory) {
         say_file(end);
     }
 }

@@ -14,6 +14,8 @@ use Rattle.lists.specs.Bools.{every}
 use Rattle.lists.proofs.Same.{same_number_true}
 use Rattle.lists.proofs.Counting.{below_or}
 use Rattle.lists.proofs.Bools.{holds-or, never_both, both, and_left, and_right, table-every}
+use Rattle.block.specs.declared.Constellation.{Constellation}
+use Rattle.block.specs.declared.Constellation.TheVariants.{Qam4, Qam16, Sm64, HmSym, HmMix}
 use Rattle.block.specs.Mapping.{coordinate, qam4, qam16, standard64, symmetric64, constellation, axis}
 use Rattle.block.specs.Points.{on_axis, are_points}
 use Rattle.cellbytes.specs.TwosComplement.{modulo, twos_complement}
@@ -51,16 +53,15 @@ all_symmetric : every (map is_small symmetric64) ≡ true
 unfolding every is_small same_number table symmetric64 coordinate signed four_bits modulo twos_complement
 all_symmetric = refl
 
-axes_small : (c : ℕ) → (every (map is_small (constellation c).real) ≡ true) × (every (map is_small (constellation c).imaginary) ≡ true)
+axes_small : (c : Constellation) → (every (map is_small (constellation c).real) ≡ true) × (every (map is_small (constellation c).imaginary) ≡ true)
 unfolding constellation
-axes_small zero = (all_4, all_4)
-axes_small (suc zero) = (all_16, all_16)
-axes_small (suc (suc zero)) = (all_64, all_64)
-axes_small (suc (suc (suc zero))) = (all_symmetric, all_symmetric)
-axes_small (suc (suc (suc (suc zero)))) = (all_symmetric, all_64)
-axes_small (suc (suc (suc (suc (suc c))))) = (all_4, all_4)
+axes_small Qam4 = (all_4, all_4)
+axes_small Qam16 = (all_16, all_16)
+axes_small Sm64 = (all_64, all_64)
+axes_small HmSym = (all_symmetric, all_symmetric)
+axes_small HmMix = (all_symmetric, all_64)
 
-axis_small : (c j : ℕ) → every (map is_small (axis (constellation c) j)) ≡ true
+axis_small : (c : Constellation) (j : ℕ) → every (map is_small (axis (constellation c) j)) ≡ true
 unfolding axis
 axis_small c j = go (eqb (j % 2) 0)
   where
@@ -69,7 +70,7 @@ axis_small c j = go (eqb (j % 2) 0)
     go false = (axes_small c).1
 
 -- so points are small
-pub points_small : (c : ℕ) (vs : List ℤ) → are_points (constellation c) vs ≡ true → AllSmall vs
+pub points_small : (c : Constellation) (vs : List ℤ) → are_points (constellation c) vs ≡ true → AllSmall vs
 unfolding are_points
 points_small c vs h =
     record {
@@ -97,5 +98,5 @@ small_all (v ∷ vs) h =
     at (suc k) r = r.small k
 
 -- the test of points on the bytes of small numbers is that of the numbers
-pub points_of_bytes : (c : ℕ) (vs : List ℤ) → length vs % 2 ≡ 0 → AllSmall vs → points_pass (points_only c) (numbers (bytes vs)) ≡ are_points (constellation c) vs
+pub points_of_bytes : (c : Constellation) (vs : List ℤ) → length vs % 2 ≡ 0 → AllSmall vs → points_pass (points_only c) (numbers (bytes vs)) ≡ are_points (constellation c) vs
 points_of_bytes c vs e s = ap (points_pass (points_only c)) (numbers-bytes vs e s) ∙ points_only_lem c vs e

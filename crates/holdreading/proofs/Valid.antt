@@ -15,6 +15,7 @@ use Rattle.settings.specs.declared.Settings.{Settings}
 use Rattle.settings.specs.Accepted.{Accepted}
 use Rattle.settings.specs.Lengths.{n_mux}
 use Rattle.settings.specs.Sizes.{depth}
+use Rattle.block.specs.declared.Constellation.{Constellation}
 use Rattle.block.specs.Mapping.{constellation}
 use Rattle.block.specs.Points.{are_points}
 use Rattle.cellbytes.specs.CellBytes.{numbers, bytes}
@@ -98,7 +99,7 @@ module _ (form : Form) (s : Settings) (file : List ℕ) where
   abbrev held : List ℤ
   held = held_by form (2 * n_mux s) (depth s) (drop 3 file)
 
-  abbrev C : ℕ
+  abbrev C : Constellation
   C = msc_constellation s.msc
 
   length_body : length file ≡ file_length form s → length (drop 3 file) ≡ depth s * (W + 1)

@@ -15,16 +15,17 @@ use pointtests::tests::bytes_pass;
 use settings::{Settings, answers};
 
 // The four bits of a 16-bit number by what its digits stand for, or NONE: all above the lowest are those of its sign.
+#[tactic(auto, unfolding(crate::specs::Clauses::wide_bits))]
 fn wide_bits(a: u8, b: u8, c: u8, d: u8) -> u8
     ensures { result ≡ wide_bits a b c d }
 {
     if d < 8 {
-        if (a == 0) & ((b == 0) & (c == 0)) {
+        if a == 0 && b == 0 && c == 0 {
             return d;
         }
         return NONE;
     }
-    if (a == 15) & ((b == 15) & (c == 15)) {
+    if a == 15 && b == 15 && c == 15 {
         return d;
     }
     NONE
@@ -59,18 +60,13 @@ fn take_line(form: Form, n: usize, line: &[u8], memory: &mut [u8], from: usize) 
     requires { LineLent form n line.now memory.old from }
     ensures { LineTaken form n line.now memory.old from result memory.new }
 {
-    let mut i = 0;
-    while i < n {
+    for i in 0..n {
         let re = number_bits(form, line, 2 * i);
         let im = number_bits(form, line, 2 * i + 1);
-        if NONE <= re {
-            return false;
-        }
-        if NONE <= im {
+        if NONE <= re || NONE <= im {
             return false;
         }
         memory[from + i] = 16 * re + im;
-        i += 1;
     }
     line[line.len() - 1] == LINE_FEED
 }
@@ -81,16 +77,11 @@ pub fn take_lines(form: Form, n: usize, file: &[u8], memory: &mut [u8], lines: u
     ensures { LinesTaken form n lines file.now result memory.new }
 {
     let long = line_bytes(form, n);
-    let mut at = 3;
-    let mut from = 0;
-    let mut k = 0;
-    while k < lines {
-        if !take_line(form, n, &file[at..at + long], memory, from) {
+    for k in 0..lines {
+        let at = 3 + k * long;
+        if !take_line(form, n, &file[at..at + long], memory, k * n) {
             return false;
         }
-        at += long;
-        from += n;
-        k += 1;
     }
     true
 }

@@ -2,6 +2,7 @@
 use Prim.Native.Nat.{ℕ, suc, ◌+◌, ◌-◌, ◌*◌, ◌≤◌, ◌<◌}
 use mathlib.Core.Path.{◌≡◌, refl, sym, ap, ap₂, subst, ◌∙◌}
 use mathlib.Core.List.{List, ◌++◌}
+use native.Mathlib.Nat.{mul-le-mul}
 use native.Mathlib.Omega.{arith}
 use lib.ListN.{length, take, drop, length-take, length-drop}
 use lib.Seq.{sets, drop-drop, length-sets}
@@ -14,6 +15,10 @@ use Rattle.holdwriting.specs.Clauses.{LineRoom, LinesRoom, lines_from}
 use Rattle.holdlines.proofs.Lines.{left_over, length-ended}
 use Rattle.holdwriting.proofs.Putting.{length-line}
 
+-- slot k of some lies within memory
+pub slot_in : (n lines k m : ℕ) → k < lines → m ≡ lines * n → k * n + n ≤ m
+slot_in n lines k m h e = let s : suc k ≤ lines = omega arith in let l : n ≤ n = omega arith in omega (arith, e, mul-le-mul s l)
+
 module _ (form : Form) (n lines : ℕ) (memory out : List ℕ) where
   abbrev L : ℕ
   L = 2 * n * number_digits form + 1
@@ -25,6 +30,11 @@ module _ (form : Form) (n lines : ℕ) (memory out : List ℕ) where
     pub cells : from + (lines - k) * n ≡ length memory
     pub rest : sets now at (lines_from form n (lines - k) (drop from memory)) ≡ sets out 3 (lines_from form n lines memory)
     pub long : length now ≡ length out
+
+  pub line_room : (from at : ℕ) (now : List ℕ) → n ≤ 6118 → from + n ≤ length memory → at + L ≤ length now → LineRoom form (take (from + n - from) (drop from memory)) now at
+  line_room from at now few within room =
+      let e : length (take (from + n - from) (drop from memory)) ≡ n = length-take (from + n - from) (drop from memory) ∙ omega (arith, length-drop from memory, within) in
+      record { few = omega (arith, e, few); room = subst (λ m. at + (2 * m * number_digits form + 1) ≤ length now) (sym e) room }
 
   pub writing_start : LinesRoom form n lines memory out → Writing 3 0 0 out
   writing_start r =
@@ -57,11 +67,6 @@ module _ (form : Form) (n lines : ℕ) (memory out : List ℕ) where
 
     slot_long : length (take n (drop from memory)) ≡ n
     slot_long = length-take n (drop from memory) ∙ omega (arith, length-drop from memory, slot_within)
-
-    pub line_room : n ≤ 6118 → LineRoom form (take (from + n - from) (drop from memory)) now at
-    line_room few =
-        let e : length (take (from + n - from) (drop from memory)) ≡ n = ap length this_slot ∙ slot_long in
-        record { few = omega (arith, e, few); room = subst (λ m. at + (2 * m * number_digits form + 1) ≤ length now) (sym e) (omega (arith, same, line-within)) }
 
     pub writing_turn : (after : List ℕ) → after ≡ sets now at (ended (all_written form (numbers (take (from + n - from) (drop from memory)))))
         → Writing (at + long) (from + n) (k + 1) after

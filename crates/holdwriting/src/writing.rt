@@ -53,10 +53,8 @@ fn put_line(form: Form, cells: &[u8], out: &mut [u8], at: usize)
     ensures { out.new ≡ sets out.old at (ended (all_written form (numbers cells.now))) }
 {
     let last = line_bytes(form, cells.len()) - 1;
-    let mut k = 0;
-    while k < last {
+    for k in 0..last {
         out[at + k] = line_digit(form, cells, k);
-        k += 1;
     }
     out[at + last] = LINE_FEED;
 }
@@ -67,14 +65,9 @@ fn put_lines(form: Form, n: usize, memory: &[u8], out: &mut [u8], lines: usize)
     ensures { out.new ≡ sets out.old 3 (lines_from form n lines memory.now) }
 {
     let long = line_bytes(form, n);
-    let mut at = 3;
-    let mut from = 0;
-    let mut k = 0;
-    while k < lines {
-        put_line(form, &memory[from..from + n], out, at);
-        at += long;
-        from += n;
-        k += 1;
+    for k in 0..lines {
+        let from = k * n;
+        put_line(form, &memory[from..from + n], out, 3 + k * long);
     }
 }
 

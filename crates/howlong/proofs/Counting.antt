@@ -3,7 +3,7 @@ use Prim.Native.Nat.{ℕ, ◌+◌, ◌-◌, ◌*◌, ◌/◌, ◌%◌, ◌≤◌
 use mathlib.Core.Path.{◌≡◌, refl, ap, subst, ◌∙◌}
 use mathlib.Core.Bool.{Bool, true, false, cond, ◌||◌}
 use mathlib.Core.List.{List, [], ◌∷◌}
-use native.Mathlib.Nat.{mod-lt, div-le_self, add-div_right, div-add-mod', div-eq_of_lt, zero-mul, mul-le-mul}
+use native.Mathlib.Nat.{div-le_self, add-div_right, div-add-mod', div-eq_of_lt, zero-mul, mul-le-mul}
 use native.Mathlib.Omega.{arith}
 use borrow.Author.Tests.{eq-eqb, ne_eqb}
 use mir.Syntax.{w32, w64}
@@ -19,10 +19,11 @@ use Rattle.partlengths.proofs.PartA.{gain_positive}
 use Rattle.settings.specs.declared.Settings.{Settings}
 use Rattle.settings.specs.Refusal.{refusal, paired}
 use Rattle.settings.specs.declared.Lengths.{Lengths}
-use Rattle.settings.specs.Lengths.{n_mux, n1, n2, l2, lengths_of, accepted}
+use Rattle.settings.specs.Lengths.{n_mux, n1, n2, l2, LengthsYield, lengths_yield, accepted}
 use Rattle.settings.specs.Sizes.{depth, frame_bits}
 use Rattle.settings.proofs.Chain.{pairings, pairing_at}
-use Rattle.settings.proofs.Bounds.{accepted_of, lengths_accepts}
+use Rattle.settings.proofs.Bounds.{accepted_of}
+use Rattle.std.proofs.Common.{Ok}
 use Rattle.settings.proofs.Buffers.{frame_low}
 use Rattle.patterns.specs.Patterns.{RX, RY, numerators, denominators}
 use Rattle.lists.specs.Lists.{total}
@@ -32,12 +33,6 @@ use Rattle.howlong.specs.Clauses.{Counts}
 -- a quotient of so small a number and what is made of it are few, whatever the divisor and the closing
 few_over : (m c : ℕ) → m ≤ 4294975486 → m / c ≤ 4294975486
 few_over m c h = omega (arith, div-le_self m c)
-
-pub frames-fit : (m c : ℕ) → m ≤ 4294975486 → Fits w64 (m / c + 2)
-frames-fit m c h = omega (arith, few_over m c h)
-
-pub closing_fits : (m c k : ℕ) → m ≤ 4294975486 → k ≤ 2 → Fits w64 ((m / c + 2) / 3 + k)
-closing_fits m c k h l = omega (arith, few_over m c h)
 
 pub few_super_frames : (m c k : ℕ) → m ≤ 4294975486 → k ≤ 2 → (m / c + 2) / 3 + k ≤ 2000000000
 few_super_frames m c k h l = omega (arith, few_over m c h)
@@ -54,9 +49,6 @@ last_bytes c n h k =
     let g : (n + (c - 1)) / c - 1 ≡ (n - 1) / c = omega (arith, f) in
     let d : (n - 1) / c * c + (n - 1) % c ≡ n - 1 = div-add-mod' (n - 1) c in
     rw g (omega (arith, d))
-
-pub last_low : (c n : ℕ) → 0 < c → (n - 1) % c + 1 ≤ c
-last_low c n h = omega (arith, mod-lt (n - 1) h)
 
 pub zero_bits_lem : (bits n : ℕ) → 8 ≤ bits → (n ≡ 0 → ⊥) → bits - 8 * ((n - 1) % (bits / 8) + 1) ≡ zero_bits bits n
 unfolding zero_bits frames_for whole_bytes round_up
@@ -129,9 +121,9 @@ pub third_there : (l : List ℕ) (a b : ℕ) → length l ≡ 3 → 2 < length (
 third_there l a b e = rw (length-set (set l 0 a) 1 b, length-set l 0 a, e) (omega arith)
 
 -- L2 among the lengths
-pub l2_is : (s : Settings) → refusal s ≡ 0 → {l : Lengths} → l ≡ lengths_of s → l.l2 ≡ l2 s
+pub l2_is : (s : Settings) → refusal s ≡ 0 → {l : Lengths} → lengths_yield (Ok l) ≡ accepted s → l.l2 ≡ l2 s
 unfolding accepted
-l2_is s ok e = ap (λ (t : Lengths). t.l2) (e ∙ lengths_accepts s ok)
+l2_is s ok e = ap (λ (y : LengthsYield). y.l2) e
 
 -- the three numbers from their parts
 pub numbers-made : (s : Settings) (n : ℕ) {bits a d m z : ℕ} → bits ≡ l2 s → a ≡ super_frames bits n → d ≡ depth s → m ≡ entry mux_table s.mode s.occupancy → z ≡ zero_bits bits n

@@ -1,16 +1,16 @@
 -- The call, accepted and refused. Assumes nothing.
 use Prim.Native.Nat.{ℕ}
 use mathlib.Core.Path.{◌≡◌}
-use mathlib.Core.Bool.{Bool, false, ◌||◌}
+use mathlib.Core.Bool.{false}
 use mathlib.Core.List.{List}
 use native.Mathlib.Omega.{arith}
-use borrow.Author.Tests.{lt-ltb, ltb-false, eq-eqb, ne_eqb, eqb-true, not-false}
+use borrow.Author.Tests.{ltb-false, eqb-true, not-false}
 use lib.ListN.{length}
 use lib.Dec.{ltb, lit≤}
 use Rattle.lists.proofs.Bools.{or_false}
 use Rattle.partlengths.specs.Formulas.{hierarchical}
 use Rattle.settings.specs.declared.Settings.{Settings}
-use Rattle.settings.specs.Refusal.{first, refusal}
+use Rattle.settings.specs.Refusal.{refusal}
 use Rattle.settings.proofs.Chain.{passes, own-next, first_passes, first_next}
 use Rattle.howlong.specs.HowLong.{numbers_for, how_long_yield, how_long_refusal, how_long_of}
 
@@ -36,24 +36,7 @@ module _ (s : Settings) (n : ℕ) where
         plain = both.1;
       }
 
-  -- the refusals from the tests that find them
-  pub by_settings : {r : ℕ} → r ≡ refusal s → (r ≡ 0 → ⊥) → r ≡ how_long_refusal s n
-  unfolding how_long_refusal first
-  by_settings {r} e h = rw (← e, lt-ltb 0 r (omega arith))
-
-  pub by_numbers : refusal s ≡ 0 → (n ≡ 3 → ⊥) → 10 ≡ how_long_refusal s n
-  unfolding how_long_refusal first
-  by_numbers ok h = rw (ok, ne_eqb n 3 h)
-
-  pub by_test : {b : Bool} → refusal s ≡ 0 → n ≡ 3 → b ≡ hierarchical s.msc → first (ltb 0 s.x || b) 27 0 ≡ how_long_refusal s n
-  unfolding how_long_refusal first
-  by_test ok e f = rw (ok, eq-eqb n 3 e, f)
-
 -- what the call yields
-pub refused : (s : Settings) (n : ℕ) (numbers : List ℕ) (r : ℕ) → r ≡ how_long_refusal s (length numbers) → (r ≡ 0 → ⊥) → how_long_yield r numbers ≡ how_long_of s n numbers
-unfolding how_long_of
-refused s n numbers r e h = rw (← e, ne_eqb r 0 h)
-
 pub yields : (s : Settings) (n : ℕ) (numbers : List ℕ) → how_long_refusal s (length numbers) ≡ 0 → how_long_of s n numbers ≡ how_long_yield 0 (numbers_for s n)
 unfolding how_long_of
 yields s n numbers e = rw e

@@ -1,13 +1,14 @@
 // The call that says how long a number of bytes takes. 02, S-14.
 ghost use Rattle.std.specs.Prelude.{◌≡◌, ◌≤◌};
+ghost use Rattle.refusal.specs.Numbers.{answer};
 ghost use Rattle.howlong.specs.HowLong.{super_frames, zero_bits, how_long_refusal, how_long_yield, how_long_of};
 ghost use Rattle.howlong.specs.Clauses.{Counts};
 
 use partlengths::formulas::hierarchical;
 use partlengths::tables::n_mux;
+use refusal::Refusal;
 use settings::Settings;
-use settings::answers::{depth, lengths};
-use settings::refusals::refusal;
+use settings::answers::{all_lengths, depth};
 
 // The numbers that the call answers.
 const NUMBERS: usize = 3;
@@ -16,20 +17,18 @@ const NUMBERS: usize = 3;
 const CLOSING: usize = 2;
 
 // 1 to 7, 10 and 27, lowest number first.
-fn how_long_refusal(s: Settings, numbers: usize) -> u8
-    ensures { result ≡ how_long_refusal s numbers }
+#[tactic(auto, using(refusal::proofs::Positive::number_positive), unfolding(crate::specs::HowLong::how_long_refusal, settings::specs::Refusal::first))]
+fn check_how_long(s: Settings, numbers: usize) -> Result<(), Refusal>
+    ensures { answer result ≡ how_long_refusal s numbers }
 {
-    let number = refusal(s);
-    if number != 0 {
-        return number;
-    }
+    settings::refusals::check(s)?;
     if numbers != NUMBERS {
-        return 10;
+        return Err(Refusal::OutputLength);
     }
-    if (0 < s.x) | hierarchical(s.msc) {
-        return 27;
+    if 0 < s.x || hierarchical(s.msc) {
+        return Err(Refusal::InUse);
     }
-    0
+    Ok(())
 }
 
 // The super frames of n bytes, each frame with as many whole bytes as its L2 bits hold, and the closing.
@@ -54,18 +53,16 @@ fn zero_bits(l2: usize, n: usize) -> usize
 }
 
 // Super frames with the closing, bytes of memory, and zero bits after the last byte, for so many bytes.
-pub fn how_long(s: Settings, bytes: u32, numbers: &mut [u32]) -> u8
-    ensures { how_long_yield result numbers.new ≡ how_long_of s bytes numbers.old }
+#[tactic(auto, using(refusal::proofs::Positive::number_positive), unfolding(crate::specs::HowLong::how_long_of))]
+pub fn how_long(s: Settings, bytes: u32, numbers: &mut [u32]) -> Result<(), Refusal>
+    ensures { how_long_yield (answer result) numbers.new ≡ how_long_of s bytes numbers.old }
 {
-    let number = how_long_refusal(s, numbers.len());
-    if number != 0 {
-        return number;
-    }
-    let l = lengths(s);
+    check_how_long(s, numbers.len())?;
+    let l = all_lengths(s);
     let l2 = l.l2 as usize;
     let n = bytes as usize;
     numbers[0] = super_frames(l2, n) as u32;
     numbers[1] = (depth(s) * n_mux(s.mode, s.occupancy)) as u32;
     numbers[2] = zero_bits(l2, n) as u32;
-    0
+    Ok(())
 }

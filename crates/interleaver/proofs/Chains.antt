@@ -254,6 +254,10 @@ making_start {t} {n} {s} {q} {z} {w} {d} h e f k l =
       laid = laid-start t n h.fits.cycles d h.room;
     }
 
+-- A turn that is left begins within the walk.
+pub turn_more : {turn s : ℕ} → turn < s / 4 → 4 * turn < s
+turn_more h = omega arith
+
 module _ {t n s q : ℕ} {d out : List ℕ} {x y z w end i : ℕ} (v : Making t n s q d out x y z w end i) where
   fits : Interleaves t n
   fits = v.tabulates.fits
@@ -267,6 +271,10 @@ module _ {t n s q : ℕ} {d out : List ℕ} {x y z w end i : ℕ} (v : Making t 
 
   pub making_end : s ≤ i → set out n 0 ≡ places t n ++ (0 ∷ [])
   making_end l = laid_end t n fits.cycles d v.tabulates.room (omega (arith, v.within, v.size_is)) v.laid
+
+  -- The turns of four steps take them all.
+  pub making_stop : {turn : ℕ} → i ≡ 4 * turn → s / 4 ≤ turn → s ≤ i
+  making_stop e l = omega (arith, v.size_is, size_fours t n fits.cycles)
 
   -- The chains are below s,
   low : (u j : ℕ) → u ≡ visit t n j → u < s
@@ -285,9 +293,6 @@ module _ {t n s q : ℕ} {d out : List ℕ} {x y z w end i : ℕ} (v : Making t 
     -- The steps of a turn are steps of the walk.
     turn_within : i + 4 ≤ size n
     turn_within = omega (arith, v.fours, v.size_is, size_fours t n fits.cycles)
-
-    pub making_small : i + 4 < 2 ^ 16
-    making_small = omega (arith, turn_within, (sized t n fits.cycles).least, fits.high)
 
     -- There is room for a number where those before it were laid,
     keeps : {u j end' : ℕ} {out' : List ℕ} → u ≡ visit t n j → j < i + 4 → Laid t n d out' j end' → Keeps u end' out'

@@ -8,7 +8,7 @@ pub fn size_of(n: usize) -> usize
     requires { Sizes n }
     ensures { result ≡ size n }
 {
-    1usize << (32 - u32::leading_zeros((n - 1) as u32))
+    1usize << (32 - ((n - 1) as u32).leading_zeros())
 }
 
 // q, of s.

@@ -10,10 +10,7 @@ fn keep(n: usize, x: usize, end: usize, out: &mut [u16]) -> usize
     ensures { Kept n x end out.old result out.new }
 {
     out[end] = x as u16;
-    if x < n {
-        return end + 1;
-    }
-    end
+    if x < n { end + 1 } else { end }
 }
 
 // The number of the walk to which a factor and an addend lead. s is a power of two, so that a mask takes the remainder.
@@ -40,8 +37,7 @@ pub fn make_places(t: usize, n: usize, out: &mut [u16])
     let mut z = ahead(t, q, s, q);
     let mut w = ahead(t, q, s, z);
     let mut end = 0;
-    let mut i = 0;
-    while i < s {
+    for _turn in 0..s / 4 {
         end = keep(n, x, end, out);
         end = keep(n, y, end, out);
         end = keep(n, z, end, out);
@@ -50,7 +46,6 @@ pub fn make_places(t: usize, n: usize, out: &mut [u16])
         y = ahead(fourth, far, s, y);
         z = ahead(fourth, far, s, z);
         w = ahead(fourth, far, s, w);
-        i += 4;
     }
     out[n] = 0;
 }

@@ -1,6 +1,6 @@
 -- The lengths of a job's input and output.
 use Prim.Native.Nat.{ℕ, ◌≤◌}
-use mathlib.Core.Path.{◌≡◌, refl, sym, ap, ap₂, ◌∙◌}
+use mathlib.Core.Path.{◌≡◌, refl, sym, ap, ◌∙◌}
 use mathlib.Core.Bool.{Bool, true, false}
 use mathlib.Core.List.{List}
 use native.Mathlib.Omega.{arith}
@@ -8,25 +8,23 @@ use lib.ListN.{length}
 use lib.Dec.{eqb}
 use borrow.Author.Tests.{eqb-true, eqb-false}
 use Rattle.settings.specs.declared.Settings.{Settings}
-use Rattle.settings.specs.declared.Sizes.{Sizes}
 use Rattle.settings.specs.Refusal.{refusal}
-use Rattle.settings.specs.Sizes.{no_sizes, sizes_of}
-use Rattle.settings.proofs.Buffers.{sizes_refuses}
+use Rattle.settings.specs.Sizes.{SizesYield, no_sizes, sizes_of}
 use Rattle.superframe.specs.declared.State.{State}
 use Rattle.console.specs.declared.Job.{Job}
 use Rattle.console.specs.declared.Job.TheVariants.{Code, Read, ReadOn, Grid, Ungrid}
 use Rattle.grid.specs.Calls.{grid_numbers, some_grid, grid_sizes}
 use Rattle.kinds.proofs.Bands.{band}
 use Rattle.grid.proofs.Accepts.{pairing_of, grid_accepts, grid_refuses}
-use Rattle.jobs.specs.Clauses.{Enough, Rooms, Lent}
+use Rattle.jobs.specs.Clauses.{Enough, Rooms, Lent, unnumbered}
 use Rattle.jobs.specs.SuperFrame.{blocks_length, cells_length, grid_length, input_length, output_length}
-use Rattle.jobs.proofs.Rooms.{enough, enough_accepted}
+use Rattle.jobs.proofs.Rooms.{enough, enough_accepted, sizes_refused}
 
 -- By the job's name.
-pub input_of : (job kind : Job) (z : Sizes) (g : ℕ) → job ≡ kind → input_length kind z g ≡ input_length job z g
+pub input_of : (job kind : Job) (z : SizesYield) (g : ℕ) → job ≡ kind → input_length kind z g ≡ input_length job z g
 input_of job kind z g e = ap (λ j. input_length j z g) (sym e)
 
-pub output_of : (job kind : Job) (z : Sizes) (g : ℕ) → job ≡ kind → output_length kind z g ≡ output_length job z g
+pub output_of : (job kind : Job) (z : SizesYield) (g : ℕ) → job ≡ kind → output_length kind z g ≡ output_length job z g
 output_of job kind z g e = ap (λ j. output_length j z g) (sym e)
 
 -- No grid has more than 62,235 numbers.
@@ -45,7 +43,7 @@ pub length_most : (s : Settings) → grid_length s ≤ 124470
 unfolding grid_length
 length_most s = omega (arith, grid_most s)
 
-pub input_most : (job : Job) (z : Sizes) (g : ℕ) → Enough z → g ≤ 124470 → input_length job z g ≤ 124470
+pub input_most : (job : Job) (z : SizesYield) (g : ℕ) → Enough z → g ≤ 124470 → input_length job z g ≤ 124470
 unfolding input_length blocks_length cells_length
 input_most Code z g e h = omega (arith, e.sdcbytes, e.mscbytes)
 input_most Read z g e h = omega (arith, e.facnumbers, e.sdcnumbers, e.mscnumbers)
@@ -65,29 +63,40 @@ none_memory : (n : ℕ) → (no_sizes n).memory ≤ 30590
 unfolding no_sizes
 none_memory n = omega arith
 
-pub rooms : (job : Job) (s : Settings) (z : Sizes) (g i m : ℕ) → z ≡ sizes_of s → g ≡ grid_length s → i ≡ input_length job z g → m ≡ z.memory
+-- The answer beside the sizes counts for no length.
+input_unnumbered : (job : Job) (z : SizesYield) (g : ℕ) → input_length job z g ≡ input_length job (unnumbered z) g
+unfolding input_length blocks_length cells_length
+input_unnumbered Code z g = refl
+input_unnumbered Read z g = refl
+input_unnumbered ReadOn z g = refl
+input_unnumbered Grid z g = refl
+input_unnumbered Ungrid z g = refl
+
+pub rooms : (job : Job) (s : Settings) (z : SizesYield) (g i m : ℕ) → unnumbered z ≡ unnumbered (sizes_of s) → g ≡ grid_length s → i ≡ input_length job z g → m ≡ z.memory
     → Rooms job s (record { input = i; memory = m })
 rooms job s z g i m e eg ei em = go (eqb (refusal s) 0) refl
   where
     low : g ≤ 124470
     low = rw eg (length_most s)
 
-    within : input_length job z g ≤ 124470 → z.memory ≤ 30590 → Rooms job s (record { input = i; memory = m })
+    within : input_length job (sizes_of s) g ≤ 124470 → (sizes_of s).memory ≤ 30590 → Rooms job s (record { input = i; memory = m })
     within a b =
+        let f : i ≡ input_length job (sizes_of s) g = ei ∙ input_unnumbered job z g ∙ ap (λ y. input_length job y g) e ∙ sym (input_unnumbered job (sizes_of s) g) in
+        let k : m ≡ (sizes_of s).memory = em ∙ ap (λ (z : SizesYield). z.memory) e in
         record {
-          input = ei ∙ ap₂ (input_length job) e eg;
-          memory = em ∙ ap (λ (z : Sizes). z.memory) e;
-          inputmost = rw ei a;
-          memorymost = rw em b;
+          input = f ∙ ap (input_length job (sizes_of s)) eg;
+          memory = k;
+          inputmost = rw f a;
+          memorymost = rw k b;
         }
 
     go : (b : Bool) → eqb (refusal s) 0 ≡ b → Rooms job s (record { input = i; memory = m })
-    go true t = let r = enough_accepted s (eqb-true (refusal s) 0 t) in within (input_most job z g (rw e r) low) (rw e r.memory)
+    go true t = let r = enough_accepted s (eqb-true (refusal s) 0 t) in within (input_most job (sizes_of s) g r low) (r.memory)
     go false t =
-        let r = e ∙ sizes_refuses s (eqb-false (refusal s) 0 t) in
+        let r = sizes_refused s (eqb-false (refusal s) 0 t) in
         within (rw r (none_most job (refusal s) g low)) (rw r (none_memory (refusal s)))
 
 -- The bytes of numbers that a job takes.
-pub bytes_most : (job : Job) (state : State) (z : Sizes) (bytes out : List ℕ) → Lent job state z bytes out → length bytes ≤ 124470
+pub bytes_most : (job : Job) (state : State) (z : SizesYield) (bytes out : List ℕ) → Lent job state z bytes out → length bytes ≤ 124470
 bytes_most job state z bytes out p =
     omega (arith, p.input, input_most job z (grid_length state.scheme.settings) (enough state.scheme.settings z p.sizes p.accepted) (length_most state.scheme.settings))

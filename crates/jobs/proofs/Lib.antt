@@ -3,4 +3,4 @@ pub mod Rooms
 pub mod Lengths
 pub mod Steps
 pub mod Fronts
-pub mod Refusals
+pub mod JobRefusals

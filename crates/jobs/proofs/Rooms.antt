@@ -4,17 +4,16 @@ use mathlib.Core.Path.{◌≡◌, refl, sym, ap, ◌∙◌}
 use mathlib.Core.Bool.{Bool, true, false}
 use native.Mathlib.Omega.{arith}
 use lib.Dec.{eqb}
-use borrow.Author.Tests.{eqb-true, eqb-false, lt-ltb, le-ltb}
+use borrow.Author.Tests.{eqb-true, eqb-false, ne_eqb, lt-ltb, le-ltb}
 use Rattle.partlengths.specs.Cells.{fac_cells}
 use Rattle.partlengths.specs.Formulas.{round_up}
 use Rattle.settings.specs.declared.Settings.{Settings}
-use Rattle.settings.specs.declared.Sizes.{Sizes}
 use Rattle.settings.specs.Refusal.{refusal}
 use Rattle.settings.specs.Accepted.{Accepted}
 use Rattle.lists.specs.Bytes.{bytes_for}
-use Rattle.settings.specs.Sizes.{frame_bytes, sdc_bytes, no_sizes, all_sizes, sizes_of}
+use Rattle.settings.specs.Sizes.{SizesYield, frame_bytes, sdc_bytes, no_sizes, all_sizes, sizes_of}
 use Rattle.settings.proofs.Bounds.{accepted_of}
-use Rattle.settings.proofs.Buffers.{frame_low, memory_low, sizes_accepts, sizes_refuses}
+use Rattle.settings.proofs.Buffers.{frame_low, memory_low, sizes_accepts}
 use Rattle.jobs.specs.Clauses.{Enough}
 use Rattle.jobs.specs.Output.{frames_length}
 
@@ -38,6 +37,10 @@ no_sizes_number : (r : ℕ) → (no_sizes r).refusal ≡ r
 unfolding no_sizes
 no_sizes_number r = refl
 
+pub sizes_refused : (s : Settings) → (refusal s ≡ 0 → ⊥) → sizes_of s ≡ no_sizes (refusal s)
+unfolding sizes_of
+sizes_refused s h = rw (ne_eqb (refusal s) 0 h)
+
 pub sizes_accepted : (s : Settings) → (sizes_of s).refusal ≡ 0 → refusal s ≡ 0
 sizes_accepted s n = go (eqb (refusal s) 0) refl
   where
@@ -45,10 +48,10 @@ sizes_accepted s n = go (eqb (refusal s) 0) refl
     go true t = eqb-true (refusal s) 0 t
     go false t =
         let r = eqb-false (refusal s) 0 t in
-        sym (ap (λ (z : Sizes). z.refusal) (sizes_refuses s r) ∙ no_sizes_number (refusal s)) ∙ n
+        sym (ap (λ (z : SizesYield). z.refusal) (sizes_refused s r) ∙ no_sizes_number (refusal s)) ∙ n
 
-pub enough : (s : Settings) (z : Sizes) → z ≡ sizes_of s → z.refusal ≡ 0 → Enough z
-enough s z e n = rw e (enough_accepted s (sizes_accepted s (sym (ap (λ (z : Sizes). z.refusal) e) ∙ n)))
+pub enough : (s : Settings) (z : SizesYield) → z ≡ sizes_of s → z.refusal ≡ 0 → Enough z
+enough s z e n = rw e (enough_accepted s (sizes_accepted s (sym (ap (λ (z : SizesYield). z.refusal) e) ∙ n)))
 
 -- The first n of three frames.
 pub few_frames : (n k all r : ℕ) → n ≡ k → k < 3 → r ≡ k * (all / 3) → r ≡ frames_length n all

@@ -1,8 +1,7 @@
 -- What inner functions require and promise: nothing of the papers is stated here.
 use Rattle.std.specs.Prelude.{ℕ, ◌+◌, ◌-◌, ◌*◌, ◌/◌, ◌≤◌, ◌≡◌, Bool, cond, List, length, take, drop, replicate, ℤ}
 use Rattle.settings.specs.declared.Settings.{Settings}
-use Rattle.settings.specs.declared.Sizes.{Sizes}
-use Rattle.settings.specs.Sizes.{sizes_of}
+use Rattle.settings.specs.Sizes.{SizesYield, sizes_of}
 use Rattle.superframe.specs.declared.State.{State}
 use Rattle.superframe.specs.Read.{ReadCall, ReadYield, read_of}
 use Rattle.keptcells.specs.ReadOn.{ReadOnYield, lost_bytes, read_on_of}
@@ -31,8 +30,21 @@ pub record GridRoom (at : ℕ) (cells grid : List ℤ) (out : List ℕ) : Type 0
   pub last : at ≤ length cells
   pub room : 2 * length grid ≤ length out
 
+-- Sizes without the answer beside them.
+abbrev pub unnumbered : SizesYield → SizesYield
+unnumbered z =
+    record {
+      refusal = 0;
+      sdcbytes = z.sdcbytes;
+      mscbytes = z.mscbytes;
+      facnumbers = z.facnumbers;
+      sdcnumbers = z.sdcnumbers;
+      mscnumbers = z.mscnumbers;
+      memory = z.memory;
+    }
+
 -- The sizes of accepted settings, an input of a super frame's length, and an output with room.
-pub record Lent (job : Job) (state : State) (z : Sizes) (bytes out : List ℕ) : Type 0 where
+pub record Lent (job : Job) (state : State) (z : SizesYield) (bytes out : List ℕ) : Type 0 where
   pub sizes : z ≡ sizes_of state.scheme.settings
   pub accepted : z.refusal ≡ 0
   pub input : length bytes ≡ input_length job z (grid_length state.scheme.settings)
@@ -44,7 +56,7 @@ pub record Numbers (bytes : List ℕ) (buffer : List ℤ) : Type 0 where
   pub long : length buffer ≡ 62235
 
 -- No settings need more.
-pub record Enough (z : Sizes) : Type 0 where
+pub record Enough (z : SizesYield) : Type 0 where
   pub sdcbytes : z.sdcbytes ≤ 210
   pub mscbytes : z.mscbytes ≤ 13767
   pub facnumbers : z.facnumbers ≡ fac_cells_length

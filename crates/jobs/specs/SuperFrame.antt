@@ -1,12 +1,11 @@
 -- What the jobs `code`, `read`, `read-on`, `grid` and `ungrid` make of a super frame, by the definitions of the calls.
-use Rattle.std.specs.Prelude.{ℕ, ◌+◌, ◌*◌, Bool, true, false, cond, List, [], ◌++◌, length, take, drop, replicate, ℤ, pos, eqb, leb}
+use Rattle.std.specs.Prelude.{ℕ, ◌+◌, ◌*◌, Bool, true, false, cond, List, [], ◌++◌, length, take, drop, replicate, ℤ, pos, eqb, leb, Ok, Err}
 use Rattle.std.proofs.lemmas.List.Edits.{sets}
-use Rattle.settings.specs.declared.Sizes.{Sizes}
-use Rattle.settings.specs.Sizes.{sizes_of}
+use Rattle.settings.specs.Sizes.{SizesYield, sizes_of}
 use Rattle.channels.specs.Scheme.{scheme_refusal}
 use Rattle.superframe.specs.declared.State.{State}
-use Rattle.superframe.specs.declared.Answer.{Answer}
-use Rattle.superframe.specs.declared.Answer.TheVariants.{Finished, Refused as Answer-as-Refused}
+use Rattle.superframe.specs.Answers.{Answer}
+use Rattle.superframe.specs.Answers.{Finished, Refused as Answer-as-Refused}
 use Rattle.superframe.specs.Call.{fac_bytes, fac_numbers}
 use Rattle.superframe.specs.Code.{CodeCall, CodeYield, code_of}
 use Rattle.superframe.specs.Read.{ReadCall, ReadYield, read_of}
@@ -17,7 +16,7 @@ use Rattle.settings.specs.declared.Settings.{Settings}
 use Rattle.placing.specs.Cells.{Cells}
 use Rattle.grid.specs.Calls.{grid_sizes, PlaceYield, place_of, TakeYield, take_of}
 use Rattle.console.specs.declared.Job.TheVariants.{Code, Read, ReadOn, Grid, Ungrid}
-use Rattle.turns.specs.declared.Outcome.TheVariants.{Through, Refused}
+use Rattle.turns.specs.declared.Failure.TheVariants.{Refused}
 use Rattle.jobs.specs.declared.Step.{Step}
 use Rattle.deskcells.specs.Cells.{cell_bytes, bytes_cells}
 use Rattle.jobs.specs.Output.{cell_output, block_output}
@@ -34,12 +33,12 @@ job_yield step memory out = record { step = step; memory = memory; out = out }
 -- A super frame that went through: bytes from the start of the buffer on, and their number.
 unfoldable pub through : State → List ℕ → List ℕ → List ℕ → JobYield
 through state memory bytes out =
-    job_yield (record { outcome = Through; state = state; length = length bytes }) memory (sets out 0 bytes)
+    job_yield (record { made = Ok (length bytes); state = state }) memory (sets out 0 bytes)
 
 -- One that was refused: nothing is written.
 unfoldable pub refused : ℕ → ℕ → State → List ℕ → List ℕ → JobYield
 refused number block state memory out =
-    job_yield (record { outcome = Refused number block; state = state; length = 0 }) memory out
+    job_yield (record { made = Err (Refused number block); state = state }) memory out
 
 -- Three FAC blocks of a super frame: their bytes, and the numbers of their cells.
 abbrev pub fac_length : ℕ
@@ -49,10 +48,10 @@ abbrev pub fac_cells_length : ℕ
 fac_cells_length = 3 * fac_numbers
 
 -- The bytes of a super frame's blocks, and those of its cells.
-unfoldable pub blocks_length : Sizes → ℕ
+unfoldable pub blocks_length : SizesYield → ℕ
 blocks_length z = fac_length + (z.sdcbytes + z.mscbytes)
 
-unfoldable pub cells_length : Sizes → ℕ
+unfoldable pub cells_length : SizesYield → ℕ
 cells_length z = 2 * (z.facnumbers + (z.sdcnumbers + z.mscnumbers))
 
 -- The bytes of a grid.
@@ -60,14 +59,14 @@ unfoldable pub grid_length : Settings → ℕ
 grid_length s = 2 * (grid_sizes s).numbers
 
 -- What comes in for a super frame, and the most that goes out: by the sizes of the settings and the bytes of a grid.
-unfoldable pub input_length : Job → Sizes → ℕ → ℕ
+unfoldable pub input_length : Job → SizesYield → ℕ → ℕ
 input_length Code z grid = blocks_length z
 input_length Read z grid = cells_length z
 input_length ReadOn z grid = cells_length z
 input_length Grid z grid = cells_length z
 input_length Ungrid z grid = grid
 
-unfoldable pub output_length : Job → Sizes → ℕ → ℕ
+unfoldable pub output_length : Job → SizesYield → ℕ → ℕ
 output_length Code z grid = cells_length z
 output_length Read z grid = blocks_length z + 1
 output_length ReadOn z grid = lost_bytes + (blocks_length z + 1)
@@ -75,7 +74,7 @@ output_length Grid z grid = grid
 output_length Ungrid z grid = cells_length z
 
 -- `code`: FAC, SDC and MSC, one behind the other, and working buffers for their cells.
-unfoldable pub code_lent : Sizes → List ℕ → CodeCall
+unfoldable pub code_lent : SizesYield → List ℕ → CodeCall
 code_lent z bytes =
     record {
       fac = take fac_length bytes;
@@ -95,7 +94,7 @@ code_written y out =
     answered y.done.refusal y.done.state y.memory (cell_output y.faccells y.sdccells y.msccells) out
 
 -- `read`: the cells of FAC, SDC and MSC, and working buffers for their bytes.
-unfoldable pub read_lent : Sizes → List ℤ → ReadCall
+unfoldable pub read_lent : SizesYield → List ℤ → ReadCall
 read_lent z cells =
     record {
       faccells = take fac_cells_length cells;
@@ -115,18 +114,18 @@ unfoldable pub read_answered : ReadYield → List ℕ → JobYield
 read_answered y out = read_written y.reading.answer [] y out
 
 -- `read-on`: as `read`, with the seven bytes in front of each super frame. 02, S-13.
-unfoldable pub read_on_lent : Sizes → List ℤ → ReadOnCall
+unfoldable pub read_on_lent : SizesYield → List ℤ → ReadOnCall
 read_on_lent z cells = record { call = read_lent z cells; lost = replicate lost_bytes 0 }
 
 unfoldable pub read_on_answered : ReadOnYield → List ℕ → JobYield
 read_on_answered y out = read_written y.yield.reading.answer y.lost y.yield out
 
 -- `grid`: the same cells, and a grid that is placed; `ungrid`: a grid, and the cells that are taken off it. State and memory stay as they were. 02, S-4.
-unfoldable pub cells_in : Sizes → List ℤ → Cells
+unfoldable pub cells_in : SizesYield → List ℤ → Cells
 cells_in z cells =
     record { fac = take fac_cells_length cells; sdc = take z.sdcnumbers (drop fac_cells_length cells); msc = drop (fac_cells_length + z.sdcnumbers) cells }
 
-unfoldable pub blank_cells : Sizes → Cells
+unfoldable pub blank_cells : SizesYield → Cells
 blank_cells z =
     record {
       fac = replicate fac_cells_length (pos 0);

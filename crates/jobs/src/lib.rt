@@ -3,17 +3,16 @@
 
 pub mod buffers;
 pub mod output;
-pub mod refusal;
+pub mod refusals;
 pub mod sizes;
 pub mod written;
 
 use superframe::State;
-use turns::Outcome;
+use turns::Failure;
 
-// What a job makes of a super frame: how it went, the state after it, and how many bytes are to be written.
+// What a job makes of a super frame: how many bytes are to be written, or why none are, and the state after it.
 #[derive(Clone, Copy)]
 pub struct Step {
-    pub outcome: Outcome,
+    pub made: Result<usize, Failure>,
     pub state: State,
-    pub length: usize,
 }

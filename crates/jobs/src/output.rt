@@ -20,6 +20,7 @@ pub fn join_cells(fac: &[i16], sdc: &[i16], msc: &[i16], out: &mut [u8]) -> usiz
 }
 
 // The length of the first n of three frames.
+#[tactic(auto, unfolding(crate::specs::Output::frames_length))]
 fn frames_length(n: u8, all: usize) -> usize
     ensures value { result ≡ frames_length n all }
     ensures upper_bound { result ≤ all }

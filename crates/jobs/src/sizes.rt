@@ -1,7 +1,8 @@
 // How many bytes the jobs take and give.
-ghost use Rattle.std.specs.Prelude.{◌≡◌};
+ghost use Rattle.std.specs.Prelude.{◌≡◌, Ok};
+ghost use Rattle.settings.specs.Sizes.{sizes_of, sizes_yield};
 ghost use Rattle.jobs.specs.SuperFrame.{blocks_length, cells_length, grid_length, input_length, output_length};
-ghost use Rattle.jobs.specs.Clauses.{Rooms};
+ghost use Rattle.jobs.specs.Clauses.{Rooms, unnumbered};
 
 use console::Job;
 use partlengths::tables::{FAC_BYTES, FAC_NUMBERS};
@@ -23,49 +24,71 @@ pub struct Space {
 }
 
 // The bytes of a super frame's blocks.
+#[tactic(auto, unfolding(crate::specs::SuperFrame::blocks_length))]
 fn blocks_length(z: Sizes) -> usize
-    ensures { result ≡ blocks_length z }
+    ensures { result ≡ blocks_length (sizes_yield (Ok z)) }
 {
     FAC_LENGTH + (z.sdcbytes as usize + z.mscbytes as usize)
 }
 
 // The bytes of its cells.
+#[tactic(auto, unfolding(crate::specs::SuperFrame::cells_length))]
 fn cells_length(z: Sizes) -> usize
-    ensures { result ≡ cells_length z }
+    ensures { result ≡ cells_length (sizes_yield (Ok z)) }
 {
     2 * (z.facnumbers as usize + (z.sdcnumbers as usize + z.mscnumbers as usize))
 }
 
 // The bytes of a grid.
+#[tactic(auto, unfolding(crate::specs::SuperFrame::grid_length, grid::specs::Calls::no_grid))]
 pub fn grid_length(s: Settings) -> usize
     ensures { result ≡ grid_length s }
 {
-    let z = grid::calls::sizes(s);
-    2 * z.numbers as usize
+    match grid::calls::sizes(s) {
+        Ok(z) => 2 * z.numbers as usize,
+        Err(_) => 0,
+    }
 }
 
 // What comes in for a super frame, and the most that goes out.
+#[tactic(auto, unfolding(crate::specs::SuperFrame::input_length))]
 pub fn input_length(job: Job, z: Sizes, grid: usize) -> usize
-    ensures { result ≡ input_length job z grid }
+    ensures { result ≡ input_length job (sizes_yield (Ok z)) grid }
 {
     match job {
         Job::Code => blocks_length(z),
-        Job::Read => cells_length(z),
-        Job::ReadOn => cells_length(z),
-        Job::Grid => cells_length(z),
+        Job::Read | Job::ReadOn | Job::Grid => cells_length(z),
         Job::Ungrid => grid,
     }
 }
 
+#[tactic(auto, unfolding(crate::specs::SuperFrame::output_length, crate::specs::SuperFrame::blocks_length))]
 pub fn output_length(job: Job, z: Sizes, grid: usize) -> usize
-    ensures { result ≡ output_length job z grid }
+    ensures { result ≡ output_length job (sizes_yield (Ok z)) grid }
 {
     match job {
-        Job::Code => cells_length(z),
+        Job::Code | Job::Ungrid => cells_length(z),
         Job::Read => blocks_length(z) + 1,
         Job::ReadOn => LOST_BYTES + (blocks_length(z) + 1),
         Job::Grid => grid,
-        Job::Ungrid => cells_length(z),
+    }
+}
+
+// The sizes of settings, zeros where they are refused.
+#[tactic(auto, unfolding(settings::specs::Sizes::no_sizes))]
+fn sizes_or_none(s: Settings) -> Sizes
+    ensures { unnumbered (sizes_yield (Ok result)) ≡ unnumbered (sizes_of s) }
+{
+    match answers::sizes(s) {
+        Ok(z) => z,
+        Err(_) => Sizes {
+            sdcbytes: 0,
+            mscbytes: 0,
+            facnumbers: 0,
+            sdcnumbers: 0,
+            mscnumbers: 0,
+            memory: 0,
+        },
     }
 }
 
@@ -73,7 +96,7 @@ pub fn output_length(job: Job, z: Sizes, grid: usize) -> usize
 pub fn room(job: Job, s: Settings) -> Space
     ensures { Rooms job s result }
 {
-    let z = answers::sizes(s);
+    let z = sizes_or_none(s);
     Space {
         input: input_length(job, z, grid_length(s)),
         memory: z.memory as usize,

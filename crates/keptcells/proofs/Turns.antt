@@ -16,6 +16,7 @@ use mir.Facts.{to_z-of_z}
 use Rattle.lists.specs.Bools.{every}
 use Rattle.lists.specs.Lists.{table}
 use Rattle.lists.proofs.Tables.{Filled, filled_turn, filled_end, map-table, take-table}
+use Rattle.block.specs.declared.Constellation.{Constellation}
 use Rattle.block.specs.Mapping.{constellation}
 use Rattle.block.specs.Block.{points_of}
 use Rattle.block.specs.Points.{is_point}
@@ -25,16 +26,16 @@ use Rattle.channels.specs.Msc.{msc_block, msc_constellation}
 use Rattle.keptcells.specs.ReadOn.{kept_number, kept_cells, lost_mark}
 
 -- The test of one cell.
-one_point : (c : ℕ) (cell : List ℤ) → length cell ≡ 2 → points_pass (points_only c) cell ≡ is_point (constellation c) (get_or cell 0 (pos 0)) (get_or cell 1 (pos 0))
+one_point : (c : Constellation) (cell : List ℤ) → length cell ≡ 2 → points_pass (points_only c) cell ≡ is_point (constellation c) (get_or cell 0 (pos 0)) (get_or cell 1 (pos 0))
 unfolding points_pass cell_passes table every
 one_point c cell e = rw e (and-true _)
 
--- Number k of the cells that are kept, by the number of their constellation.
-unfoldable pub kept_by : ℕ → List ℤ → ℕ → ℤ
+-- Number k of the cells that are kept, by their constellation.
+unfoldable pub kept_by : Constellation → List ℤ → ℕ → ℤ
 kept_by c cells k =
     cond (is_point (constellation c) (get_or cells (2 * (k / 2)) (pos 0)) (get_or cells (2 * (k / 2) + 1) (pos 0))) (get_or cells k (pos 0)) (pos 0)
 
-module _ (c : ℕ) (cells : List ℤ) where
+module _ (c : Constellation) (cells : List ℤ) where
   -- The two numbers of cell i.
   module _ (i : ℕ) (low : 2 * i + 2 ≤ length cells) (b : Bool) (h : b ≡ points_pass (points_only c) (take (2 * i + 2 - 2 * i) (drop (2 * i) cells))) where
     test_is : b ≡ is_point (constellation c) (get_or cells (2 * i) (pos 0)) (get_or cells (2 * i + 1) (pos 0))

@@ -13,7 +13,7 @@ use Rattle.channels.specs.Fac.{fac_block}
 use Rattle.channels.specs.Sdc.{sdc_block}
 use Rattle.channels.specs.Msc.{msc_block}
 use Rattle.superframe.specs.declared.State.{State}
-use Rattle.superframe.specs.declared.Answer.TheVariants.{Finished, Refused}
+use Rattle.superframe.specs.Answers.{Finished, Refused}
 use Rattle.superframe.specs.Interleaving.{after_rows, finished_frames}
 use Rattle.superframe.specs.Call.{parts, fac_bytes, memory_length, in_order}
 use Rattle.superframe.specs.Code.{byte_lengths, cell_lengths, progress_of, state_of}

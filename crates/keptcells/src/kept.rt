@@ -27,12 +27,10 @@ pub fn keep_cells(s: Scheme, cells: &[i16], out: &mut [i16])
 {
     let constellation = msc_constellation(s.settings.msc);
     let n = cells.len() / 2;
-    let mut i = 0;
-    while i < n {
+    for i in 0..n {
         let point = all_pass(constellation, false, &cells[2 * i..2 * i + 2]);
         out[2 * i] = kept_number(point, cells[2 * i]);
         out[2 * i + 1] = kept_number(point, cells[2 * i + 1]);
-        i += 1;
     }
 }
 
@@ -51,9 +49,7 @@ pub fn mark_lost(given: [bool; 7], lost: &mut [u8])
     requires { length lost.old ≡ 7 }
     ensures { lost.new ≡ map lost_mark given }
 {
-    let mut i = 0;
-    while i < 7 {
+    for i in 0..7 {
         lost[i] = lost_mark(given[i]);
-        i += 1;
     }
 }

@@ -14,7 +14,8 @@ use Rattle.partlengths.proofs.Parts.{below, below_at}
 use Rattle.kinds.specs.Carriers.{table80, frame_symbols, symbols, lower_table, upper_table, lower, upper, carriers}
 use Rattle.kinds.specs.References.{table90, spacing, offset}
 use Rattle.kinds.specs.Places.{places}
-use Rattle.kinds.specs.Clauses.{Pairing}
+use Rattle.kinds.specs.Clauses.{Pairing, RowOf90}
+use Rattle.kinds.specs.declared.tables.GainReferences.{GainReferences}
 
 -- The test passes at every mode, and at every pairing.
 pub mode_at : (f : ℕ → Bool) → T (below f 0 4) → (m : ℕ) → m < 4 → T (f m)
@@ -52,26 +53,38 @@ band m o p =
       most = leb→le _ 24 (mode_at (λ m. leb (frame_symbols m) 24) tt m p.mode_low);
     }
 
--- The numbers of table 90.
-pub x_most : (m : ℕ) → m < 4 → get_or (4 ∷ 2 ∷ 2 ∷ 1 ∷ []) m 0 ≤ 4
-x_most m h = leb→le _ 4 (mode_at (λ m. leb (get_or (4 ∷ 2 ∷ 2 ∷ 1 ∷ []) m 0) 4) tt m h)
+-- The numbers of table 90, and its rows as the code has them.
+pub x_most : (m : ℕ) → m < 4 → entry table90 m 1 ≤ 4
+unfolding entry table90
+x_most m h = leb→le _ 4 (mode_at (λ m. leb (entry table90 m 1) 4) tt m h)
 
-pub y_some : (m : ℕ) → m < 4 → 1 ≤ get_or (5 ∷ 3 ∷ 2 ∷ 3 ∷ []) m 0
-y_some m h = leb→le 1 _ (mode_at (λ m. leb 1 (get_or (5 ∷ 3 ∷ 2 ∷ 3 ∷ []) m 0)) tt m h)
+pub y_some : (m : ℕ) → m < 4 → 1 ≤ entry table90 m 2
+unfolding entry table90
+y_some m h = leb→le 1 _ (mode_at (λ m. leb 1 (entry table90 m 2)) tt m h)
 
-pub y_most : (m : ℕ) → m < 4 → get_or (5 ∷ 3 ∷ 2 ∷ 3 ∷ []) m 0 ≤ 5
-y_most m h = leb→le _ 5 (mode_at (λ m. leb (get_or (5 ∷ 3 ∷ 2 ∷ 3 ∷ []) m 0) 5) tt m h)
+pub y_most : (m : ℕ) → m < 4 → entry table90 m 2 ≤ 5
+unfolding entry table90
+y_most m h = leb→le _ 5 (mode_at (λ m. leb (entry table90 m 2) 5) tt m h)
 
-pub k0_most : (m : ℕ) → m < 4 → get_or (2 ∷ 1 ∷ 1 ∷ 1 ∷ []) m 0 ≤ 2
-k0_most m h = leb→le _ 2 (mode_at (λ m. leb (get_or (2 ∷ 1 ∷ 1 ∷ 1 ∷ []) m 0) 2) tt m h)
+pub k0_most : (m : ℕ) → m < 4 → entry table90 m 0 ≤ 2
+unfolding entry table90
+k0_most m h = leb→le _ 2 (mode_at (λ m. leb (entry table90 m 0) 2) tt m h)
 
-pub spacing_is : (m : ℕ) → m < 4 → get_or (20 ∷ 6 ∷ 4 ∷ 3 ∷ []) m 0 ≡ spacing m
-unfolding spacing entry table90
-spacing_is zero h = refl
-spacing_is (suc zero) h = refl
-spacing_is (suc (suc zero)) h = refl
-spacing_is (suc (suc (suc zero))) h = refl
-spacing_is (suc (suc (suc (suc m)))) h = absurd (omega arith)
+abbrev pub rows : List GainReferences
+rows =
+    record { k0 = 2; x = 4; y = 5; spacing = 20 }
+    ∷ record { k0 = 1; x = 2; y = 3; spacing = 6 }
+    ∷ record { k0 = 1; x = 2; y = 2; spacing = 4 }
+    ∷ record { k0 = 1; x = 1; y = 3; spacing = 3 }
+    ∷ []
+
+pub row_is : (m : ℕ) (z : GainReferences) → m < 4 → RowOf90 m (get_or rows m z)
+unfolding entry table90
+row_is zero z h = record { k0 = refl; x = refl; y = refl; spacing = refl }
+row_is (suc zero) z h = record { k0 = refl; x = refl; y = refl; spacing = refl }
+row_is (suc (suc zero)) z h = record { k0 = refl; x = refl; y = refl; spacing = refl }
+row_is (suc (suc (suc zero))) z h = record { k0 = refl; x = refl; y = refl; spacing = refl }
+row_is (suc (suc (suc (suc m)))) z h = absurd (omega arith)
 
 pub spacing-some : (m : ℕ) → m < 4 → 1 ≤ spacing m
 unfolding spacing entry table90
@@ -86,20 +99,16 @@ unfolding offset
 offset_low m s h = mod-lt _ (spacing-some m h)
 
 -- Where the gain references of a symbol begin, as the code finds it.
-pub step_low : (m s : ℕ) → m < 4 → get_or (4 ∷ 2 ∷ 2 ∷ 1 ∷ []) m 0 * (s % get_or (5 ∷ 3 ∷ 2 ∷ 3 ∷ []) m 0) ≤ 4 * 5
-step_low m s h =
-    let rest : s % get_or (5 ∷ 3 ∷ 2 ∷ 3 ∷ []) m 0 < get_or (5 ∷ 3 ∷ 2 ∷ 3 ∷ []) m 0 = mod-lt s (y_some m h) in
-    let five : s % get_or (5 ∷ 3 ∷ 2 ∷ 3 ∷ []) m 0 ≤ 5 = omega (arith, y_most m h) in
-    mul-le-mul (x_most m h) five
+pub step_low : (m s x y : ℕ) → m < 4 → x ≡ entry table90 m 1 → y ≡ entry table90 m 2 → x * (s % y) ≤ 4 * 5
+step_low m s x y h e f =
+    let rest : s % y < y = mod-lt s (rw f (y_some m h)) in
+    let four : x ≤ 4 = rw e (x_most m h) in
+    let five : s % y ≤ 5 = omega (arith, y_most m h) in
+    mul-le-mul four five
 
-pub offset_is : (m s : ℕ) → m < 4
-    → (get_or (2 ∷ 1 ∷ 1 ∷ 1 ∷ []) m 0 + get_or (4 ∷ 2 ∷ 2 ∷ 1 ∷ []) m 0 * (s % get_or (5 ∷ 3 ∷ 2 ∷ 3 ∷ []) m 0)) % get_or (20 ∷ 6 ∷ 4 ∷ 3 ∷ []) m 0 ≡ offset m s
-unfolding offset spacing entry table90
-offset_is zero s h = refl
-offset_is (suc zero) s h = refl
-offset_is (suc (suc zero)) s h = refl
-offset_is (suc (suc (suc zero))) s h = refl
-offset_is (suc (suc (suc (suc m)))) s h = absurd (omega arith)
+pub offset_is : (m s : ℕ) (row : GainReferences) → RowOf90 m row → (row.k0 + row.x * (s % row.y)) % row.spacing ≡ offset m s
+unfolding offset spacing
+offset_is m s row r = rw (r.k0, r.x, r.y, r.spacing)
 
 pub band_end : (m o : ℕ) → Pairing m o → lower m o + carriers m o ≤ 471
 unfolding carriers

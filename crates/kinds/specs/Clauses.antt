@@ -3,7 +3,9 @@ use Rattle.std.specs.Prelude.{ℕ, ◌<◌, ◌≡◌, Bool, List, [], ◌∷◌
 use Rattle.lists.specs.Lists.{table}
 use Rattle.settings.specs.Refusal.{first}
 use Rattle.kinds.specs.Carriers.{carriers, unused}
-use Rattle.kinds.specs.References.{frequency, time, is_gain}
+use Rattle.kinds.specs.References.{table90, frequency, time, is_gain}
+use Rattle.kinds.specs.declared.tables.GainReferences.{GainReferences}
+use Rattle.partlengths.specs.Cells.{entry}
 use Rattle.kinds.specs.Control.{fac_carriers}
 use Rattle.kinds.specs.Kinds.{has}
 use Rattle.kinds.specs.Places.{places}
@@ -15,6 +17,13 @@ carrier_list mode list = get_or (unused mode ∷ frequency mode ∷ time mode 0 
 -- A row of kinds with one kind more, at the carriers that pass a test.
 unfoldable pub painted : (ℕ → Bool) → ℕ → List ℕ → List ℕ
 painted test kind row = table (λ k. first (test k) kind (get_or row k 0)) 0 (length row)
+
+-- A mode's row of table 90.
+pub record RowOf90 (mode : ℕ) (row : GainReferences) : Type 0 where
+  pub k0 : row.k0 ≡ entry table90 mode 0
+  pub x : row.x ≡ entry table90 mode 1
+  pub y : row.y ≡ entry table90 mode 2
+  pub spacing : row.spacing ≡ entry table90 mode 3
 
 -- A robustness mode and an occupancy, allowed together or not.
 pub record Pairing (mode occupancy : ℕ) : Type 0 where

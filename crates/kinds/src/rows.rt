@@ -8,7 +8,6 @@ ghost use Rattle.kinds.specs.Places.{grid_kinds};
 ghost use Rattle.kinds.specs.Clauses.{carrier_list, painted, painted_symbol, Listed, Row, SymbolFits, KindsFit};
 
 use crate::tables;
-use lists::bytes::copy;
 
 // Carriers -120 to 350.
 pub const ROW: usize = 471;
@@ -37,13 +36,11 @@ fn paint(mode: u8, list: usize, kind: u8, row: &mut [u8])
     ensures { row.new ≡ painted (has (carrier_list mode list)) kind row.old }
 {
     let carriers = tables::CARRIERS;
-    let starts = tables::STARTS;
     let at = mode as usize * tables::LISTS + list;
-    let end = starts[at + 1] as usize;
-    let mut i = starts[at] as usize;
-    while i < end {
+    let start = tables::STARTS[at] as usize;
+    let end = tables::STARTS[at + 1] as usize;
+    for i in start..end {
         row[carriers[i] as usize] = kind;
-        i += 1;
     }
 }
 
@@ -52,11 +49,8 @@ fn paint_gain(mode: u8, symbol: usize, row: &mut [u8])
     requires { Row mode symbol row.old }
     ensures { row.new ≡ painted (is_gain mode symbol) 3 row.old }
 {
-    let spacing = tables::spacing(mode);
-    let mut k = tables::offset(mode, symbol);
-    while k < row.len() {
+    for k in (tables::offset(mode, symbol)..row.len()).step_by(tables::spacing(mode)) {
         row[k] = GAIN;
-        k += spacing;
     }
 }
 
@@ -114,7 +108,7 @@ fn symbol_kinds(mode: u8, occupancy: u8, frame: usize, symbol: usize, out: &mut 
     paint_symbol(mode, symbol, &mut row);
     let first = tables::lower(mode, occupancy);
     let end = first + out.len();
-    copy(&row[first..end], out);
+    out.copy_from_slice(&row[first..end]);
 }
 
 // The kinds of all places, symbol after symbol.
@@ -124,8 +118,7 @@ pub fn grid_kinds(mode: u8, occupancy: u8, out: &mut [u8])
 {
     let symbols = tables::frame_symbols(mode);
     let carriers = tables::carriers(mode, occupancy);
-    let mut n = 0;
-    while n < 3 * symbols {
+    for n in 0..3 * symbols {
         symbol_kinds(
             mode,
             occupancy,
@@ -133,6 +126,5 @@ pub fn grid_kinds(mode: u8, occupancy: u8, out: &mut [u8])
             n % symbols,
             &mut out[n * carriers..n * carriers + carriers],
         );
-        n += 1;
     }
 }

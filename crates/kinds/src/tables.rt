@@ -3,7 +3,7 @@ ghost use Rattle.std.specs.Prelude.{◌≡◌, ◌<◌};
 ghost use Rattle.kinds.specs.Carriers.{frame_symbols, lower, upper, carriers};
 ghost use Rattle.kinds.specs.References.{spacing, offset};
 ghost use Rattle.kinds.specs.Control.{sdc_symbols};
-ghost use Rattle.kinds.specs.Clauses.{Pairing};
+ghost use Rattle.kinds.specs.Clauses.{Pairing, RowOf90};
 
 // Table 80: symbols per transmission frame.
 const FRAME_SYMBOLS: [usize; 4] = [15, 15, 20, 24];
@@ -21,14 +21,41 @@ const UPPER: [usize; 24] = [
     0, 255,
 ];
 
-// Table 90.
-const X: [usize; 4] = [4, 2, 2, 1];
+// Table 90: the gain references of symbol s are the carriers k0 + x (s mod y) + spacing p, p any integer.
+#[derive(Clone, Copy)]
+struct GainReferences {
+    k0: usize,
+    x: usize,
+    y: usize,
+    spacing: usize,
+}
 
-const Y: [usize; 4] = [5, 3, 2, 3];
-
-const K0: [usize; 4] = [2, 1, 1, 1];
-
-const SPACING: [usize; 4] = [20, 6, 4, 3];
+const GAIN_REFERENCES: [GainReferences; 4] = [
+    GainReferences {
+        k0: 2,
+        x: 4,
+        y: 5,
+        spacing: 20,
+    },
+    GainReferences {
+        k0: 1,
+        x: 2,
+        y: 3,
+        spacing: 6,
+    },
+    GainReferences {
+        k0: 1,
+        x: 2,
+        y: 2,
+        spacing: 4,
+    },
+    GainReferences {
+        k0: 1,
+        x: 1,
+        y: 3,
+        spacing: 3,
+    },
+];
 
 // Carriers list after list: for each mode those of table 83, table 84, tables 86 to 89, and 24 rows of tables 93 to 96.
 pub const CARRIERS: [u8; 358] = [
@@ -114,12 +141,20 @@ pub fn carriers(mode: u8, occupancy: u8) -> usize
     upper(mode, occupancy) + 1 - lower(mode, occupancy)
 }
 
+// The row of a mode in table 90.
+fn gain_references(mode: u8) -> GainReferences
+    requires { mode < 4 }
+    ensures { RowOf90 mode result }
+{
+    GAIN_REFERENCES[mode as usize]
+}
+
 // Gain references of a symbol are so many carriers apart,
 pub fn spacing(mode: u8) -> usize
     requires { mode < 4 }
     ensures { result ≡ spacing mode }
 {
-    SPACING[mode as usize]
+    gain_references(mode).spacing
 }
 
 // and begin here.
@@ -127,6 +162,6 @@ pub fn offset(mode: u8, symbol: usize) -> usize
     requires { mode < 4 }
     ensures { result ≡ offset mode symbol }
 {
-    let m = mode as usize;
-    (K0[m] + X[m] * (symbol % Y[m])) % SPACING[m]
+    let gains = gain_references(mode);
+    (gains.k0 + gains.x * (symbol % gains.y)) % gains.spacing
 }

@@ -9,10 +9,8 @@ fn add_plain(weight: u8, bits: &[u8], labels: &mut [u8])
     requires { AddsPart 0 weight bits.now labels.old }
     ensures { labels.new ≡ added weight bits.now labels.old }
 {
-    let mut i = 0;
-    while i < bits.len() {
+    for i in 0..bits.len() {
         labels[i] = labels[i] + weight * bits[i];
-        i += 1;
     }
 }
 
@@ -21,11 +19,9 @@ fn gather(weight: u8, places: &[u16], bits: &[u8], labels: &mut [u8])
     requires { Gathers weight places.now bits.now labels.old }
     ensures { labels.new ≡ added weight (gathered places.now bits.now) labels.old }
 {
-    let mut i = 0;
-    while i < labels.len() {
+    for i in 0..labels.len() {
         let p = places[i] as usize;
         labels[i] = labels[i] + weight * bits[p];
-        i += 1;
     }
 }
 
@@ -54,10 +50,8 @@ fn take_plain(weight: u8, labels: &[u8], out: &mut [u8])
     requires { TakesPart 0 weight labels.now out.old }
     ensures { out.new ≡ taken weight labels.now }
 {
-    let mut i = 0;
-    while i < labels.len() {
+    for i in 0..labels.len() {
         out[i] = weighed_bit(labels[i], weight);
-        i += 1;
     }
 }
 
@@ -66,11 +60,9 @@ fn scatter(weight: u8, places: &[u16], labels: &[u8], out: &mut [u8])
     requires { Scatters weight places.now labels.now out.old }
     ensures { out.new ≡ scattered places.now (taken weight labels.now) out.old }
 {
-    let mut i = 0;
-    while i < labels.len() {
+    for i in 0..labels.len() {
         let p = places[i] as usize;
         out[p] = weighed_bit(labels[i], weight);
-        i += 1;
     }
 }
 

@@ -10,7 +10,7 @@ use lib.Dec.{ltb, eqb}
 use lib.ListN.{length, get_or}
 use borrow.Author.Tests.{lt-ltb, le-ltb, ltb-true, eq-eqb, ne_eqb}
 use Rattle.lists.proofs.Bools.{and_left, and_right}
-use Rattle.line.specs.declared.Parsed.TheVariants.{Line, Bad}
+use Rattle.std.specs.Prelude.{Some, None}
 use Rattle.line.specs.Clauses.{HexByte}
 use Rattle.line.specs.Read.{digit_of, digits, is_line, byte_at, settings_in, parse_of}
 
@@ -121,10 +121,10 @@ pub settings_made : (l : List ℕ) (b₀ b₁ b₂ b₃ b₄ b₅ b₆ b₇ b₈
 unfolding settings_in
 settings_made l b₀ b₁ b₂ b₃ b₄ b₅ b₆ b₇ b₈ b₉ e₀ e₁ e₂ e₃ e₄ e₅ e₆ e₇ e₈ e₉ = rw (e₀, e₁, e₂, e₃, e₄, e₅, e₆, e₇, e₈, e₉)
 
-pub parse_bad : (l : List ℕ) → is_line l ≡ false → parse_of l ≡ Bad
+pub parse_bad : (l : List ℕ) → is_line l ≡ false → parse_of l ≡ None
 unfolding parse_of
 parse_bad l e = rw e
 
-pub parse_line : (l : List ℕ) → is_line l ≡ true → parse_of l ≡ Line (settings_in l)
+pub parse_line : (l : List ℕ) → is_line l ≡ true → parse_of l ≡ Some (settings_in l)
 unfolding parse_of
 parse_line l e = rw e

@@ -7,15 +7,18 @@ use native.Mathlib.Numerals.{towards_suc}
 use native.Mathlib.Omega.{arith}
 use lib.ListN.{length, set}
 use lib.Seq.{sets}
-use borrow.Author.Tests.{lt-ltb, le-ltb, eq-eqb, ne_eqb}
+use borrow.Author.Tests.{lt-ltb, le-ltb, ne_eqb}
 use Rattle.settings.specs.declared.Lengths.{Lengths}
 use Rattle.io.specs.Digits.{last_digits}
 use Rattle.line.specs.Written.{glyph, group, groups, space, decimal_by, decimal, line_end, written, bad_line, answer_to, answer_of}
 use Rattle.line.specs.Read.{parse_of}
-use Rattle.line.specs.declared.Parsed.{Parsed}
-use Rattle.line.specs.declared.Parsed.TheVariants.{Line, Bad}
+use Rattle.std.specs.Prelude.{Option, Some, None}
 use Rattle.settings.specs.declared.Settings.{Settings}
-use Rattle.settings.specs.Lengths.{lengths_of}
+use Rattle.settings.specs.Lengths.{LengthsYield, lengths_of, refused, lengths_yield}
+use Rattle.std.proofs.Common.{Ok, Err}
+use Rattle.refusal.specs.declared.Refusal.{Refusal}
+use Rattle.refusal.specs.Numbers.{number}
+use Rattle.refusal.proofs.Positive.{number_positive}
 
 -- Four stores are a group.
 pub four : (d : List ℕ) (n at a b c e : ℕ) → a ≡ glyph (n / 4096 % 16) → b ≡ glyph (n / 256 % 16) → c ≡ glyph (n / 16 % 16) → e ≡ glyph (n % 16)
@@ -24,7 +27,7 @@ unfolding group
 four d n at a b c e ea eb ec ee = rw (ea, eb, ec, ee) (simp towards_suc)
 
 -- Five groups, four spaces and a line feed.
-pub five : (l : Lengths) (d d₁ d₂ d₃ d₄ d₅ : List ℕ) → d₁ ≡ sets d 0 (group l.n1) → d₂ ≡ sets (set d₁ 4 32) 5 (group l.n2)
+pub five : (l : LengthsYield) (d d₁ d₂ d₃ d₄ d₅ : List ℕ) → d₁ ≡ sets d 0 (group l.n1) → d₂ ≡ sets (set d₁ 4 32) 5 (group l.n2)
     → d₃ ≡ sets (set d₂ 9 32) 10 (group l.l1) → d₄ ≡ sets (set d₃ 14 32) 15 (group l.l2) → d₅ ≡ sets (set d₄ 19 32) 20 (group l.vspp)
     → set d₅ 24 10 ≡ sets d 0 (groups l)
 unfolding groups group space line_end
@@ -68,23 +71,23 @@ digits_decimal (suc k) (suc f) n h low high =
     ap₂ (λ a b. a ++ (b ∷ [])) (digits_decimal k f (n / 10) (omega arith) (omega (arith, low, p)) (λ z. omega (arith, g, q))) (rw (lt-ltb (n % 10) 10 (omega arith)))
     ∙ sym (more_digits (suc f) n (omega (arith, g, q, one)))
 
-pub written-refusal : (l : Lengths) → (l.refusal ≡ 0 → ⊥) → written l ≡ decimal l.refusal ++ line_end
-unfolding written
-written-refusal l n = rw (ne_eqb l.refusal 0 n)
+pub written_refusal : (r : Refusal) → written (lengths_yield (Err r)) ≡ decimal (number r) ++ line_end
+unfolding written refused
+written_refusal r = rw (ne_eqb (number r) 0 (omega (arith, number_positive r)))
 
-pub written_lengths : (l : Lengths) → l.refusal ≡ 0 → written l ≡ groups l
+pub written_lengths : (l : Lengths) → written (lengths_yield (Ok l)) ≡ groups (lengths_yield (Ok l))
 unfolding written
-written_lengths l e = rw (eq-eqb l.refusal 0 e)
+written_lengths l = refl
 
-pub groups_long : (l : Lengths) → 25 ≡ length (groups l)
+pub groups_long : (l : LengthsYield) → 25 ≡ length (groups l)
 unfolding groups group space line_end
 groups_long l = refl
 
 -- The answer by what the line holds.
-pub answer_line : (bytes : List ℕ) (p : Parsed) (s : Settings) (l : Lengths) → p ≡ parse_of bytes → p ≡ Line s → l ≡ lengths_of s → written l ≡ answer_of bytes
+pub answer_line : (bytes : List ℕ) (p : Option Settings) (s : Settings) (l : LengthsYield) → p ≡ parse_of bytes → p ≡ Some s → l ≡ lengths_of s → written l ≡ answer_of bytes
 unfolding answer_of answer_to
 answer_line bytes p s l e f g = ap written g ∙ ap answer_to (sym f ∙ e)
 
-pub answer_bad : (bytes : List ℕ) (p : Parsed) → p ≡ parse_of bytes → p ≡ Bad → bad_line ≡ answer_of bytes
+pub answer_bad : (bytes : List ℕ) (p : Option Settings) → p ≡ parse_of bytes → p ≡ None → bad_line ≡ answer_of bytes
 unfolding answer_of answer_to
 answer_bad bytes p e f = ap answer_to (sym f ∙ e)

@@ -1,8 +1,6 @@
 -- A line of settings. 01 "Cases", the lengths program.
-use Rattle.std.specs.Prelude.{ℕ, zero, suc, ◌+◌, ◌-◌, ◌*◌, Bool, true, cond, ◌&&◌, List, length, get_or, ltb, eqb}
+use Rattle.std.specs.Prelude.{ℕ, zero, suc, ◌+◌, ◌-◌, ◌*◌, Bool, true, cond, ◌&&◌, List, length, get_or, ltb, eqb, Option, Some, None}
 use Rattle.settings.specs.declared.Settings.{Settings}
-use Rattle.line.specs.declared.Parsed.{Parsed}
-use Rattle.line.specs.declared.Parsed.TheVariants.{Line, Bad}
 
 -- The value of a hexadecimal digit, 0 to 9 (bytes 48 to 57) and A to F (65 to 70); 16 for any other byte.
 unfoldable pub digit_of : ℕ → ℕ
@@ -38,5 +36,5 @@ settings_in bytes =
     }
 
 -- The settings of a line, or none for anything but twenty digits and a line end.
-unfoldable pub parse_of : List ℕ → Parsed
-parse_of bytes = cond (is_line bytes) (Line (settings_in bytes)) Bad
+unfoldable pub parse_of : List ℕ → Option Settings
+parse_of bytes = cond (is_line bytes) (Some (settings_in bytes)) None

@@ -1,9 +1,7 @@
 -- What the lengths program prints. 01 "Cases", the lengths program.
-use Rattle.std.specs.Prelude.{ℕ, zero, suc, ◌+◌, ◌/◌, ◌%◌, cond, List, [], ◌∷◌, ◌++◌, ltb, eqb}
-use Rattle.settings.specs.declared.Lengths.{Lengths}
-use Rattle.settings.specs.Lengths.{lengths_of}
-use Rattle.line.specs.declared.Parsed.{Parsed}
-use Rattle.line.specs.declared.Parsed.TheVariants.{Line, Bad}
+use Rattle.std.specs.Prelude.{ℕ, zero, suc, ◌+◌, ◌/◌, ◌%◌, cond, List, [], ◌∷◌, ◌++◌, ltb, eqb, Option, Some, None}
+use Rattle.settings.specs.declared.Settings.{Settings}
+use Rattle.settings.specs.Lengths.{LengthsYield, lengths_of}
 use Rattle.line.specs.Read.{parse_of}
 
 -- The byte of a hexadecimal digit: 0 to 9, then A to F.
@@ -31,12 +29,12 @@ unfoldable pub line_end : List ℕ
 line_end = 10 ∷ []
 
 -- N1, N2, L1, L2, L_VSPP.
-unfoldable pub groups : Lengths → List ℕ
+unfoldable pub groups : LengthsYield → List ℕ
 groups l =
     group l.n1 ++ (space ++ (group l.n2 ++ (space ++ (group l.l1 ++ (space ++ (group l.l2 ++ (space ++ (group l.vspp ++ line_end))))))))
 
 -- One line: the five lengths, or for a refusal its number in decimal.
-unfoldable pub written : Lengths → List ℕ
+unfoldable pub written : LengthsYield → List ℕ
 written l = cond (eqb l.refusal 0) (groups l) (decimal l.refusal ++ line_end)
 
 -- `bad line`
@@ -44,9 +42,9 @@ unfoldable pub bad_line : List ℕ
 bad_line = 98 ∷ 97 ∷ 100 ∷ 32 ∷ 108 ∷ 105 ∷ 110 ∷ 101 ∷ 10 ∷ []
 
 -- The answer to a line.
-unfoldable pub answer_to : Parsed → List ℕ
-answer_to (Line s) = written (lengths_of s)
-answer_to Bad = bad_line
+unfoldable pub answer_to : Option Settings → List ℕ
+answer_to (Some s) = written (lengths_of s)
+answer_to None = bad_line
 
 unfoldable pub answer_of : List ℕ → List ℕ
 answer_of bytes = answer_to (parse_of bytes)

@@ -3,12 +3,3 @@
 
 pub mod read;
 pub mod write;
-
-use settings::Settings;
-
-// What a line holds.
-#[derive(Clone, Copy)]
-pub enum Parsed {
-    Line(Settings),
-    Bad,
-}

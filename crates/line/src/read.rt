@@ -3,26 +3,18 @@ ghost use Rattle.std.specs.Prelude.{◌≡◌, ◌≤◌, true, length};
 ghost use Rattle.line.specs.Read.{digit_of, digits, is_line, byte_at, settings_in, parse_of};
 ghost use Rattle.line.specs.Clauses.{HexByte};
 
-use crate::Parsed;
 use settings::Settings;
 
 // The value of a hexadecimal digit, 16 for any other byte.
+#[tactic(auto, unfolding(crate::specs::Read::digit_of))]
 fn digit(byte: u8) -> u8
     ensures { result ≡ digit_of byte }
 {
-    if byte < 48 {
-        return 16;
+    match byte {
+        b'0'..=b'9' => byte - 48,
+        b'A'..=b'F' => byte - 55,
+        _ => 16,
     }
-    if byte < 58 {
-        return byte - 48;
-    }
-    if byte < 65 {
-        return 16;
-    }
-    if byte < 71 {
-        return byte - 55;
-    }
-    16
 }
 
 // Whether the first n bytes are digits.
@@ -30,30 +22,24 @@ pub fn are_digits(bytes: &[u8], n: usize) -> bool
     requires { n ≤ length bytes.now }
     ensures { result ≡ digits bytes.now 0 n }
 {
-    let mut i = 0;
-    while i < n {
+    for i in 0..n {
         if 16 <= digit(bytes[i]) {
             return false;
         }
-        i += 1;
     }
     true
 }
 
 // Whether the bytes begin with twenty digits and a line feed.
+#[tactic(auto, unfolding(crate::specs::Read::is_line))]
 fn is_line(bytes: &[u8]) -> bool
     ensures { result ≡ is_line bytes.now }
 {
-    if bytes.len() < 21 {
-        return false;
-    }
-    if bytes[20] != 10 {
-        return false;
-    }
-    are_digits(bytes, 20)
+    20 < bytes.len() && bytes[20] == b'\n' && are_digits(bytes, 20)
 }
 
 // The kth byte that two digits each stand for.
+#[tactic(auto, unfolding(crate::specs::Read::byte_at))]
 pub fn byte_at(bytes: &[u8], k: usize) -> u8
     requires { HexByte bytes.now k }
     ensures { result ≡ byte_at bytes.now k }
@@ -80,12 +66,13 @@ fn settings_in(bytes: &[u8]) -> Settings
     }
 }
 
-// The settings of a line, or Bad for anything but twenty digits and a line end.
-pub fn parse(bytes: &[u8]) -> Parsed
+// The settings of a line, or none for anything but twenty digits and a line end.
+#[tactic(auto, unfolding(crate::specs::Read::parse_of))]
+pub fn parse(bytes: &[u8]) -> Option<Settings>
     ensures { result ≡ parse_of bytes.now }
 {
     if !is_line(bytes) {
-        return Parsed::Bad;
+        return None;
     }
-    Parsed::Line(settings_in(bytes))
+    Some(settings_in(bytes))
 }

@@ -1,12 +1,15 @@
 // Writing the line that answers a line of settings. The text is written from the start of a buffer, and its length given back.
-ghost use Rattle.std.specs.Prelude.{◌≡◌, ◌≤◌, ◌<◌, ◌++◌, length};
+ghost use Rattle.std.specs.Prelude.{◌≡◌, ◌≤◌, ◌<◌, ◌++◌, length, Ok};
+ghost use Rattle.settings.specs.Lengths.{lengths_yield};
 ghost use Rattle.std.proofs.lemmas.List.Edits.{sets};
 ghost use Rattle.line.specs.Written.{glyph, group, groups, decimal, line_end, written, bad_line, answer_of};
 
-use crate::{Parsed, read};
+use crate::read;
+use refusal::Refusal;
 use settings::Lengths;
 
 // The byte of a hexadecimal digit.
+#[tactic(auto, unfolding(crate::specs::Written::glyph))]
 pub fn glyph(n: u8) -> u8
     requires { n < 16 }
     ensures { result ≡ glyph n }
@@ -50,8 +53,8 @@ fn put_decimal(n: u8, out: &mut [u8; 32]) -> usize
 
 // Five groups of four digits, and a line feed.
 fn put_groups(l: Lengths, out: &mut [u8; 32]) -> usize
-    ensures out_after { out.new ≡ sets out.old 0 (groups l) }
-    ensures value { result ≡ length (groups l) }
+    ensures out_after { out.new ≡ sets out.old 0 (groups (lengths_yield (Ok l))) }
+    ensures value { result ≡ length (groups (lengths_yield (Ok l))) }
 {
     put_group(l.n1, out, 0);
     out[4] = 32;
@@ -67,41 +70,34 @@ fn put_groups(l: Lengths, out: &mut [u8; 32]) -> usize
 }
 
 // The lengths, or for a refusal its number in decimal.
-pub fn print(l: Lengths, out: &mut [u8; 32]) -> usize
-    ensures out_after { out.new ≡ sets out.old 0 (written l) }
-    ensures value { result ≡ length (written l) }
+pub fn print(lengths: Result<Lengths, Refusal>, out: &mut [u8; 32]) -> usize
+    ensures out_after { out.new ≡ sets out.old 0 (written (lengths_yield lengths)) }
+    ensures value { result ≡ length (written (lengths_yield lengths)) }
 {
-    if l.refusal != 0 {
-        return put_decimal(l.refusal, out);
+    match lengths {
+        Ok(l) => put_groups(l, out),
+        Err(refusal) => put_decimal(refusal.number(), out),
     }
-    put_groups(l, out)
 }
 
 // `bad line`
+#[tactic(auto, unfolding(crate::specs::Written::bad_line))]
 pub fn bad_line(out: &mut [u8; 32]) -> usize
     ensures out_after { out.new ≡ sets out.old 0 bad_line }
     ensures value { result ≡ length bad_line }
 {
-    out[0] = b'b';
-    out[1] = b'a';
-    out[2] = b'd';
-    out[3] = b' ';
-    out[4] = b'l';
-    out[5] = b'i';
-    out[6] = b'n';
-    out[7] = b'e';
-    out[8] = b'\n';
+    out[..9].copy_from_slice(b"bad line\n");
     9
 }
 
 // The answer to a line of settings.
+#[tactic(auto, unfolding(crate::specs::Written::answer_of, crate::specs::Written::answer_to))]
 pub fn answer(bytes: &[u8], out: &mut [u8; 32]) -> usize
     ensures out_after { out.new ≡ sets out.old 0 (answer_of bytes.now) }
     ensures value { result ≡ length (answer_of bytes.now) }
 {
-    let parsed = read::parse(bytes);
-    match parsed {
-        Parsed::Line(s) => print(settings::answers::lengths(s), out),
-        Parsed::Bad => bad_line(out),
+    match read::parse(bytes) {
+        Some(s) => print(settings::answers::lengths(s), out),
+        None => bad_line(out),
     }
 }

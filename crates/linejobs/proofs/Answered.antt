@@ -1,10 +1,9 @@
 -- What `fac-build` and `fac-read` say of a line, from what the calls yield.
-use Prim.Native.Nat.{ℕ}
+use Prim.Native.Nat.{ℕ, ◌≤◌, ◌<◌}
 use mathlib.Core.Path.{◌≡◌, sym, ap, ◌∙◌}
-use mathlib.Core.Bool.{true, false, ◌&&◌}
-use mathlib.Core.List.{List, ◌++◌, map}
+use mathlib.Core.Bool.{true, false}
+use mathlib.Core.List.{List, ◌++◌}
 use lib.ListN.{length, replicate}
-use lib.Dec.{ltb, eqb}
 use Rattle.settings.specs.declared.Settings.{Settings}
 use Rattle.line.specs.Written.{line_end}
 use Rattle.words.specs.Clauses.{Put}
@@ -12,39 +11,43 @@ use Rattle.words.proofs.Answers.{answered-refused, answered-through}
 use Rattle.console.specs.declared.LineJob.{LineJob}
 use Rattle.facfields.specs.Build.{build_yield, build_of}
 use Rattle.facfields.specs.Read.{read_yield, read_of}
-use Rattle.numerals.specs.declared.Scan.{Scan}
+use Rattle.std.specs.Prelude.{Some, None}
+use borrow.Author.Tests.{lt-ltb, le-ltb}
 use Rattle.turns.specs.Yield.{MadeYield, made_yield, made_through, made_refused, made_bad, bad}
 use Rattle.numerals.specs.Digits.{hex_digits, are_hex, bytes_in}
-use Rattle.numerals.specs.Numbers.{goes_on, are_numbers, numbers_in, numbers_line}
+use Rattle.numerals.specs.Numbers.{are_numbers, numbers_in, numbers_line}
 use Rattle.linejobs.specs.Lines.{line_of}
 use Rattle.linejobs.specs.Fields.{build_said, build_line, read_said, read_line}
-use Rattle.numerals.specs.Clauses.{held, Scanned}
+use Rattle.numerals.specs.Clauses.{Scanned}
 use Rattle.linejobs.proofs.Held.{build_held}
-use Rattle.lists.proofs.Bools.{and_right}
 
 -- `fac-build`.
-pub numbers_test : (line : List ℕ) (c : Scan) → Scanned line c → (ltb (length line) 256 && (c.good && (c.digit && eqb c.at 13))) ≡ are_numbers line
+pub too_long : (line : List ℕ) → 256 ≤ length line → are_numbers line ≡ false
 unfolding are_numbers
-numbers_test line c S = ap (λ b. ltb (length line) 256 && b) S.whole
+too_long line h = rw (le-ltb (length line) 256 h)
+
+pub no_numbers : (line : List ℕ) → length line < 256 → Scanned line None → are_numbers line ≡ false
+unfolding are_numbers
+no_numbers line h S = rw (lt-ltb (length line) 256 h, ← S.whole)
+
+pub some_numbers : (line values : List ℕ) → length line < 256 → Scanned line (Some values) → are_numbers line ≡ true
+unfolding are_numbers
+some_numbers line values h S = rw (lt-ltb (length line) 256 h, ← S.whole)
 
 pub build_bad : (s : Settings) (line out : List ℕ) → are_numbers line ≡ false → made_yield made_bad out ≡ build_line s line out
 unfolding build_line bad
 build_bad s line out e = rw e
 
-module _ (s : Settings) (line out block : List ℕ) (answer : ℕ) (c : Scan) (S : Scanned line c) (t : are_numbers line ≡ true)
-    (y : build_yield answer block ≡ build_of s c.values (replicate 9 0)) where
-  values : c.values ≡ map held (numbers_in line)
-  unfolding are_numbers
-  values = S.numbers (and_right (ltb (length line) 256) (goes_on 13 false line) t)
-
+module _ (s : Settings) (line out block values : List ℕ) (answer : ℕ) (h : length line < 256) (S : Scanned line (Some values))
+    (y : build_yield answer block ≡ build_of s values (replicate 9 0)) where
   said : build_said (build_yield answer block) out ≡ build_line s line out
   unfolding build_line
   said =
-      ap (λ z. build_said z out) (y ∙ ap (λ v. build_of s v (replicate 9 0)) values ∙ build_held s (numbers_in line) (replicate 9 0)) ∙ rw t
+      ap (λ z. build_said z out) (y ∙ ap (λ v. build_of s v (replicate 9 0)) S.numbers ∙ build_held s (numbers_in line) (replicate 9 0)) ∙ rw (some_numbers line values h S)
 
   pub build_refused : (answer ≡ 0 → ⊥) → made_yield (made_refused answer) out ≡ build_line s line out
   unfolding build_said
-  build_refused h = answered-refused answer (hex_digits block ++ line_end) out h ∙ said
+  build_refused n = answered-refused answer (hex_digits block ++ line_end) out n ∙ said
 
   pub build_through : answer ≡ 0 → (r : ℕ) (out' : List ℕ) → Put 19 (hex_digits block ++ line_end) out 0 r out' → made_yield (made_through r) out' ≡ build_line s line out
   unfolding build_said

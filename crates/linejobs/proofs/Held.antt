@@ -5,7 +5,7 @@ use mathlib.Core.Bool.{Bool, true, false, ◌&&◌}
 use mathlib.Core.List.{List, [], ◌∷◌, map}
 use native.Mathlib.Nat.{pow-le-pow_right}
 use native.Mathlib.Omega.{arith}
-use borrow.Author.Tests.{le-ltb, ltb-true, ltb-false}
+use borrow.Author.Tests.{le-ltb, ltb-true, ltb-false, ne_eqb}
 use lib.ListN.{length, length-map}
 use lib.Dec.{ltb}
 use Rattle.lists.proofs.Bools.{and_left, and_right, never_both}
@@ -13,8 +13,8 @@ use Rattle.settings.specs.declared.Settings.{Settings}
 use Rattle.crc.specs.Bits.{fit}
 use Rattle.facblocks.specs.Fields.{widths, fields_of, numbers_of, parameters, field_places, fields_among, within, agrees}
 use Rattle.facblocks.specs.declared.Fields.{Fields}
-use Rattle.facfields.specs.Build.{build_refusal, build_of}
-use Rattle.facfields.proofs.Refusals.{build_accepted, build_refused}
+use Rattle.facfields.specs.Build.{build_refusal, build_yield, build_of}
+use Rattle.facfields.proofs.Refusals.{build_accepted}
 use Rattle.numerals.specs.Clauses.{held}
 use Rattle.numerals.proofs.Scanning.{held_low, held_high, get_or-held}
 
@@ -85,6 +85,10 @@ refusal-held s ns block e = rw (length-map ns held, e)
 same_fields : (s : Settings) (ms ns block : List ℕ) → length ms ≡ length ns → fields_of ms ≡ fields_of ns → build_of s ms block ≡ build_of s ns block
 unfolding build_of build_refusal
 same_fields s ms ns block l e = rw (l, e)
+
+build_refused : (s : Settings) (ns block : List ℕ) (r : ℕ) → r ≡ build_refusal s ns block → (r ≡ 0 → ⊥) → build_yield r block ≡ build_of s ns block
+unfolding build_of
+build_refused s ns block r e h = rw (← e, ne_eqb r 0 h)
 
 pub build_held : (s : Settings) (ns block : List ℕ) → build_of s (map held ns) block ≡ build_of s ns block
 build_held s ns block = go (within (fields_of ns)) refl

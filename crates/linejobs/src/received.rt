@@ -1,5 +1,5 @@
 // A line of received bits, and the line of the block nearest to them. 02, S-9.
-ghost use Rattle.std.specs.Prelude.{◌≡◌, ◌≤◌, length};
+ghost use Rattle.std.specs.Prelude.{◌≡◌, ◌≤◌, length, IfOk};
 ghost use Rattle.superframe.specs.Call.{fac_bytes, fac_numbers};
 ghost use Rattle.words.specs.Clauses.{Put};
 ghost use Rattle.turns.specs.Yield.{made_yield};
@@ -9,24 +9,21 @@ ghost use Rattle.linejobs.specs.Clauses.{Found};
 use nearest::fac::fac_nearest;
 use numerals::digits::put_hex;
 use partlengths::tables::{FAC_BYTES, FAC_NUMBERS};
-use turns::Made;
+use turns::Failure;
 use turns::answers::{bad, through};
 use words::report::{put, put_decimal};
 
 // The value of a character: 0, 1, 2 for unknown, and 3 for any that is none of them.
+#[tactic(auto, unfolding(crate::specs::Nearest::value_of))]
 fn value_of(byte: u8) -> u8
     ensures { result ≡ value_of byte }
 {
-    if byte == b'0' {
-        return 0;
+    match byte {
+        b'0' => 0,
+        b'1' => 1,
+        b'?' => 2,
+        _ => 3,
     }
-    if byte == b'1' {
-        return 1;
-    }
-    if byte == b'?' {
-        return 2;
-    }
-    3
 }
 
 // The values of a line.
@@ -34,10 +31,8 @@ fn read_values(line: &[u8], values: &mut [u8])
     requires { length values.old ≡ length line.now }
     ensures { values.new ≡ values_in line.now }
 {
-    let mut i = 0;
-    while i < line.len() {
-        values[i] = value_of(line[i]);
-        i += 1;
+    for (i, byte) in line.iter().enumerate() {
+        values[i] = value_of(*byte);
     }
 }
 
@@ -59,13 +54,13 @@ fn find(line: &[u8], block: &mut [u8], count: &mut [u16]) -> bool
 {
     let mut values = [0u8; FAC_NUMBERS];
     read_values(line, &mut values);
-    fac_nearest(&values, block, count) == 0
+    fac_nearest(&values, block, count).is_ok()
 }
 
 // What `desk nearest` makes of a line.
-pub fn nearest_line(line: &[u8], out: &mut [u8; 1024]) -> Made
+pub fn nearest_line(line: &[u8], out: &mut [u8; 1024]) -> Result<usize, Failure>
     ensures out_after { made_yield result out.new ≡ nearest_line line.now out.old }
-    ensures length_bound { result.length ≤ 1024 }
+    ensures length_bound { IfOk result (λ n. n ≤ 1024) }
 {
     let mut block = [0u8; FAC_BYTES];
     let mut count = [0u16; 1];

@@ -1,17 +1,12 @@
 // The job that says how long a number of bytes takes.
-ghost use Rattle.std.specs.Prelude.{◌≤◌};
-
 use fitjobs::text;
 use pipes::arguments::argument;
-use pipes::output::{STDOUT_FILENO, say_line, say_settings, say_usage, write_front};
+use pipes::output::{STDOUT_FILENO, say_line, say_settings, say_usage};
 use settings::Settings;
-use turns::{End, Outcome};
+use turns::{End, Failure};
 
-// The first n bytes of an answer.
-fn print(text: &[u8; 1024], n: usize)
-    requires { n ≤ 1024 }
-{
-    if !write_front(STDOUT_FILENO, text, n) {
+fn print(text: &[u8]) {
+    if !io::write_all(STDOUT_FILENO, text) {
         say_line(End::Unwritten, 1);
     }
 }
@@ -19,12 +14,10 @@ fn print(text: &[u8; 1024], n: usize)
 // The answer to a number of bytes.
 fn answer(s: Settings, word: &[u8]) {
     let mut out = [0u8; 1024];
-    let made = text::fit(s, word, &mut out);
-    let outcome = made.outcome;
-    match outcome {
-        Outcome::Through => print(&out, made.length),
-        Outcome::Refused(number, _) => say_settings(number),
-        Outcome::Bad => say_usage(),
+    match text::fit(s, word, &mut out) {
+        Ok(n) => print(&out[..n]),
+        Err(Failure::Refused(number, _)) => say_settings(number),
+        Err(Failure::Bad) => say_usage(),
     }
 }
 

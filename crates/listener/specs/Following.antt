@@ -7,12 +7,11 @@ use Rattle.superframe.specs.Code.{CodeCall, CodeYield, code_of}
 use Rattle.superframe.specs.Read.{ReadCall, read_of}
 use Rattle.superframe.specs.Runs.{reading, Bits, no_bits, codes, brought, reads, handed}
 use Rattle.plan.specs.declared.Rule.{Rule}
-use Rattle.plan.specs.declared.Answer.{Answer}
 use Rattle.plan.specs.Rules.{week_frames, no_rule}
-use Rattle.plan.specs.Answers.{answer_of}
+use Rattle.plan.specs.Answers.{Answered, answer_of}
 
 -- The plan's answer for a super frame counted on through the weeks, its mark, and its rule's settings with a table.
-unfoldable pub answer_at : List Rule → ℕ → Answer
+unfoldable pub answer_at : List Rule → ℕ → Answered
 answer_at plan t = answer_of plan (t % week_frames)
 
 unfoldable pub mark_at : List Rule → ℕ → ℕ

@@ -1,11 +1,12 @@
 -- Laws of tests: of one and what it chooses, of two together, of every one of a list, and of the first that fails. Assumes nothing.
 use Prim.Native.Nat.{ℕ, zero, suc, ◌+◌, ◌≤◌, ◌<◌}
-use mathlib.Core.Path.{◌≡◌, refl, ap}
+use mathlib.Core.Path.{◌≡◌, refl, sym, ap}
 use mathlib.Core.Logic.{◌⊎◌, inl, inr}
 use mathlib.Core.Bool.{Bool, true, false, cond, ◌&&◌, ◌||◌}
 use mathlib.Core.List.{List, [], ◌∷◌, ◌++◌}
 use native.Mathlib.Omega.{arith}
 use lib.ListN.{get_or}
+use Rattle.std.specs.Prelude.{IsTrue, ◌↔◌}
 use Rattle.lists.specs.Lists.{table}
 use Rattle.lists.specs.Bools.{every, first_fault}
 use Rattle.lists.proofs.Tables.{get_or-table}
@@ -106,6 +107,13 @@ fails_at f k (suc n) h = go (f k) refl (fails_at f (suc k) n)
         let a = r.1 in
         let b = r.2 in
         (r.0, omega arith, omega arith, r.3)
+
+-- a test that holds exactly if all of a table's do is every one of them
+pub table-is : (f : ℕ → Bool) (P : ℕ → Type 0) (n : ℕ) (b : Bool) → ((i : ℕ) → i < n → P i → f i ≡ true) → ((i : ℕ) → i < n → f i ≡ true → P i)
+    → IsTrue b ↔ ((i : ℕ) → i < n → P i) → b ≡ every (table f 0 n)
+table-is f P n true to from e = sym (every-table f 0 n (λ i k l. let h : i < n = omega arith in to i h (e.0 refl i h)))
+table-is f P n false to from e =
+    sym (unless_true (every (table f 0 n)) (λ h. never_both false (e.1 (λ i l. from i l (table-every f n h i l))) refl))
 
 -- the first fault fails, and those before it hold; and the one of which that is true is the first
 pub first_fails : (l : List Bool) → every l ≡ false → get_or l (first_fault l) true ≡ false

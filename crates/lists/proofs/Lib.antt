@@ -1,5 +1,4 @@
 pub mod Same
-pub mod Copies
 pub mod Tables
 pub mod Counting
 pub mod Parts

@@ -1,5 +1,4 @@
-// Lists by their places, and buffers copied and compared.
+// Lists by their places, and buffers compared.
 #![tactic(auto)]
 
-pub mod bytes;
 pub mod numbers;

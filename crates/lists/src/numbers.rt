@@ -1,13 +1,6 @@
 // Signed numbers: cells.
 ghost use Rattle.std.specs.Prelude.{◌≡◌, length};
-ghost use Rattle.lists.specs.Same.{same_number, same_numbers};
-
-// Whether two numbers are equal.
-fn is_same(v: i16, w: i16) -> bool
-    ensures { result ≡ same_number v w }
-{
-    v == w
-}
+ghost use Rattle.lists.specs.Same.{same_numbers};
 
 // Whether two lists of numbers of one length are equal. All are looked at, whatever came before, so that a processor compares several at once.
 pub fn same(x: &[i16], y: &[i16]) -> bool
@@ -15,10 +8,8 @@ pub fn same(x: &[i16], y: &[i16]) -> bool
     ensures { result ≡ same_numbers x.now y.now }
 {
     let mut passed = true;
-    let mut i = 0;
-    while i < x.len() {
-        passed = passed & is_same(x[i], y[i]);
-        i += 1;
+    for i in 0..x.len() {
+        passed &= x[i] == y[i];
     }
     passed
 }

@@ -5,9 +5,12 @@ use mathlib.Core.Bool.{Bool, true, false}
 use mathlib.Core.List.{List}
 use native.Mathlib.Nat.{zero-add}
 use native.Mathlib.Omega.{arith}
-use borrow.Author.Tests.{eq-eqb, ne_eqb}
-use lib.Dec.{ltb}
-use lib.ListN.{length, get_or}
+use borrow.Author.Tests.{eq-eqb, ne_eqb, eqb-true}
+use lib.Dec.{eqb, ltb}
+use Rattle.std.specs.Prelude.{EachIndex, IsTrue, ◌↔◌}
+use lib.ListN.{length, get_or, take, drop, length-take, length-drop}
+use Rattle.std.proofs.lemmas.List.{get_or-take, get_or-drop}
+use Rattle.lists.proofs.Bools.{table-is}
 use Rattle.lists.specs.Lists.{table, total}
 use Rattle.lists.specs.Bools.{every}
 use Rattle.patterns.specs.Patterns.{RX, begins, entry}
@@ -18,6 +21,24 @@ use Rattle.patterns.proofs.Loaded.{within}
 pub first_entry : (kept : List ℕ) (rate i at : ℕ) → at ≡ begins rate → get_or kept (at + i) 0 ≡ entry kept rate 0 i
 unfolding entry
 first_entry kept rate i at e = ap (λ k. get_or kept k 0) (omega arith)
+
+-- a row of a table is all ones exactly if each of its numbers is one
+pub first_row-is : (kept : List ℕ) (rate at width : ℕ) (b : Bool) → length kept ≡ table_size → rate < 13 → at ≡ begins rate → width ≡ RX rate
+    → IsTrue b ↔ EachIndex (take (at + width - at) (drop at kept)) (λ k. get_or (take (at + width - at) (drop at kept)) k 0 ≡ 1)
+    → b ≡ every (table (λ i. eqb (entry kept rate 0 i) 1) 0 (RX rate))
+first_row-is kept rate at width b l h ea ew e = go (take (at + width - at) (drop at kept)) long same e
+  where
+    long : length (take (at + width - at) (drop at kept)) ≡ RX rate
+    long = simp (length-take, length-drop) (omega (arith, within rate h))
+
+    same : (i : ℕ) → i < RX rate → get_or (take (at + width - at) (drop at kept)) i 0 ≡ entry kept rate 0 i
+    same i q = get_or-take (at + width - at) (drop at kept) i 0 (omega arith) ∙ get_or-drop at kept i 0 ∙ first_entry kept rate i at ea
+
+    go : (r : List ℕ) → length r ≡ RX rate → ((i : ℕ) → i < RX rate → get_or r i 0 ≡ entry kept rate 0 i)
+        → IsTrue b ↔ EachIndex r (λ k. get_or r k 0 ≡ 1) → b ≡ every (table (λ i. eqb (entry kept rate 0 i) 1) 0 (RX rate))
+    go r n s e =
+        table-is (λ i. eqb (entry kept rate 0 i) 1) (λ i. get_or r i 0 ≡ 1) (RX rate) b
+        (λ i q t. eq-eqb (entry kept rate 0 i) 1 (sym (s i q) ∙ t)) (λ i q t. s i q ∙ eqb-true (entry kept rate 0 i) 1 t) (rw n at e)
 
 -- what a loop that adds a rate's numbers knows at number k: the sum so far and what is left are the whole
 pub record Counts (kept : List ℕ) (rate end k sum : ℕ) : Type 0 where

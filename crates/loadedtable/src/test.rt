@@ -11,14 +11,7 @@ use patterns::table::{TABLE_SIZE, begins, denominator, numerator};
 fn bits_only(kept: &[u8]) -> bool
     ensures { result ≡ every (table (λ k. ltb (get_or kept.now k 0) 2) 0 (length kept.now)) }
 {
-    let mut k = 0;
-    while k < kept.len() {
-        if 2 <= kept[k] {
-            return false;
-        }
-        k += 1;
-    }
-    true
+    kept.iter().all(|number| *number < 2)
 }
 
 // Row B0 of a rate is all ones.
@@ -28,21 +21,7 @@ fn first_row(kept: &[u8], rate: usize) -> bool
 {
     let width = numerator(rate);
     let at = begins(rate);
-    let mut i = 0;
-    while i < width {
-        if kept[at + i] != 1 {
-            return false;
-        }
-        i += 1;
-    }
-    true
-}
-
-// A number of a table, whatever it is.
-fn wide(v: u8) -> usize
-    ensures { (result ≡ v) × (result < 256) }
-{
-    v as usize
+    kept[at..at + width].iter().all(|number| *number == 1)
 }
 
 // The sum of a rate's numbers.
@@ -53,10 +32,8 @@ fn count(kept: &[u8], rate: usize) -> usize
     let at = begins(rate);
     let end = at + 4 * numerator(rate);
     let mut sum = 0;
-    let mut k = at;
-    while k < end {
-        sum += wide(kept[k]);
-        k += 1;
+    for k in at..end {
+        sum += usize::from(kept[k]);
     }
     sum
 }
@@ -66,10 +43,7 @@ fn rate_passes(kept: &[u8], rate: usize) -> bool
     requires { (length kept.now ≡ table_size) × (rate < 13) }
     ensures { result ≡ rate_passes kept.now rate }
 {
-    if !first_row(kept, rate) {
-        return false;
-    }
-    count(kept, rate) == denominator(rate)
+    first_row(kept, rate) && count(kept, rate) == denominator(rate)
 }
 
 // Every rate passes.
@@ -77,14 +51,7 @@ fn rates_pass(kept: &[u8]) -> bool
     requires { length kept.now ≡ table_size }
     ensures { result ≡ every (table (rate_passes kept.now) 0 13) }
 {
-    let mut rate = 0;
-    while rate < 13 {
-        if !rate_passes(kept, rate) {
-            return false;
-        }
-        rate += 1;
-    }
-    true
+    (0..13).all(|rate| rate_passes(kept, rate))
 }
 
 // Whether a table passes.
@@ -94,8 +61,5 @@ pub fn passes(kept: &[u8]) -> bool
     if kept.len() != TABLE_SIZE {
         return false;
     }
-    if !bits_only(kept) {
-        return false;
-    }
-    rates_pass(kept)
+    bits_only(kept) && rates_pass(kept)
 }

@@ -10,16 +10,18 @@ use lib.ListN.{length, get_or, set}
 use lib.Dec.{eqb}
 use lib.IntN.{ℤ, pos}
 use Rattle.lists.proofs.Tables.{Filled, filled-start, filled_turn, filled_end}
-use Rattle.block.specs.Mapping.{Constellation, constellation, axis, weave}
+use Rattle.block.specs.declared.Constellation.{Constellation}
+use Rattle.block.specs.declared.Constellation.TheVariants.{Qam4, Qam16, Sm64, HmSym, HmMix}
+use Rattle.block.specs.Mapping.{Labellings, constellation, is_mixed, axis, weave}
 use Rattle.mapping.specs.Labels.{coordinates}
 use Rattle.block.proofs.Mapping.{get_or-weave}
 
 -- the labelling of an even number is the real axis's, of an odd one the imaginary axis's
-pub axis_even : (k : Constellation) (j : ℕ) → j % 2 ≡ 0 → axis k j ≡ k.real
+pub axis_even : (k : Labellings) (j : ℕ) → j % 2 ≡ 0 → axis k j ≡ k.real
 unfolding axis
 axis_even k j e = rw (eq-eqb (j % 2) 0 e)
 
-pub axis_odd : (k : Constellation) (j : ℕ) → j % 2 ≡ 1 → axis k j ≡ k.imaginary
+pub axis_odd : (k : Labellings) (j : ℕ) → j % 2 ≡ 1 → axis k j ≡ k.imaginary
 unfolding axis
 axis_odd k j e = rw (ne_eqb (j % 2) 0 (omega arith))
 
@@ -30,13 +32,13 @@ both_axes P p q (suc zero) h = q
 both_axes P p q (suc (suc a)) h = absurd (omega arith)
 
 -- the labelling of a coordinate by its axis
-pub axis_of : (K : Constellation) (k a : ℕ) → a < 2 → axis K (2 * k + a) ≡ axis K a
+pub axis_of : (K : Labellings) (k a : ℕ) → a < 2 → axis K (2 * k + a) ≡ axis K a
 axis_of K k = both_axes (λ a. axis K (2 * k + a) ≡ axis K a)
     (axis_even K (2 * k + 0) (omega arith) ∙ sym (axis_even K 0 refl))
     (axis_odd K (2 * k + 1) (omega arith) ∙ sym (axis_odd K 1 refl))
 
 -- where both axes of a constellation have one labelling
-pub one_labelling : (K : Constellation) (l : List ℤ) → K.real ≡ l → K.imaginary ≡ l → (a : ℕ) → axis K a ≡ l
+pub one_labelling : (K : Labellings) (l : List ℤ) → K.real ≡ l → K.imaginary ≡ l → (a : ℕ) → axis K a ≡ l
 unfolding axis
 one_labelling K l e f a = go (eqb (a % 2) 0)
   where
@@ -45,25 +47,25 @@ one_labelling K l e f a = go (eqb (a % 2) 0)
     go false = f
 
 -- as in all but HMmix
-pub alike : (c : ℕ) → c < 4 → (j : ℕ) → axis (constellation c) j ≡ axis (constellation c) 0
+pub alike : (c : Constellation) → is_mixed c ≡ false → (j : ℕ) → axis (constellation c) j ≡ axis (constellation c) 0
 unfolding axis constellation
-alike zero h = one_labelling (constellation 0) _ refl refl
-alike (suc zero) h = one_labelling (constellation 1) _ refl refl
-alike (suc (suc zero)) h = one_labelling (constellation 2) _ refl refl
-alike (suc (suc (suc zero))) h = one_labelling (constellation 3) _ refl refl
-alike (suc (suc (suc (suc c)))) h = absurd (omega arith)
+alike Qam4 h = one_labelling (constellation Qam4) _ refl refl
+alike Qam16 h = one_labelling (constellation Qam16) _ refl refl
+alike Sm64 h = one_labelling (constellation Sm64) _ refl refl
+alike HmSym h = one_labelling (constellation HmSym) _ refl refl
+alike HmMix h = absurd (cc)
 
 -- before the turn at cell k of the coordinates of labels
-pub record Placing (c : ℕ) (labels : List ℕ) (d out : List ℤ) (k : ℕ) : Type 0 where
+pub record Placing (c : Constellation) (labels : List ℕ) (d out : List ℤ) (k : ℕ) : Type 0 where
   pub long : length d ≡ length labels
   pub whole : 2 * k ≤ length d
   pub filled : Filled (pos 0) (λ j. get_or (axis (constellation c) j) (get_or labels j 0) (pos 0)) d out (2 * k)
 
-pub start : (c : ℕ) (labels : List ℕ) (d : List ℤ) → length d ≡ length labels → Placing c labels d d 0
+pub start : (c : Constellation) (labels : List ℕ) (d : List ℤ) → length d ≡ length labels → Placing c labels d d 0
 start c labels d e = record { long = e; whole = omega arith; filled = filled-start (pos 0) _ d }
 
 -- a turn places the two coordinates of a cell, whose labels are re and im
-pub turn : {c : ℕ} {labels : List ℕ} {d out : List ℤ} {k : ℕ} {a b : ℤ} → Placing c labels d out k → 2 * k + 1 < length d
+pub turn : {c : Constellation} {labels : List ℕ} {d out : List ℤ} {k : ℕ} {a b : ℤ} → Placing c labels d out k → 2 * k + 1 < length d
     → (re im : ℕ) → re ≡ get_or labels (2 * k) 0 → im ≡ get_or labels (2 * k + 1) 0
     → a ≡ get_or (axis (constellation c) 0) re (pos 0) → b ≡ get_or (axis (constellation c) 1) im (pos 0)
     → Placing c labels d (set (set out (2 * k) a) (2 * k + 1) b) (k + 1)
@@ -76,7 +78,7 @@ turn {c} {labels} {d} {out} {k} {a} {b} P h re im e f ra ib =
     let n : 2 * k + 1 + 1 ≡ 2 * (k + 1) = omega arith in
     record { long = P.long; whole = omega arith; filled = rw n at two }
 
-pub done : {c : ℕ} {labels : List ℕ} {d out : List ℤ} {k : ℕ} → Placing c labels d out k → length d ≤ 2 * k → out ≡ coordinates (constellation c) labels
+pub done : {c : Constellation} {labels : List ℕ} {d out : List ℤ} {k : ℕ} → Placing c labels d out k → length d ≤ 2 * k → out ≡ coordinates (constellation c) labels
 unfolding coordinates
 done {c} {labels} {d} {out} {k} P h =
     let e : 2 * k ≡ length labels = omega (arith, P.whole, P.long) in

@@ -1,5 +1,5 @@
 -- Coordinates back to the labels of their level bits, by their four lowest binary digits. Assumes nothing.
-use Prim.Native.Nat.{ℕ, zero, suc, ◌+◌, ◌*◌, ◌/◌, ◌≤◌, ◌<◌}
+use Prim.Native.Nat.{ℕ, ◌+◌, ◌*◌, ◌/◌, ◌≤◌, ◌<◌}
 use mathlib.Core.Bool.{false}
 use mathlib.Core.Path.{◌≡◌, refl, sym, ◌∙◌}
 use mathlib.Core.Logic.{◌⊎◌, inl, inr}
@@ -20,6 +20,8 @@ use Rattle.lists.proofs.Tables.{Filled, filled-start, filled_turn, filled_end, g
 use Rattle.cellbytes.specs.CellBytes.{signed}
 use Rattle.cellbytes.specs.TwosComplement.{twos_complement}
 use Rattle.cellbytes.proofs.Bits.{same_below}
+use Rattle.block.specs.declared.Constellation.{Constellation}
+use Rattle.block.specs.declared.Constellation.TheVariants.{Qam4, Qam16, Sm64, HmSym, HmMix}
 use Rattle.block.specs.Mapping.{coordinate, qam4, qam16, standard64, symmetric64, constellation, axis}
 use Rattle.block.specs.Reading.{place_of, labels_of}
 use Rattle.block.proofs.Mapping.{length-numbers}
@@ -62,14 +64,13 @@ pub data Known : List ℤ → Type 0 where
   standard : Known standard64
   symmetric : Known symmetric64
 
-known-axis : (c a : ℕ) → a < 2 → Known (axis (constellation c) a)
+known-axis : (c : Constellation) (a : ℕ) → a < 2 → Known (axis (constellation c) a)
 unfolding axis constellation
-known-axis zero = both_axes _ k4 k4
-known-axis (suc zero) = both_axes _ k16 k16
-known-axis (suc (suc zero)) = both_axes _ standard standard
-known-axis (suc (suc (suc zero))) = both_axes _ symmetric symmetric
-known-axis (suc (suc (suc (suc zero)))) = both_axes _ symmetric standard
-known-axis (suc (suc (suc (suc (suc c))))) = both_axes _ k4 k4
+known-axis Qam4 = both_axes _ k4 k4
+known-axis Qam16 = both_axes _ k16 k16
+known-axis Sm64 = both_axes _ standard standard
+known-axis HmSym = both_axes _ symmetric symmetric
+known-axis HmMix = both_axes _ symmetric standard
 
 none_known : {l : List ℤ} → Known l → (v : ℤ) → None v → place_of l v ≡ place_of l (pos 0)
 unfolding place_of same_number table qam4 qam16 standard64 symmetric64 coordinate
@@ -137,19 +138,19 @@ module _ {l : List ℤ} (known : Known l) {labels : List ℕ} (e : labels ≡ la
       go (inr h) = rw (le-ltb n 8 h) (other (negsuc n) (none_below n h))
 
 -- the label of a number that was read from a slice of signed 16-bit numbers, on an axis of a constellation
-pub number_read : (c a : ℕ) → a < 2 → (v : ℤ) (labels : List ℕ) (r : ℕ) → SFits w16 v → labels ≡ labels_by (axis (constellation c) a)
+pub number_read : (c : Constellation) (a : ℕ) → a < 2 → (v : ℤ) (labels : List ℕ) (r : ℕ) → SFits w16 v → labels ≡ labels_by (axis (constellation c) a)
     → r ≡ label_by labels (to_z w16 (of_z w16 v)) → r ≡ place_of (axis (constellation c) a) v
 number_read c a h v labels r s e f = f ∙ rw (to_z-of_z {w = w16} s) (label_by_lem (known-axis c a h) e v)
 
 -- before the turn at cell k of the labels of one axis
-pub record Axis (c a : ℕ) (cells : List ℤ) (d out : List ℕ) (k : ℕ) : Type 0 where
+pub record Axis (c : Constellation) (a : ℕ) (cells : List ℤ) (d out : List ℕ) (k : ℕ) : Type 0 where
   pub whole : k ≤ length d
   pub filled : Filled 0 (λ i. get_or (labels_of (constellation c) cells) (2 * i + a) 0) d out k
 
-pub axis-start : (c a : ℕ) (cells : List ℤ) (d : List ℕ) → Axis c a cells d d 0
+pub axis-start : (c : Constellation) (a : ℕ) (cells : List ℤ) (d : List ℕ) → Axis c a cells d d 0
 axis-start c a cells d = record { whole = omega arith; filled = filled-start 0 _ d }
 
-pub axis_turn : {c a : ℕ} {cells : List ℤ} {d out : List ℕ} {k : ℕ} → Axis c a cells d out k → a < 2 → k < length d → length cells ≡ 2 * length d
+pub axis_turn : {c : Constellation} {a : ℕ} {cells : List ℤ} {d out : List ℕ} {k : ℕ} → Axis c a cells d out k → a < 2 → k < length d → length cells ≡ 2 * length d
     → (r : ℕ) → r ≡ place_of (axis (constellation c) a) (get_or cells (2 * k + a) (pos 0)) → Axis c a cells d (set out k r) (k + 1)
 unfolding labels_of
 axis_turn {c} {a} {cells} {d} {out} {k} P h m n r e =
@@ -157,7 +158,7 @@ axis_turn {c} {a} {cells} {d} {out} {k} P h m n r e =
     let f = get_or-table 0 (λ j. place_of (axis K j) (get_or cells j (pos 0))) (length cells) (2 * k + a) (omega arith) in
     record { whole = omega arith; filled = filled_turn 0 _ d out k r m (e ∙ sym (rw (axis_of K k a h) at f)) P.filled }
 
-pub axis_done : {c a : ℕ} {cells : List ℤ} {d out : List ℕ} {k : ℕ} → Axis c a cells d out k → length d ≤ k → length cells ≡ 2 * length d
+pub axis_done : {c : Constellation} {a : ℕ} {cells : List ℤ} {d out : List ℕ} {k : ℕ} → Axis c a cells d out k → length d ≤ k → length cells ≡ 2 * length d
     → out ≡ axis_labels a (labels_of (constellation c) cells)
 unfolding axis_labels
 axis_done {c} {a} {cells} {d} {out} {k} P h n =

@@ -1,10 +1,12 @@
 -- What the functions of this crate require of the buffers that they are lent, and promise of them: nothing of 01 is stated here.
-use Rattle.std.specs.Prelude.{ℕ, ◌*◌, ◌<◌, ◌≡◌, List, length, get_or, ℤ, pos, negsuc, cond, ◌&&◌}
+use Rattle.std.specs.Prelude.{ℕ, ◌*◌, ◌<◌, ◌≡◌, false, List, length, get_or, ℤ, pos, negsuc, cond, ◌&&◌}
 use Rattle.std.specs.Int.Signed.{lt_z}
 use Rattle.std.specs.Int.Bits.{bit_and}
 use Rattle.std.specs.Int.{w16}
 use Rattle.std.proofs.Common.{of_z}
 use Rattle.lists.specs.Lists.{table}
+use Rattle.block.specs.declared.Constellation.{Constellation}
+use Rattle.block.specs.Mapping.{is_mixed}
 use Rattle.block.specs.Reading.{place_of}
 use Rattle.cellbytes.specs.CellBytes.{signed}
 
@@ -13,27 +15,25 @@ pub record ThreeBits (l : List ℕ) : Type 0 where
   pub low : (k : ℕ) → get_or l k 0 < 8
 
 -- A constellation whose axes have one labelling, and a number of level bits for each coordinate.
-pub record Maps (c : ℕ) (labels : List ℕ) (out : List ℤ) : Type 0 where
-  pub known : c < 4
+pub record Maps (c : Constellation) (labels : List ℕ) (out : List ℤ) : Type 0 where
+  pub one : is_mixed c ≡ false
   pub same : length out ≡ length labels
   pub low : ThreeBits labels
 
--- A constellation, and a number of level bits of each axis for each cell.
-pub record MapsAxes (c : ℕ) (re im : List ℕ) (out : List ℤ) : Type 0 where
-  pub known : c < 5
+-- A number of level bits of each axis for each cell.
+pub record MapsAxes (re im : List ℕ) (out : List ℤ) : Type 0 where
   pub same : length out ≡ 2 * length re
   pub both : length im ≡ length re
   pub low_real : ThreeBits re
   pub low_imaginary : ThreeBits im
 
 -- A constellation whose axes have one labelling, and room for a number for each coordinate.
-pub record Unmaps (c : ℕ) (cells : List ℤ) (out : List ℕ) : Type 0 where
-  pub known : c < 4
+pub record Unmaps (c : Constellation) (cells : List ℤ) (out : List ℕ) : Type 0 where
+  pub one : is_mixed c ≡ false
   pub same : length out ≡ length cells
 
--- A constellation's axis, whole cells, and room for a number of the axis for each cell.
-pub record UnmapsAxis (c a : ℕ) (cells : List ℤ) (out : List ℕ) : Type 0 where
-  pub known : c < 5
+-- An axis, whole cells, and room for a number of the axis for each cell.
+pub record UnmapsAxis (a : ℕ) (cells : List ℤ) (out : List ℕ) : Type 0 where
   pub axis : a < 2
   pub same : length cells ≡ 2 * length out
 

@@ -6,6 +6,8 @@ ghost use Rattle.mapping.specs.Labels.{coordinates, axis_labels};
 ghost use Rattle.mapping.specs.Labellings.{coordinate_by, LabellingFits, Labels};
 ghost use Rattle.mapping.specs.Clauses.{labels_by, label_by, Maps, MapsAxes, Unmaps, UnmapsAxis};
 
+use block::Constellation;
+
 // An axis's labelling in numbers: coordinates go down from size - 1, by the label, by its bits that `twice` has once more, and by 7 more for each that
 // `odd` has.
 #[derive(Clone, Copy)]
@@ -40,16 +42,16 @@ const SYMMETRIC64: Labelling = Labelling {
 };
 
 // The labelling of a constellation's axis: axis 0 is the real, axis 1 the imaginary one.
-fn axis_labelling(c: u8, a: usize) -> Labelling
-    requires { (c < 5) × (a < 2) }
+fn axis_labelling(c: Constellation, a: usize) -> Labelling
+    requires { a < 2 }
     ensures { Labels result.size result.twice result.odd (axis (constellation c) a) }
 {
     match c {
-        0 => QAM4,
-        1 => QAM16,
-        2 => STANDARD64,
-        3 => SYMMETRIC64,
-        _ => {
+        Constellation::Qam4 => QAM4,
+        Constellation::Qam16 => QAM16,
+        Constellation::Sm64 => STANDARD64,
+        Constellation::HmSym => SYMMETRIC64,
+        Constellation::HmMix => {
             if a == 0 {
                 return SYMMETRIC64;
             }
@@ -70,30 +72,26 @@ fn coordinate_of(l: Labelling, label: u8) -> i16
 }
 
 // Labels i0 + 2 × i1 + 4 × i2, flat, real before imaginary, to coordinates, where both axes have one labelling.
-pub fn map_cells(c: u8, labels: &[u8], out: &mut [i16])
+pub fn map_cells(c: Constellation, labels: &[u8], out: &mut [i16])
     requires { Maps c labels.now out.old }
     ensures { out.new ≡ coordinates (constellation c) labels.now }
 {
     let l = axis_labelling(c, 0);
-    let mut k = 0;
-    while k < labels.len() {
+    for k in 0..labels.len() {
         out[k] = coordinate_of(l, labels[k]);
-        k += 1;
     }
 }
 
 // Labels of the real and of the imaginary axis to coordinates.
-pub fn map_axes(c: u8, re: &[u8], im: &[u8], out: &mut [i16])
-    requires { MapsAxes c re.now im.now out.old }
+pub fn map_axes(c: Constellation, re: &[u8], im: &[u8], out: &mut [i16])
+    requires { MapsAxes re.now im.now out.old }
     ensures { out.new ≡ coordinates (constellation c) (weave re.now im.now) }
 {
     let real = axis_labelling(c, 0);
     let imaginary = axis_labelling(c, 1);
-    let mut k = 0;
-    while k < re.len() {
+    for k in 0..re.len() {
         out[2 * k] = coordinate_of(real, re[k]);
         out[2 * k + 1] = coordinate_of(imaginary, im[k]);
-        k += 1;
     }
 }
 
@@ -107,16 +105,16 @@ const LABELS_STANDARD64: [u8; 16] = [8, 3, 8, 2, 8, 1, 8, 0, 8, 7, 8, 6, 8, 5, 8
 const LABELS_SYMMETRIC64: [u8; 16] = [8, 6, 8, 4, 8, 2, 8, 0, 8, 7, 8, 5, 8, 3, 8, 1];
 
 // The labels of a constellation's axis: axis 0 is the real, axis 1 the imaginary one.
-fn axis_labels(c: u8, a: usize) -> [u8; 16]
-    requires { (c < 5) × (a < 2) }
+fn axis_labels(c: Constellation, a: usize) -> [u8; 16]
+    requires { a < 2 }
     ensures { result ≡ labels_by (axis (constellation c) a) }
 {
     match c {
-        0 => LABELS4,
-        1 => LABELS16,
-        2 => LABELS_STANDARD64,
-        3 => LABELS_SYMMETRIC64,
-        _ => {
+        Constellation::Qam4 => LABELS4,
+        Constellation::Qam16 => LABELS16,
+        Constellation::Sm64 => LABELS_STANDARD64,
+        Constellation::HmSym => LABELS_SYMMETRIC64,
+        Constellation::HmMix => {
             if a == 0 {
                 return LABELS_SYMMETRIC64;
             }
@@ -136,8 +134,8 @@ fn label_of(labels: &[u8; 16], v: i16) -> u8
 }
 
 // The number of a coordinate's level bits on an axis of a constellation.
-pub fn axis_label(c: u8, a: usize, v: i16) -> u8
-    requires { (c < 5) × (a < 2) }
+pub fn axis_label(c: Constellation, a: usize, v: i16) -> u8
+    requires { a < 2 }
     ensures { result ≡ place_of (axis (constellation c) a) v }
 {
     let labels = axis_labels(c, a);
@@ -145,27 +143,23 @@ pub fn axis_label(c: u8, a: usize, v: i16) -> u8
 }
 
 // Coordinates, real before imaginary, back to labels, where both axes have one labelling.
-pub fn unmap_cells(c: u8, cells: &[i16], out: &mut [u8])
+pub fn unmap_cells(c: Constellation, cells: &[i16], out: &mut [u8])
     requires { Unmaps c cells.now out.old }
     ensures { out.new ≡ labels_of (constellation c) cells.now }
 {
     let labels = axis_labels(c, 0);
-    let mut k = 0;
-    while k < out.len() {
+    for k in 0..out.len() {
         out[k] = label_of(&labels, cells[k]);
-        k += 1;
     }
 }
 
 // The coordinates of one axis back to its labels.
-pub fn unmap_axis(c: u8, a: usize, cells: &[i16], out: &mut [u8])
-    requires { UnmapsAxis c a cells.now out.old }
+pub fn unmap_axis(c: Constellation, a: usize, cells: &[i16], out: &mut [u8])
+    requires { UnmapsAxis a cells.now out.old }
     ensures { out.new ≡ axis_labels a (labels_of (constellation c) cells.now) }
 {
     let labels = axis_labels(c, a);
-    let mut k = 0;
-    while k < out.len() {
+    for k in 0..out.len() {
         out[k] = label_of(&labels, cells[2 * k + a]);
-        k += 1;
     }
 }

@@ -1,5 +1,5 @@
 -- Accepted and refused calls. Assumes nothing.
-use Prim.Native.Nat.{ℕ, zero, suc, ◌+◌, ◌*◌, ◌/◌, ◌%◌, ◌≤◌, ◌<◌}
+use Prim.Native.Nat.{ℕ, ◌+◌, ◌*◌, ◌/◌, ◌%◌, ◌≤◌, ◌<◌}
 use mathlib.Core.Path.{◌≡◌, refl, sym, ap, ◌∙◌}
 use mathlib.Core.Bool.{Bool, true, false, not, ◌&&◌}
 use mathlib.Core.List.{List}
@@ -16,12 +16,11 @@ use Rattle.settings.specs.declared.Settings.{Settings}
 use Rattle.settings.specs.Accepted.{Accepted}
 use Rattle.settings.specs.Refusal.{first, refusal}
 use Rattle.settings.proofs.Bounds.{accepted_of}
+use Rattle.block.specs.declared.Constellation.{Constellation}
+use Rattle.block.specs.declared.Constellation.TheVariants.{Qam4, Qam16, Sm64, HmSym, HmMix}
 use Rattle.block.specs.Mapping.{constellation}
-use Rattle.channels.specs.Sdc.{sdc_constellation}
-use Rattle.channels.specs.Msc.{msc_constellation}
 use Rattle.decision.specs.declared.MeasuredCell.{MeasuredCell}
 use Rattle.measured.specs.declared.Channel.{Channel}
-use Rattle.measured.specs.declared.Channel.TheVariants.{Fac, Sdc, Msc}
 use Rattle.decision.specs.Cells.{refused_cell, point_on}
 use Rattle.measured.specs.Calls.{axis_bits, cell_at, pass_at, pass, point_at, points_of, bit_at, bits_of, constellation_of, DecideYield, decide_yield, decide_refusal, decide_by, decide_of}
 use Rattle.measured.specs.Clauses.{Lent, PointsFit, BitFits, BitsFit}
@@ -76,7 +75,7 @@ go_first true x y h e = absurd (omega arith)
 go_first false x y h e = (refl, e)
 
 -- acceptance gives what the functions require
-module _ (c : ℕ) (kinds : List ℕ) (values : List Float) (p b r : ℕ) (known : c < 5) (e : r ≡ decide_refusal c kinds values p b) (z : r ≡ 0) where
+module _ (c : Constellation) (kinds : List ℕ) (values : List Float) (p b r : ℕ) (e : r ≡ decide_refusal c kinds values p b) (z : r ≡ 0) where
   record Accepts : Type 0 where
     lent : Lent kinds values
     room : p ≡ 2 * length kinds
@@ -98,47 +97,41 @@ module _ (c : ℕ) (kinds : List ℕ) (values : List Float) (p b r : ℕ) (known
         passed = not-false _ w.0;
       }
 
-  pub accepted_points : (points : List ℤ) → length points ≡ p → PointsFit c kinds values points
-  accepted_points points l = record { known = known; lent = accepts.lent; passed = accepts.passed; room = l ∙ accepts.room }
+  pub accepted_points : (points : List ℤ) → length points ≡ p → PointsFit kinds values points
+  accepted_points points l = record { lent = accepts.lent; passed = accepts.passed; room = l ∙ accepts.room }
 
   pub accepted-bits : (points : List ℤ) (bits : List ℕ) → length bits ≡ b → points ≡ points_of c kinds values → BitsFit c kinds values points bits
-  accepted-bits points bits l f = record { known = known; lent = accepts.lent; are = f; room = l ∙ accepts.all }
+  accepted-bits points bits l f = record { lent = accepts.lent; are = f; room = l ∙ accepts.all }
 
-module _ (c : ℕ) (kinds : List ℕ) (values : List Float) (points : List ℤ) (bits : List ℕ) where
+module _ (c : Constellation) (kinds : List ℕ) (values : List Float) (points : List ℤ) (bits : List ℕ) where
   -- what the call yields
   pub by_accepted : (r : ℕ) → r ≡ decide_refusal c kinds values (length points) (length bits) → r ≡ 0 → (ps : List ℤ) (bs : List ℕ)
       → ps ≡ points_of c kinds values → bs ≡ bits_of c kinds values → decide_yield 0 ps bs ≡ decide_by c kinds values points bits
   unfolding decide_by
   by_accepted r e z ps bs f g = rw (eq-eqb _ 0 (sym e ∙ z), f, g)
 
-  pub by_refused : (r : ℕ) → r ≡ decide_refusal c kinds values (length points) (length bits) → (r ≡ 0 → ⊥) → decide_yield r points bits ≡ decide_by c kinds values points bits
-  unfolding decide_by
-  by_refused r e z = rw (ne_eqb (decide_refusal c kinds values (length points) (length bits)) 0 (λ q. z (e ∙ q)), e)
-
 -- the level bits of an axis
-pub bits_most : (c w : ℕ) → w ≡ axis_bits c → w ≤ 3
+pub bits_most : (c : Constellation) (w : ℕ) → w ≡ axis_bits c → w ≤ 3
 unfolding axis_bits
-bits_most zero w e = omega arith
-bits_most (suc zero) w e = omega arith
-bits_most (suc (suc zero)) w e = omega arith
-bits_most (suc (suc (suc zero))) w e = omega arith
-bits_most (suc (suc (suc (suc zero)))) w e = omega arith
-bits_most (suc (suc (suc (suc (suc c))))) w e = omega arith
+bits_most Qam4 w e = omega arith
+bits_most Qam16 w e = omega arith
+bits_most Sm64 w e = omega arith
+bits_most HmSym w e = omega arith
+bits_most HmMix w e = omega arith
 
-pub bits-some : (c w : ℕ) → c < 5 → w ≡ axis_bits c → 1 ≤ w
+pub bits-some : (c : Constellation) (w : ℕ) → w ≡ axis_bits c → 1 ≤ w
 unfolding axis_bits
-bits-some zero w h e = omega arith
-bits-some (suc zero) w h e = omega arith
-bits-some (suc (suc zero)) w h e = omega arith
-bits-some (suc (suc (suc zero))) w h e = omega arith
-bits-some (suc (suc (suc (suc zero)))) w h e = omega arith
-bits-some (suc (suc (suc (suc (suc c))))) w h e = absurd (omega arith)
+bits-some Qam4 w e = omega arith
+bits-some Qam16 w e = omega arith
+bits-some Sm64 w e = omega arith
+bits-some HmSym w e = omega arith
+bits-some HmMix w e = omega arith
 
 pub lent_two : (kinds : List ℕ) (values : List Float) (a : Bool) → a ≡ eqb (length values) (2 * length kinds) → a ≡ true → Lent kinds values
 lent_two kinds values a e f = record { two = eqb-true _ _ (sym e ∙ f) }
 
 -- the number that is given, by the first test that fails
-module _ (c : ℕ) (kinds : List ℕ) (values : List Float) (points bits : ℕ) (a : Bool) (ea : a ≡ eqb (length values) (2 * length kinds)) where
+module _ (c : Constellation) (kinds : List ℕ) (values : List Float) (points bits : ℕ) (a : Bool) (ea : a ≡ eqb (length values) (2 * length kinds)) where
   pub refused-values : a ≡ false → 9 ≡ decide_refusal c kinds values points bits
   unfolding decide_refusal first
   refused-values t = rw (← ea, t)
@@ -158,11 +151,11 @@ module _ (c : ℕ) (kinds : List ℕ) (values : List Float) (points bits : ℕ) 
       not-refused t = rw (← ea, f, ← ew, ← eb, ← ed, g, ← ep, t)
 
 -- the points as they are read again
-pub points_long : (c : ℕ) (kinds : List ℕ) (values : List Float) (points : List ℤ) → points ≡ points_of c kinds values → length points ≡ 2 * length kinds
+pub points_long : (c : Constellation) (kinds : List ℕ) (values : List Float) (points : List ℤ) → points ≡ points_of c kinds values → length points ≡ 2 * length kinds
 unfolding points_of
 points_long c kinds values points e = ap length e ∙ length-table (point_at c kinds values) 0 (2 * length kinds)
 
-pub point_is : (c : ℕ) (kinds : List ℕ) (values : List Float) (points : List ℤ) (m : ℕ) (cell : MeasuredCell) → points ≡ points_of c kinds values → m < 2 * length kinds
+pub point_is : (c : Constellation) (kinds : List ℕ) (values : List Float) (points : List ℤ) (m : ℕ) (cell : MeasuredCell) → points ≡ points_of c kinds values → m < 2 * length kinds
     → cell ≡ cell_at kinds values (m / 2) → get_or points m (pos 0) ≡ point_on (constellation c) cell m
 unfolding points_of point_at
 point_is c kinds values points m cell e h f =
@@ -172,7 +165,7 @@ pub cell_passed : (kinds : List ℕ) (values : List Float) (k : ℕ) (cell : Mea
 cell_passed kinds values k cell t h e = rw e (passed_at kinds values t k h)
 
 -- points filled to the end
-pub points_done : (c : ℕ) (kinds : List ℕ) (values : List Float) (d out : List ℤ) (m : ℕ) → length d ≡ 2 * length kinds → m ≤ length d → length out ≤ m
+pub points_done : (c : Constellation) (kinds : List ℕ) (values : List Float) (d out : List ℤ) (m : ℕ) → length d ≡ 2 * length kinds → m ≤ length d → length out ≤ m
     → Filled (pos 0) (point_at c kinds values) d out m → out ≡ points_of c kinds values
 unfolding points_of
 points_done c kinds values d out m e l h F =
@@ -180,15 +173,14 @@ points_done c kinds values d out m e l h F =
     filled_end (pos 0) (point_at c kinds values) d out (2 * length kinds) e (rw n at F)
 
 -- a bit of those lent
-pub bit_fits : (c : ℕ) (kinds : List ℕ) (values : List Float) (points : List ℤ) (bits : List ℕ) (w j : ℕ) → BitsFit c kinds values points bits → w ≡ axis_bits c → j < length bits
+pub bit_fits : (c : Constellation) (kinds : List ℕ) (values : List Float) (points : List ℤ) (bits : List ℕ) (w j : ℕ) → BitsFit c kinds values points bits → w ≡ axis_bits c → j < length bits
     → BitFits c kinds values points (j / w) (j % w)
 bit_fits c kinds values points bits w j F e h =
-    let some = bits-some c w F.known e in
+    let some = bits-some c w e in
     let most = bits_most c w e in
     let room : length bits ≡ 2 * w * length kinds = rw e F.room in
     let low = mod-lt j some in
     record {
-      known = F.known;
       lent = F.lent;
       are = F.are;
       number = number_low j w (length kinds) some (omega arith);
@@ -196,7 +188,7 @@ bit_fits c kinds values points bits w j F e h =
     }
 
 -- bits filled to the end
-pub bits_done : (c : ℕ) (kinds : List ℕ) (values : List Float) (points : List ℤ) (d out : List ℕ) (w j : ℕ) → BitsFit c kinds values points d → w ≡ axis_bits c → j ≤ length d → length out ≤ j
+pub bits_done : (c : Constellation) (kinds : List ℕ) (values : List Float) (points : List ℤ) (d out : List ℕ) (w j : ℕ) → BitsFit c kinds values points d → w ≡ axis_bits c → j ≤ length d → length out ≤ j
     → Filled 0 (λ i. bit_at c kinds values (i / w) (i % w)) d out j → out ≡ bits_of c kinds values
 unfolding bits_of
 bits_done c kinds values points d out w j R e l h F =
@@ -208,32 +200,7 @@ pub of_settings : (s : Settings) (r : ℕ) → r ≡ refusal s → r ≡ 0 → A
 of_settings s r e z = accepted_of s (sym e ∙ z)
 
 module _ (channel : Channel) (s : Settings) (kinds : List ℕ) (values : List Float) (points : List ℤ) (bits : List ℕ) (r : ℕ) (e : r ≡ refusal s) where
-  pub of_refused : (r ≡ 0 → ⊥) → decide_yield r points bits ≡ decide_of channel s kinds values points bits
-  unfolding decide_of
-  of_refused n = rw (ne_eqb (refusal s) 0 (λ z. n (e ∙ z)), e)
-
-  pub of_accepted : r ≡ 0 → (c : ℕ) → c ≡ constellation_of channel s → (y : DecideYield) → y ≡ decide_by c kinds values points bits
+  pub of_accepted : r ≡ 0 → (c : Constellation) → c ≡ constellation_of channel s → (y : DecideYield) → y ≡ decide_by c kinds values points bits
       → y ≡ decide_of channel s kinds values points bits
   unfolding decide_of
   of_accepted z c f y g = rw (eq-eqb (refusal s) 0 (sym e ∙ z), g, f)
-
--- constellations are below five
-sdc-known : (n c : ℕ) → c ≡ sdc_constellation n → c < 5
-unfolding sdc_constellation
-sdc-known zero c e = omega arith
-sdc-known (suc zero) c e = omega arith
-sdc-known (suc (suc n)) c e = omega arith
-
-msc-known : (n c : ℕ) → c ≡ msc_constellation n → c < 5
-unfolding msc_constellation
-msc-known zero c e = omega arith
-msc-known (suc zero) c e = omega arith
-msc-known (suc (suc zero)) c e = omega arith
-msc-known (suc (suc (suc zero))) c e = omega arith
-msc-known (suc (suc (suc (suc n)))) c e = omega arith
-
-pub known : (channel : Channel) (s : Settings) (c : ℕ) → c ≡ constellation_of channel s → c < 5
-unfolding constellation_of
-known Fac s c e = omega arith
-known Sdc s c e = sdc-known s.sdc c e
-known Msc s c e = msc-known s.msc c e

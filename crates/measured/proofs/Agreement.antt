@@ -16,6 +16,8 @@ use Rattle.lists.specs.Same.{same_number}
 use Rattle.lists.proofs.Bools.{never_both}
 use Rattle.lists.proofs.Same.{same_number_true, same_number_refl}
 use Rattle.lists.proofs.Tables.{length-table, get_or-table, table_is, table_ext, replicate-table}
+use Rattle.block.specs.declared.Constellation.{Constellation}
+use Rattle.block.specs.declared.Constellation.TheVariants.{Qam4, Qam16, Sm64, HmSym, HmMix}
 use Rattle.block.specs.Mapping.{qam4, qam16, standard64, symmetric64, constellation, axis}
 use Rattle.block.specs.Reading.{place_of}
 use Rattle.decision.specs.declared.Measured.{Measured}
@@ -28,14 +30,13 @@ use Rattle.decision.proofs.Axes.{on_both}
 use Rattle.measured.proofs.Accepts.{bits-some, bits_most}
 
 -- an axis has a coordinate for each number of its level bits
-pub axis_long : (c : ℕ) → c < 5 → (m : ℕ) → length (axis (constellation c) m) ≡ 2 ^ axis_bits c
+pub axis_long : (c : Constellation) (m : ℕ) → length (axis (constellation c) m) ≡ 2 ^ axis_bits c
 unfolding constellation axis_bits qam4 qam16 standard64 symmetric64 table
-axis_long zero h = on_both (λ l. length l ≡ 2) (constellation 0) refl refl
-axis_long (suc zero) h = on_both (λ l. length l ≡ 4) (constellation 1) refl refl
-axis_long (suc (suc zero)) h = on_both (λ l. length l ≡ 8) (constellation 2) refl refl
-axis_long (suc (suc (suc zero))) h = on_both (λ l. length l ≡ 8) (constellation 3) refl refl
-axis_long (suc (suc (suc (suc zero)))) h = on_both (λ l. length l ≡ 8) (constellation 4) refl refl
-axis_long (suc (suc (suc (suc (suc c))))) h = absurd (omega arith)
+axis_long Qam4 = on_both (λ l. length l ≡ 2) (constellation Qam4) refl refl
+axis_long Qam16 = on_both (λ l. length l ≡ 4) (constellation Qam16) refl refl
+axis_long Sm64 = on_both (λ l. length l ≡ 8) (constellation Sm64) refl refl
+axis_long HmSym = on_both (λ l. length l ≡ 8) (constellation HmSym) refl refl
+axis_long HmMix = on_both (λ l. length l ≡ 8) (constellation HmMix) refl refl
 
 -- a number of a list is found at its place
 pub record Found (l : List ℤ) (v : ℤ) : Type 0 where
@@ -63,7 +64,7 @@ digits-weighed (suc (suc zero)) p h l = omega arith
 digits-weighed (suc (suc (suc zero))) p h l = omega arith
 digits-weighed (suc (suc (suc (suc w)))) p h l = absurd (omega arith)
 
-module _ (c : ℕ) (known : c < 5) (kinds : List ℕ) (values : List Float) (m : ℕ) (low : m < 2 * length kinds) where
+module _ (c : Constellation) (kinds : List ℕ) (values : List Float) (m : ℕ) (low : m < 2 * length kinds) where
   w : ℕ
   w = axis_bits c
 
@@ -89,7 +90,7 @@ module _ (c : ℕ) (known : c < 5) (kinds : List ℕ) (values : List Float) (m :
       let f : ℕ → ℕ = λ j. bit_at c kinds values (j / v) (j % v) in
       let N = 2 * v * length kinds in
       let t = table f 0 N in
-      let some : 0 < v = bits-some c v known refl in
+      let some : 0 < v = bits-some c v refl in
       let long : length (take v (drop (v * m) t)) ≡ v = length-take-le v (drop (v * m) t) (rw (length-drop, length-table) (omega (arith, room))) in
       sym (table_is (bit_at c kinds values m) 0 v (take v (drop (v * m) t)) long
       (λ i h. let q : (v * m + i) / v ≡ m = ap (λ n. n / v) (comm (v * m) i) ∙ add-mul-div_left i m some ∙ rw (div-eq_of_lt h) (omega arith) in
@@ -108,8 +109,8 @@ module _ (c : ℕ) (known : c < 5) (kinds : List ℕ) (values : List Float) (m :
       let l = axis (constellation c) m in
       let p : Measured = record { real = get_or values (2 * k) nan; imaginary = get_or values (2 * k + 1) nan } in
       let v = decision (value_on p m) l in
-      let F = place_found l v (decision_among (value_on p m) l (rw (axis_long c known m) (pow_pos (axis_bits c)))) in
-      let d = digits-weighed (axis_bits c) (place_of l v) (bits_most c (axis_bits c) refl) (rw (← axis_long c known m) F.low) in
+      let F = place_found l v (decision_among (value_on p m) l (rw (axis_long c m) (pow_pos (axis_bits c)))) in
+      let d = digits-weighed (axis_bits c) (place_of l v) (bits_most c (axis_bits c) refl) (rw (← axis_long c m) F.low) in
       let b = table_ext (bit_at c kinds values m) (λ i. place_of l v / 2 ^ i % 2) 0 (axis_bits c) (λ i a h. rw (eq-eqb (get_or kinds k 0) 0 e)) in
       let q : get_or (points_of c kinds values) m (pos 0) ≡ v = point_at_lem ∙ rw (eq-eqb (get_or kinds k 0) 0 e) in
       rw (bits_at, b, d, q) F.value

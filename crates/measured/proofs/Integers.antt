@@ -13,6 +13,7 @@ use Rattle.lists.specs.Lists.{table}
 use Rattle.lists.specs.Same.{same_number}
 use Rattle.lists.proofs.Bools.{never_both}
 use Rattle.lists.proofs.Same.{same_number_true}
+use Rattle.block.specs.declared.Constellation.{Constellation}
 use Rattle.block.specs.Mapping.{coordinate, qam4, qam16, standard64, symmetric64, constellation, axis}
 use Rattle.block.specs.Points.{on_axis}
 use Rattle.decision.specs.Distance.{apart, distance, above, prefers, nearest_from, decision, Among}
@@ -62,18 +63,18 @@ on_axis_among (w ∷ l) v e = go (on_axis_among l v) (same_number w v) refl e
     go rest true f g = record { index = 0; low = omega arith; value = same_number_true w v f }
     go rest false f g = let A = rest g in record { index = suc A.index; low = omega (arith, A.low); value = A.value }
 
-axis_selves : (c : ℕ) → c < 5 → (m : ℕ) → Selves (axis (constellation c) m)
-axis_selves c h m = on_axes (λ first k. Selves k) selves4 selves16 selves64 selves64s c h m
+axis_selves : (c : Constellation) (m : ℕ) → Selves (axis (constellation c) m)
+axis_selves c m = on_axes (λ first k. Selves k) selves4 selves16 selves64 selves64s c m
 
-pub decides_itself : (c : ℕ) → c < 5 → (m : ℕ) (v : ℤ) → on_axis (axis (constellation c) m) v ≡ true → decision (of_int binary32 v) (axis (constellation c) m) ≡ v
-decides_itself c h m v e =
+pub decides_itself : (c : Constellation) (m : ℕ) (v : ℤ) → on_axis (axis (constellation c) m) v ≡ true → decision (of_int binary32 v) (axis (constellation c) m) ≡ v
+decides_itself c m v e =
     let l = axis (constellation c) m in
     let A = on_axis_among l v e in
-    rw A.value at (element_itself l (axis_selves c h m) A.index A.low)
+    rw A.value at (element_itself l (axis_selves c m) A.index A.low)
 
-pub coordinate_finite : (c : ℕ) → c < 5 → (m : ℕ) (v : ℤ) → on_axis (axis (constellation c) m) v ≡ true → is_finite (of_int binary32 v) ≡ true
+pub coordinate_finite : (c : Constellation) (m : ℕ) (v : ℤ) → on_axis (axis (constellation c) m) v ≡ true → is_finite (of_int binary32 v) ≡ true
 unfolding finite_test
-coordinate_finite c h m v e =
+coordinate_finite c m v e =
     let l = axis (constellation c) m in
     let A = on_axis_among l v e in
-    rw A.value at (holds (finite_test l A.index) (at (finite_test l) (length l) (axis_selves c h m).finite A.index A.low))
+    rw A.value at (holds (finite_test l A.index) (at (finite_test l) (length l) (axis_selves c m).finite A.index A.low))

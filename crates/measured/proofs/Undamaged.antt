@@ -19,6 +19,8 @@ use Rattle.partlengths.specs.Cells.{fac_cells}
 use Rattle.partlengths.specs.Formulas.{fac_bits}
 use Rattle.settings.specs.declared.Settings.{Settings}
 use Rattle.settings.specs.Refusal.{first, refusal}
+use Rattle.block.specs.declared.Constellation.{Constellation}
+use Rattle.block.specs.declared.Constellation.TheVariants.{Qam4}
 use Rattle.block.specs.Mapping.{constellation, axis, label_at, mapped}
 use Rattle.block.specs.Packing.{packed}
 use Rattle.block.specs.Points.{on_axis, are_points}
@@ -52,7 +54,7 @@ use Rattle.measured.specs.Theorems.{channel_block, as_floats}
 use Rattle.lists.proofs.Bools.{every-table, table-every}
 use Rattle.decision.proofs.Axes.{on_both}
 use Rattle.measured.proofs.Integers.{decides_itself, coordinate_finite}
-use Rattle.measured.proofs.Accepts.{known, by_accepted, of_accepted}
+use Rattle.measured.proofs.Accepts.{by_accepted, of_accepted}
 
 -- a cell's float is that of its number
 float_at : (cells : List ℤ) (i : ℕ) → i < length cells → get_or (as_floats cells) i nan ≡ of_int binary32 (get_or cells i (pos 0))
@@ -66,7 +68,7 @@ unfolding as_floats
 floats_long cells = length-map cells (of_int binary32)
 
 -- cells that are points
-module _ (c : ℕ) (low : c < 5) (n : ℕ) (cells : List ℤ) (long : length cells ≡ 2 * n) (are : are_points (constellation c) cells ≡ true) where
+module _ (c : Constellation) (n : ℕ) (cells : List ℤ) (long : length cells ≡ 2 * n) (are : are_points (constellation c) cells ≡ true) where
   on_axis_lem : (m : ℕ) → m < 2 * n → on_axis (axis (constellation c) m) (get_or cells m (pos 0)) ≡ true
   unfolding are_points
   on_axis_lem m h =
@@ -90,7 +92,7 @@ module _ (c : ℕ) (low : c < 5) (n : ℕ) (cells : List ℤ) (long : length cel
       go false e = let f : 2 * (m / 2) + 1 ≡ m = omega (arith, eqb-false (m % 2) 0 e) in rw f
 
   point_itself : (m : ℕ) → m < 2 * n → decision (value_on (pair_at_lem (m / 2)) m) (axis (constellation c) m) ≡ get_or cells m (pos 0)
-  point_itself m h = rw (value_at m h) (decides_itself c low m (get_or cells m (pos 0)) (on_axis_lem m h))
+  point_itself m h = rw (value_at m h) (decides_itself c m (get_or cells m (pos 0)) (on_axis_lem m h))
 
   points_themselves : points_of c (replicate n 0) (as_floats cells) ≡ cells
   unfolding points_of point_at point_on
@@ -107,7 +109,7 @@ module _ (c : ℕ) (low : c < 5) (n : ℕ) (cells : List ℤ) (long : length cel
       rw (cell_pair k l, finite_at (2 * k) (omega arith), finite_at (2 * k + 1) (omega arith)))
     where
       finite_at : (m : ℕ) → m < 2 * n → is_finite (of_int binary32 (get_or cells m (pos 0))) ≡ true
-      finite_at m h = coordinate_finite c low m (get_or cells m (pos 0)) (on_axis_lem m h)
+      finite_at m h = coordinate_finite c m (get_or cells m (pos 0)) (on_axis_lem m h)
 
   accepted : (p b : ℕ) → p ≡ 2 * n → b ≡ 2 * axis_bits c * n → 0 ≡ decide_refusal c (replicate n 0) (as_floats cells) p b
   unfolding decide_refusal first
@@ -122,10 +124,9 @@ pub decided : (channel : Channel) (s : Settings) → refusal s ≡ 0 → (n : �
     ≡ decide_yield 0 cells (bits_of (constellation_of channel s) (replicate n 0) (as_floats cells))
 decided channel s r n cells long are points bits p b =
     let c = constellation_of channel s in
-    let low = known channel s c refl in
     sym (of_accepted channel s (replicate n 0) (as_floats cells) points bits 0 (sym r) refl c refl _
-    (by_accepted c (replicate n 0) (as_floats cells) points bits 0 (accepted c low n cells long are (length points) (length bits) p b) refl
-    cells (bits_of c (replicate n 0) (as_floats cells)) (sym (points_themselves c low n cells long are)) refl))
+    (by_accepted c (replicate n 0) (as_floats cells) points bits 0 (accepted c n cells long are (length points) (length bits) p b) refl
+    cells (bits_of c (replicate n 0) (as_floats cells)) (sym (points_themselves c n cells long are)) refl))
 
 -- the cells of a block are points of its channel's constellation
 pub coded_points : (channel : Channel) (s : Scheme) → scheme_refusal s ≡ 0 → (bits : List ℕ) → BlockBits (channel_block channel s) bits
@@ -158,15 +159,15 @@ sent-found block B e bytes count f g =
     rw (sent-accepted block B e bytes count f g, found-again block B e, agrees_same (sent-bits block))
 
 -- the cells of an FAC block
-cells-mapped : (s : Settings) (block : List ℕ) → length block ≡ 72 → cells_of (fac_block (standard_scheme s)) block ≡ mapped (constellation 0) 130 (fac_sent block ∷ [])
+cells-mapped : (s : Settings) (block : List ℕ) → length block ≡ 72 → cells_of (fac_block (standard_scheme s)) block ≡ mapped (constellation Qam4) 130 (fac_sent block ∷ [])
 unfolding cells_of fac_block one_axis block_points fac_cells
 cells-mapped s block e = rw (fac-mapped s block e)
 
 -- a bit by its coordinate's place in 4-QAM's labelling
-labelled : (j b : ℕ) → b < 2 → place_of (axis (constellation 0) j) (get_or (axis (constellation 0) j) (b + 2 * 0) (pos 0)) / 2 ^ 0 % 2 ≡ b
+labelled : (j b : ℕ) → b < 2 → place_of (axis (constellation Qam4) j) (get_or (axis (constellation Qam4) j) (b + 2 * 0) (pos 0)) / 2 ^ 0 % 2 ≡ b
 unfolding level_count
 labelled j b h =
-    let L = on_both (λ l. Labelling 2 l) (constellation 0) (constellation_labels 0).real (constellation_labels 0).imaginary j in
+    let L = on_both (λ l. Labelling 2 l) (constellation Qam4) (constellation_labels Qam4).real (constellation_labels Qam4).imaginary j in
     let e : b + 2 * 0 ≡ b = omega arith in
     rw (e, L.found b h) (omega arith)
 
@@ -177,34 +178,34 @@ module _ (s : Settings) (block : List ℕ) (B : Bits block) (e : length block �
 
   cells_long_lem : length cells ≡ 2 * 65
   unfolding cells
-  cells_long_lem = rw (cells-mapped s block e) (length-mapped (constellation 0) 130 (fac_sent block ∷ []))
+  cells_long_lem = rw (cells-mapped s block e) (length-mapped (constellation Qam4) 130 (fac_sent block ∷ []))
 
   own_bits : BlockBits (fac_block (standard_scheme s)) block
   unfolding fac_bits
   own_bits = record { bits = B; long = e ∙ sym (fac-bits (standard_scheme s)) }
 
-  cells_are : are_points (constellation 0) cells ≡ true
+  cells_are : are_points (constellation Qam4) cells ≡ true
   unfolding cells fac_block block_points standard_scheme
   cells_are = points_cells (fac-fits (standard_scheme s) standard-passes) own_bits
 
-  cell_is : (j : ℕ) → j < 130 → get_or cells j (pos 0) ≡ get_or (axis (constellation 0) j) (get_or (fac_sent block) j 0 + 2 * 0) (pos 0)
+  cell_is : (j : ℕ) → j < 130 → get_or cells j (pos 0) ≡ get_or (axis (constellation Qam4) j) (get_or (fac_sent block) j 0 + 2 * 0) (pos 0)
   unfolding cells label_at
-  cell_is j h = rw (cells-mapped s block e) (get_or-mapped (constellation 0) 130 (fac_sent block ∷ []) j h)
+  cell_is j h = rw (cells-mapped s block e) (get_or-mapped (constellation Qam4) 130 (fac_sent block ∷ []) j h)
 
-  bit_is : (j : ℕ) → j < 130 → bit_at 0 (replicate 65 0) (as_floats cells) (j / 1) (j % 1) ≡ get_or (fac_sent block) j 0
+  bit_is : (j : ℕ) → j < 130 → bit_at Qam4 (replicate 65 0) (as_floats cells) (j / 1) (j % 1) ≡ get_or (fac_sent block) j 0
   unfolding bit_at bit_on
   bit_is j h =
-      let k = constellation 0 in
+      let k = constellation Qam4 in
       let q : j / 1 ≡ j = omega arith in
       let r : j % 1 ≡ 0 = omega arith in
-      let p = point_itself 0 (omega arith) 65 cells cells_long_lem cells_are j h in
+      let p = point_itself Qam4 65 cells cells_long_lem cells_are j h in
       let v : get_or cells j (pos 0) ≡ get_or (axis k j) (get_or (fac_sent block) j 0 + 2 * 0) (pos 0) = cell_is j h in
-      rw (q, r, cell_pair 0 (omega arith) 65 cells cells_long_lem cells_are (j / 2) (omega arith), p, v) (labelled j (get_or (fac_sent block) j 0) ((sent-bits block).bit j))
+      rw (q, r, cell_pair Qam4 65 cells cells_long_lem cells_are (j / 2) (omega arith), p, v) (labelled j (get_or (fac_sent block) j 0) ((sent-bits block).bit j))
 
-  bits-sent : bits_of 0 (replicate 65 0) (as_floats cells) ≡ fac_sent block
+  bits-sent : bits_of Qam4 (replicate 65 0) (as_floats cells) ≡ fac_sent block
   unfolding bits_of axis_bits
   bits-sent =
-      table_is (λ j. bit_at 0 (replicate 65 0) (as_floats cells) (j / 1) (j % 1)) 0 130 (fac_sent block) (sent_long block e) bit_is
+      table_is (λ j. bit_at Qam4 (replicate 65 0) (as_floats cells) (j / 1) (j % 1)) 0 130 (fac_sent block) (sent_long block e) bit_is
 
   pub fac-found : (bytes count : List ℕ) → length bytes ≡ 9 → length count ≡ 1
       → nearest_of (bits_of (constellation_of Fac s) (replicate fac_cells 0) (as_floats (cells_of (fac_block (standard_scheme s)) block))) bytes count ≡ nearest_yield 0 (packed block) (0 ∷ [])

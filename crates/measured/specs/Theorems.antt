@@ -8,6 +8,7 @@ use Rattle.partlengths.specs.Formulas.{fac_bits}
 use Rattle.settings.specs.declared.Settings.{Settings}
 use Rattle.settings.specs.Refusal.{refusal}
 use Rattle.block.specs.declared.Block.{Block}
+use Rattle.block.specs.declared.Constellation.{Constellation}
 use Rattle.block.specs.Mapping.{constellation, axis}
 use Rattle.block.specs.Packing.{packed}
 use Rattle.block.specs.Points.{are_points}
@@ -37,15 +38,15 @@ weighed [] = 0
 weighed (bit ∷ bits) = bit + 2 * weighed bits
 
 -- The level bits of number m of the points.
-unfoldable pub number_bits : ℕ → List ℕ → ℕ → List ℕ
+unfoldable pub number_bits : Constellation → List ℕ → ℕ → List ℕ
 number_bits c bits m = take (axis_bits c) (drop (axis_bits c * m) bits)
 
 -- 2. Of a measured pair, in every constellation and so for every channel and setting, the axis's coordinate of the bits given is the point.
 pub record BitsAgree : Type 0 where
-  pub pair : (c : ℕ) → c < 5 → (kinds : List ℕ) (values : List Float) (m : ℕ) → m < 2 * length kinds → get_or kinds (m / 2) 0 ≡ 0
+  pub pair : (c : Constellation) (kinds : List ℕ) (values : List Float) (m : ℕ) → m < 2 * length kinds → get_or kinds (m / 2) 0 ≡ 0
       → get_or (axis (constellation c) m) (weighed (number_bits c (bits_of c kinds values) m)) (pos 0) ≡ get_or (points_of c kinds values) m (pos 0)
   -- A fade gives (0, 0), and bits that are all unknown.
-  pub fade : (c : ℕ) → c < 5 → (kinds : List ℕ) (values : List Float) (m : ℕ) → m < 2 * length kinds → (get_or kinds (m / 2) 0 ≡ 0 → ⊥)
+  pub fade : (c : Constellation) (kinds : List ℕ) (values : List Float) (m : ℕ) → m < 2 * length kinds → (get_or kinds (m / 2) 0 ≡ 0 → ⊥)
       → (get_or (points_of c kinds values) m (pos 0) ≡ pos 0) × (number_bits c (bits_of c kinds values) m ≡ replicate (axis_bits c) 2)
 
 -- The block of a channel.

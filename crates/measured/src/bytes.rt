@@ -1,13 +1,16 @@
 // The call with the bytes of settings that a caller lends.
 ghost use Rattle.std.specs.Prelude.{◌≡◌};
+ghost use Rattle.refusal.specs.Numbers.{answer};
 ghost use Rattle.measured.specs.Calls.{decide_yield};
 ghost use Rattle.measured.specs.Bytes.{decide_bytes};
 
 use crate::Channel;
 use crate::calls::decide;
+use refusal::Refusal;
 use settingbytes::bytes::settings_of;
 
 // The cells of any channel.
+#[tactic(auto, unfolding(crate::specs::Bytes::decide_bytes))]
 pub fn decide_cells(
     channel: Channel,
     settings: &[u8],
@@ -15,12 +18,12 @@ pub fn decide_cells(
     values: &[f32],
     points: &mut [i16],
     bits: &mut [u8],
-) -> u8
-    ensures { decide_yield result points.new bits.new
+) -> Result<(), Refusal>
+    ensures { decide_yield (answer result) points.new bits.new
         ≡ decide_bytes channel settings.now kinds.now values.now points.old bits.old }
 {
     if settings.len() != 10 {
-        return 255;
+        return Err(Refusal::FixedLength);
     }
     decide(channel, settings_of(settings), kinds, values, points, bits)
 }

@@ -6,7 +6,7 @@ pub mod calls;
 pub mod theorems;
 
 // Whose cells they are.
-#[derive(Clone, Copy)]
+#[derive(Clone, Copy, Debug, PartialEq, Eq)]
 pub enum Channel {
     Fac,
     Sdc,

@@ -1,14 +1,12 @@
 -- At most three levels at a time: those of both axes, or those of one. Assumes nothing.
-use Prim.Native.Nat.{ℕ, ◌*◌, ◌/◌, ◌≤◌, ◌<◌}
+use Prim.Native.Nat.{ℕ, ◌*◌, ◌/◌, ◌≤◌}
 use mathlib.Core.Path.{◌≡◌, sym, ◌∙◌}
 use mathlib.Core.Bool.{true, false, cond}
 use mathlib.Core.List.{List}
-use mathlib.Core.Logic.{◌⊎◌, inl, inr}
 use native.Mathlib.Omega.{arith}
-use borrow.Author.Tests.{eqb-false}
 use lib.ListN.{length}
-use Rattle.lists.proofs.Counting.{below_or}
 use Rattle.block.specs.declared.Block.{Block}
+use Rattle.block.specs.Mapping.{is_mixed}
 use Rattle.block.specs.Block.{one_axis}
 use Rattle.block.specs.Fits.{BlockFits}
 use Rattle.blockplaces.specs.Clauses.{BlockOrder}
@@ -21,15 +19,9 @@ module _ {k : Block} (F : BlockFits k) (one : one_axis k ≡ false) where
   few = omega (arith, sym (count_is F) ∙ rw one at F.levels, three F)
 
   -- both axes have one labelling
-  pub alike_low : k.constellation < 4
+  pub alike : is_mixed k.constellation ≡ false
   unfolding one_axis
-  alike_low = go (below_or k.constellation 4)
-    where
-      go : (k.constellation < 4) ⊎ (4 ≤ k.constellation) → k.constellation < 4
-      go (inl h) = h
-      go (inr h) =
-          let e : k.constellation ≡ 4 = omega (arith, F.known) in
-          absurd (eqb-false k.constellation 4 one e)
+  alike = one
 
   -- all of them
   pub both_levels : {order a b labels : List ℕ} → PartsOf k a b → BlockOrder k order → length labels ≡ 2 * k.cells

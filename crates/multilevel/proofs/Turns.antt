@@ -15,10 +15,6 @@ use Rattle.multilevel.specs.Clauses.{LevelThere, LevelsThere, none, more, FewLev
 pub twice : (w k : ℕ) → 2 * w * 2 ^ k ≡ w * 2 ^ suc k
 twice w k = let e : 2 ^ suc k ≡ 2 * 2 ^ k = omega arith in rw e (omega arith)
 
--- one level less
-pub one_less : {m : ℕ} → 0 < m → m - 1 < m
-one_less h = omega arith
-
 -- the first of the levels, and the others
 first_there : {one : Bool} {ls : List Level} {n : ℕ} {order a b : List ℕ} {s l m : ℕ} → LevelsThere one ls n order a b s l m → 0 < m → LevelThere one ls n order a b l
 first_there none h = absurd (omega arith)

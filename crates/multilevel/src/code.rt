@@ -9,7 +9,6 @@ use crate::places::bits_before;
 use block::Block;
 use blockplaces::tables::{digit, sharing};
 use level::code::code_level;
-use lists::bytes::clear;
 
 // Level l of a block coded and added to the labels with its weight.
 fn code_at(
@@ -55,15 +54,13 @@ pub fn code_levels(
     ensures labels_after { labels.new ≡ labels_from k first a.now b.now (length labels.old) }
     ensures coded_after { coded.new ≡ levels_over k.levels a.now b.now first (shared k) (digits k) coded.old }
 {
-    clear(labels);
+    labels.fill(0);
     let step = sharing(k);
     let mut l = first;
     let mut weight: u8 = 1;
-    let mut left = k.count / step;
-    while 0 < left {
+    for turn in 0..k.count / step {
         code_at(k, l, weight, places, a, b, coded, labels);
         l += step;
         weight = 2 * weight;
-        left -= 1;
     }
 }

@@ -22,10 +22,8 @@ pub fn bits_before(k: Block, b: bool, l: usize) -> usize
     ensures { result ≡ bits_before k.levels b l }
 {
     let mut sum = 0;
-    let mut i = 0;
-    while i < l {
+    for i in 0..l {
         sum += bits_in(k.levels[i], b);
-        i += 1;
     }
     sum
 }

@@ -57,11 +57,9 @@ pub fn read_levels(
     let step = sharing(k);
     let mut l = first;
     let mut weight: u8 = 1;
-    let mut left = k.count / step;
-    while 0 < left {
+    for turn in 0..k.count / step {
         read_at(k, l, weight, places, labels, coded, bits);
         l += step;
         weight = 2 * weight;
-        left -= 1;
     }
 }

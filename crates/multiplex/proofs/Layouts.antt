@@ -13,9 +13,10 @@ use Rattle.partlengths.specs.Formulas.{hierarchical}
 use Rattle.settings.specs.declared.Settings.{Settings}
 use Rattle.settings.specs.declared.Lengths.{Lengths}
 use Rattle.settings.specs.Refusal.{refusal}
-use Rattle.settings.specs.Lengths.{lengths_of, accepted, l1, l2, l_vspp}
+use Rattle.settings.specs.Lengths.{LengthsYield, lengths_yield, accepted, l1, l2, l_vspp}
 use Rattle.settings.specs.Sizes.{frame_bits, frame_bytes}
-use Rattle.settings.proofs.Bounds.{accepted_of, lengths_accepts}
+use Rattle.settings.proofs.Bounds.{accepted_of}
+use Rattle.std.proofs.Common.{Ok}
 use Rattle.settings.proofs.Buffers.{frame_low}
 use Rattle.lists.specs.Bytes.{bytes_for}
 use Rattle.block.specs.Packing.{unpacked}
@@ -55,15 +56,17 @@ module _ (s : Settings) (d : List ℕ) (ok : refusal s ≡ 0) (numbers : describ
   pub counted_few : {u : ℕ} → u ≡ uncounted s.msc → length (take (length d - u) (drop u d)) ≤ 8
   counted_few {u} e = rw (length_end u d) (omega (arith, few_numbers (length d) numbers))
 
-  pub layout_made : {l : Lengths} {u h : ℕ} {t : Share} → l ≡ lengths_of s → u ≡ uncounted s.msc → h ≡ head_bytes s.msc d → h ≤ 65535
+  pub layout_made : {l : Lengths} {u h : ℕ} {t : Share} → lengths_yield (Ok l) ≡ accepted s → u ≡ uncounted s.msc → h ≡ head_bytes s.msc d → h ≤ 65535
       → t ≡ sums (shares_in (take (length d - u) (drop u d))) → (t.a ≤ 524280) × (t.b ≤ 524280)
       → let made : Layout = record { vspp = l.vspp; rest = l.l1 + l.l2; head = h; a = t.a; b = t.b } in
       (made ≡ layout_of s d) × Small made
   unfolding layout_of streams_of accepted frame_bits
   layout_made {l} {u} {h} {t} el eu eh low et small =
-      let e : l ≡ accepted s = el ∙ lengths_accepts s ok in
+      let v : l.vspp ≡ l_vspp s = ap (λ (y : LengthsYield). y.vspp) el in
+      let a : l.l1 ≡ l1 s = ap (λ (y : LengthsYield). y.l1) el in
+      let b : l.l2 ≡ l2 s = ap (λ (y : LengthsYield). y.l2) el in
       let f : t ≡ sums (shares_in (drop (uncounted s.msc) d)) = et ∙ ap (λ x. sums (shares_in x)) (to_end u d ∙ ap (λ (k : ℕ). drop k d) eu) in
-      (rw (e, eh, f), record { frame = rw e (frame_low s (accepted_of s ok)); head = low; a = small.0; b = small.1 })
+      (rw (v, a, b, eh, f), record { frame = rw (v, a, b) (frame_low s (accepted_of s ok)); head = low; a = small.0; b = small.1 })
 
 -- what 19 lets pass fits
 pub fitting : {l : Layout} (x : ℕ) → l.vspp + l.rest ≤ 36708 → fits l x ≡ true → Fitting l

@@ -8,7 +8,7 @@ use crate::Layout;
 use frameparts::parts::sums;
 use partlengths::formulas::hierarchical;
 use settings::Settings;
-use settings::answers::lengths;
+use settings::answers::all_lengths;
 
 // The numbers of a stream.
 const STREAM: usize = 2;
@@ -48,7 +48,7 @@ pub fn layout(s: Settings, description: &[u16]) -> Layout
     ensures value { result ≡ layout_of s description.now }
     ensures small { Small result }
 {
-    let l = lengths(s);
+    let l = all_lengths(s);
     let first = uncounted(s.msc);
     let head = head_bytes(s.msc, description);
     let all = sums(&description[first..]);

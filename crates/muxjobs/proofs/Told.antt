@@ -15,8 +15,9 @@ use Rattle.settings.specs.Refusal.{refusal}
 use Rattle.console.specs.declared.MuxJob.{MuxJob}
 use Rattle.console.specs.declared.MuxJob.TheVariants.{Mux, Demux}
 use Rattle.numerals.specs.Numbers.{is_digit}
-use Rattle.turns.specs.declared.Made.{Made}
-use Rattle.turns.specs.Yield.{made_yield, made_through, made_refused}
+use Rattle.std.specs.Prelude.{Result}
+use Rattle.turns.specs.declared.Failure.{Failure}
+use Rattle.turns.specs.Yield.{made_yield}
 use Rattle.multiplex.specs.declared.Layout.{Layout}
 use Rattle.multiplex.specs.Description.{described, layout_of, fits, stream_bytes}
 use Rattle.multiplex.specs.Build.{build_yield, build_of}
@@ -93,15 +94,6 @@ module _ (job : MuxJob) (s : Settings) (d : List ℕ) where
   unfolding plan_of
   plan-fit e n f h g = rw (e, ← f, eq-eqb n 0 h, g)
 
--- What goes out by a number.
-pub made-refused : (number n : ℕ) → (number ≡ 0 → ⊥) → made_refused number ≡ made_by number n
-unfolding made_by
-made-refused number n h = rw (ne_eqb number 0 h)
-
-pub made-through : (number n : ℕ) → number ≡ 0 → made_through n ≡ made_by number n
-unfolding made_by
-made-through number n h = rw (eq-eqb number 0 h)
-
 pub stopped_room : (r : Plan) (b : Begun) → r ≡ stopped b → Room r
 unfolding stopped
 stopped_room r b e = rw e (record { input = omega arith; output = omega arith })
@@ -135,7 +127,7 @@ module _ (l : Layout) (F : Fitting l) (n : ℕ) (e : n ≡ bytes_for (l.vspp + l
   plan_demux job j = (rw (j, e), record { input = frame_room; output = streams_room })
 
 -- A frame.
-module _ (job : MuxJob) (s : Settings) (d bytes out out' : List ℕ) (number : ℕ) (r : Made) where
+module _ (job : MuxJob) (s : Settings) (d bytes out out' : List ℕ) (number : ℕ) (r : Result ℕ Failure) where
   pub frame_mux : job ≡ Mux → build_yield number out' ≡ build_of s d bytes out → r ≡ made_by number (length out) → made_yield r out' ≡ frame_of job s d bytes out
   unfolding frame_of muxed
   frame_mux j y e = ap (λ m. made_yield m out') e ∙ ap (λ z. muxed z (length out)) y ∙ rw j

@@ -1,11 +1,11 @@
 -- `desk mux` and `desk demux`: logical frames of streams to multiplex frames, and back. 02, S-8.
-use Rattle.std.specs.Prelude.{ℕ, ◌+◌, cond, List, length, eqb}
+use Rattle.std.specs.Prelude.{ℕ, ◌+◌, cond, List, length, eqb, Result}
 use Rattle.lists.specs.Bytes.{bytes_for}
 use Rattle.settings.specs.declared.Settings.{Settings}
 use Rattle.settings.specs.Refusal.{refusal}
 use Rattle.console.specs.declared.MuxJob.{MuxJob}
 use Rattle.console.specs.declared.MuxJob.TheVariants.{Mux, Demux}
-use Rattle.turns.specs.declared.Made.{Made}
+use Rattle.turns.specs.declared.Failure.{Failure}
 use Rattle.turns.specs.Yield.{MadeYield, made_yield, made_through, made_refused}
 use Rattle.multiplex.specs.declared.Layout.{Layout}
 use Rattle.multiplex.specs.Description.{described, layout_of, fits, stream_bytes}
@@ -35,7 +35,7 @@ plan_of job s d =
     (stopped Usage)
 
 -- What goes out by the answer of a call, 0 for acceptance.
-unfoldable pub made_by : ℕ → ℕ → Made
+unfoldable pub made_by : ℕ → ℕ → Result ℕ Failure
 made_by answer n = cond (eqb answer 0) (made_through n) (made_refused answer)
 
 unfoldable pub muxed : BuildYield → ℕ → MadeYield

@@ -62,10 +62,8 @@ fn read_word(word: &[u8]) -> Reading
         digit: false,
         good: true,
     };
-    let mut i = 0;
-    while i < word.len() {
-        c = read(c, word[i]);
-        i += 1;
+    for byte in word {
+        c = read(c, *byte);
     }
     c
 }

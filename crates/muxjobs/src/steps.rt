@@ -1,5 +1,6 @@
 // A multiplex frame of a job: bytes in, bytes out.
-ghost use Rattle.std.specs.Prelude.{◌≡◌, ◌≤◌, length as ListN·length};
+ghost use Rattle.std.specs.Prelude.{◌≡◌, ◌≤◌, IfOk, length as ListN·length};
+ghost use Rattle.refusal.specs.Numbers.{answer};
 ghost use Rattle.turns.specs.Yield.{made_yield};
 ghost use Rattle.multiplex.specs.Clauses.{Fitting};
 ghost use Rattle.muxjobs.specs.Frames.{stopped, taking, planned, plan_of, made_by, frame_of};
@@ -10,10 +11,11 @@ use console::MuxJob;
 use multiplex::Layout;
 use multiplex::calls::{build, read};
 use multiplex::description::{described, fits, layout};
+use refusal::Refusal;
 use settings::Settings;
 use settings::answers::bytes_for;
-use settings::refusals::refusal;
-use turns::{Made, answers};
+use settings::refusals::check;
+use turns::Failure;
 
 // No frame is taken.
 fn stopped(begun: Begun) -> Plan
@@ -69,32 +71,36 @@ pub fn plan(job: MuxJob, s: Settings, description: &[u16]) -> Plan
     if !described(description.len()) {
         return stopped(Begun::Usage);
     }
-    let number = refusal(s);
-    if number != 0 {
-        return stopped(Begun::Refused(number));
+    if let Err(refusal) = check(s) {
+        return stopped(Begun::Refused(refusal.number()));
     }
     let l = layout(s, description);
     if !fits(l, s.x) {
-        return stopped(Begun::Refused(19));
+        return stopped(Begun::Refused(Refusal::StreamParts.number()));
     }
     planned(job, l)
 }
 
-// What goes out by the number of a refusal.
-fn made_by(number: u8, length: usize) -> Made
-    ensures value { result ≡ made_by number length }
-    ensures length_in_bounds { result.length ≤ length }
+// What goes out by the outcome of a call: the whole output, or nothing.
+#[tactic(auto, using(refusal::proofs::Positive::number_positive), unfolding(crate::specs::Frames::made_by))]
+fn made_by(outcome: Result<(), Refusal>, length: usize) -> Result<usize, Failure>
+    ensures value { result ≡ made_by (answer outcome) length }
+    ensures length_in_bounds { IfOk result (λ n. n ≤ length) }
 {
-    if number != 0 {
-        return answers::refused(number);
-    }
-    answers::through(length)
+    outcome?;
+    Ok(length)
 }
 
 // A multiplex frame of a job: its bytes come in, and the whole output is to be written; a refusal leaves it as it was.
-pub fn frame(job: MuxJob, s: Settings, description: &[u16], bytes: &[u8], out: &mut [u8]) -> Made
+pub fn frame(
+    job: MuxJob,
+    s: Settings,
+    description: &[u16],
+    bytes: &[u8],
+    out: &mut [u8],
+) -> Result<usize, Failure>
     ensures out_after { made_yield result out.new ≡ frame_of job s description.now bytes.now out.old }
-    ensures length_bound { result.length ≤ ListN·length out.old }
+    ensures length_bound { IfOk result (λ n. n ≤ ListN·length out.old) }
 {
     let n = out.len();
     match job {

@@ -1,7 +1,7 @@
 // The search: the least disagreement from the end for each register, with a choice for each, and then forward by the choices. 02, S-9.
 ghost use Rattle.std.specs.Prelude.{◌≡◌, ◌/◌, ◌^◌, ◌%◌, ◌<◌, length};
 ghost use Rattle.patterns.specs.Clauses.{pattern_of};
-ghost use Rattle.nearest.specs.Clauses.{led, restored, Chooses, Chosen, Follows, Searches, SearchesWith, Found, Long};
+ghost use Rattle.nearest.specs.Clauses.{led, restored, Chooses, Chosen, Follows, Searches, SearchesWith, Found};
 
 use crate::values::restore;
 use component::code::next;
@@ -13,10 +13,9 @@ fn choose(flips: &[u8], values: &[u8], choices: &mut [u64]) -> u16
     requires { Chooses flips.now values.now choices.old }
     ensures { Chosen flips.now values.now choices.new result }
 {
-    let mut j = flips.len();
-    let mut costs = tail_costs(values, 4 * j);
-    while 0 < j {
-        j -= 1;
+    let n = flips.len();
+    let mut costs = tail_costs(values, 4 * n);
+    for j in (0..n).rev() {
         let layer = step(flips, values, j, &costs);
         costs = layer.costs;
         choices[j] = layer.choices;
@@ -38,28 +37,18 @@ fn follow(flips: &[u8], choices: &[u64], out: &mut [u8])
     ensures { out.new ≡ led 0 flips.now choices.now }
 {
     let mut register: u32 = 0;
-    let mut j = 0;
-    while j < flips.len() {
+    for j in 0..flips.len() {
         let bit = digit(choices[j], register / 2);
         out[j] = bit;
         register = next(register, (bit + flips[j]) % 2);
-        j += 1;
     }
 }
 
-// Four values for each of 1,120 bits, the most of one SDC level, and for the tail's six.
-fn value_buffer() -> [u8; 4504]
-    ensures { Long 4504 result }
-{
-    [0u8; 4504]
-}
+// The most bits of one SDC level.
+const MOST_BITS: usize = 1120;
 
-// A word of choices for each bit.
-fn choice_buffer() -> [u64; 1120]
-    ensures { Long 1120 result }
-{
-    [0u64; 1120]
-}
+// Four values for each of them, and for the tail's six.
+const MOST_VALUES: usize = 4 * MOST_BITS + 24;
 
 // The choices at every bit from the values received, and the least disagreement.
 fn choose_from(
@@ -74,7 +63,7 @@ fn choose_from(
         received.now) choices.new result }
 {
     let m = 4 * flips.len() + 24;
-    let mut values = value_buffer();
+    let mut values = [0u8; MOST_VALUES];
     restore(pattern, tail, received, &mut values[0..m]);
     choose(flips, &values[0..m], choices)
 }
@@ -85,7 +74,7 @@ pub fn search(pattern: &[u8], tail: &[u8], flips: &[u8], received: &[u8], out: &
     ensures { Found pattern.now tail.now flips.now received.now out.new result }
 {
     let n = flips.len();
-    let mut choices = choice_buffer();
+    let mut choices = [0u64; MOST_BITS];
     let count = choose_from(pattern, tail, flips, received, &mut choices[0..n]);
     follow(flips, &choices[0..n], out);
     count

@@ -27,13 +27,11 @@ fn spread_column(column: u8, received: &[u8], at: usize, out: &mut [u8], to: usi
 {
     let mut column = column;
     let mut at = at;
-    let mut i = 0;
-    while i < 4 {
+    for i in 0..4 {
         let kept = column % 2;
         out[to + i] = value_or(kept, received, at);
         at += kept as usize;
-        column = column / 2;
-        i += 1;
+        column /= 2;
     }
     at
 }
@@ -47,11 +45,9 @@ fn spread_segment(pattern: &[u8], received: &[u8], at: usize, out: &mut [u8]) ->
     let n = out.len() / 4;
     let mut at = at;
     let mut i = 0;
-    let mut j = 0;
-    while j < n {
+    for j in 0..n {
         at = spread_column(pattern[i], received, at, out, 4 * j);
         i = following(pattern.len(), i);
-        j += 1;
     }
     at
 }

@@ -21,6 +21,8 @@ use Rattle.partlengths.specs.Cells.{fac_cells}
 use Rattle.settings.specs.declared.Settings.{Settings}
 use Rattle.settings.specs.Lengths.{n_mux, n_sfa}
 use Rattle.settings.specs.Sizes.{depth}
+use Rattle.block.specs.declared.Constellation.{Constellation}
+use Rattle.block.specs.declared.Constellation.TheVariants.{Qam4, Qam16, Sm64, HmSym, HmMix}
 use Rattle.block.specs.Mapping.{constellation, coordinate, qam4, qam16, standard64, symmetric64}
 use Rattle.block.specs.Points.{is_empty, on_axis, is_point}
 use Rattle.block.specs.declared.Block.{Block}
@@ -124,14 +126,13 @@ module _ (state : State) (memory : List ℕ) (one two : ReadCall) (D : DifferIgn
       ]
 
 -- No coordinate is 0, so no point is (0, 0).
-zero_off : (c : ℕ) → on_axis (constellation c).real (pos 0) ≡ false
+zero_off : (c : Constellation) → on_axis (constellation c).real (pos 0) ≡ false
 unfolding constellation on_axis same_number qam4 qam16 standard64 symmetric64 table coordinate
-zero_off zero = refl
-zero_off (suc zero) = refl
-zero_off (suc (suc zero)) = refl
-zero_off (suc (suc (suc zero))) = refl
-zero_off (suc (suc (suc (suc zero)))) = refl
-zero_off (suc (suc (suc (suc (suc c))))) = refl
+zero_off Qam4 = refl
+zero_off Qam16 = refl
+zero_off Sm64 = refl
+zero_off HmSym = refl
+zero_off HmMix = refl
 
 point_full : (k : Block) (re im : ℤ) → is_point (points_of k) re im ≡ true → is_empty re im ≡ false
 unfolding points_of is_point is_empty

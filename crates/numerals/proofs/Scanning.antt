@@ -1,4 +1,5 @@
 -- Fourteen numbers read byte by byte.
+use Rattle.std.specs.Prelude.{Some, None, MatchOption}
 use Prim.Native.Nat.{ℕ, zero, suc, ◌+◌, ◌-◌, ◌*◌, ◌≤◌, ◌<◌}
 use mathlib.Core.Path.{◌≡◌, refl, sym, ap, ◌∙◌}
 use mathlib.Core.Bool.{Bool, true, false, ◌&&◌}
@@ -10,9 +11,9 @@ use lib.ListN.{length, get_or, set, drop, replicate, drop_of_length-le, get_or-m
 use lib.Seq.{drop-cons}
 use lib.Dec.{ltb, leb, eqb}
 use Rattle.lists.proofs.Bools.{and_left, and_right, never_both}
-use Rattle.numerals.specs.declared.Scan.{Scan}
+use Rattle.numerals.specs.declared.numbers.Scan.{Scan}
 use Rattle.numerals.specs.Numbers.{is_digit, goes_on, numbers_from, numbers_in}
-use Rattle.numerals.specs.Clauses.{held, Kept, with_digit, with_space, with_other, stepped, Scanned}
+use Rattle.numerals.specs.Clauses.{held, Kept, with_digit, with_space, stepped, Scanned}
 
 pub digit_range : (b : ℕ) → is_digit b ≡ true → (48 ≤ b) × (b < 58)
 unfolding is_digit
@@ -47,15 +48,15 @@ map-set (a ∷ l) (suc k) v = ap (λ t. held a ∷ t) (map-set l k v)
 
 -- A byte: a digit, a space in place, or one out of place.
 module _ (c : Scan) (b : ℕ) where
-  pub step-digit : is_digit b ≡ true → with_digit c (b - 48) ≡ stepped c b
+  pub step-digit : is_digit b ≡ true → Some (with_digit c (b - 48)) ≡ stepped c b
   unfolding stepped
   step-digit t = rw t
 
-  pub step-space : is_digit b ≡ false → (eqb b 32 && (c.digit && ltb c.at 13)) ≡ true → with_space c ≡ stepped c b
+  pub step-space : is_digit b ≡ false → (eqb b 32 && (c.digit && ltb c.at 13)) ≡ true → Some (with_space c) ≡ stepped c b
   unfolding stepped
   step-space t u = rw (t, u)
 
-  pub step_other : is_digit b ≡ false → (eqb b 32 && (c.digit && ltb c.at 13)) ≡ false → with_other c ≡ stepped c b
+  pub step_other : is_digit b ≡ false → (eqb b 32 && (c.digit && ltb c.at 13)) ≡ false → None ≡ stepped c b
   unfolding stepped
   step_other t u = rw (t, u)
 
@@ -66,15 +67,14 @@ space_range b digit at e = ltb-true at 13 (and_right digit (ltb at 13) (and_righ
 pub record Left (line : List ℕ) (c : Scan) (l : List ℕ) : Type 0 where
   pub exact : List ℕ
   pub holds : c.values ≡ map held exact
-  pub test : (c.good && goes_on (13 - c.at) c.digit l) ≡ goes_on 13 false line
-  pub numbers : c.good ≡ true → numbers_from exact c.at l ≡ numbers_in line
+  pub test : goes_on (13 - c.at) c.digit l ≡ goes_on 13 false line
+  pub numbers : numbers_from exact c.at l ≡ numbers_in line
 
-out_of_place : (p q r good x : Bool) → (p && (q && r)) ≡ false → (good && (p && (q && (r && x)))) ≡ false
-out_of_place p q r false x e = refl
-out_of_place false q r true x e = refl
-out_of_place true false r true x e = refl
-out_of_place true true false true x e = refl
-out_of_place true true true true x e = absurd (never_both true refl e)
+out_of_place : (p q r x : Bool) → (p && (q && r)) ≡ false → (p && (q && (r && x))) ≡ false
+out_of_place false q r x e = refl
+out_of_place true false r x e = refl
+out_of_place true true false x e = refl
+out_of_place true true true x e = absurd (never_both true refl e)
 
 more_left : (at : ℕ) → ltb 0 (13 - at) ≡ ltb at 13
 more_left at = go (ltb at 13) refl
@@ -93,7 +93,7 @@ module _ (line l : List ℕ) (c : Scan) (b : ℕ) (L : Left line c (b ∷ l)) wh
             rw (L.holds, get_or-held L.exact c.at, held-digit (get_or L.exact c.at 0) (b - 48))
             (sym (map-set L.exact c.at (10 * get_or L.exact c.at 0 + (b - 48))));
         test = rw e at L.test;
-        numbers = λ g. rw e at (L.numbers g);
+        numbers = rw e at L.numbers;
       }
 
   left-space : is_digit b ≡ false → (eqb b 32 && (c.digit && ltb c.at 13)) ≡ true → Left line (with_space c) l
@@ -107,66 +107,63 @@ module _ (line l : List ℕ) (c : Scan) (b : ℕ) (L : Left line c (b ∷ l)) wh
         exact = L.exact;
         holds = L.holds;
         test = rw (e, s, d, lt-ltb 0 (13 - c.at) (omega arith), m) at L.test;
-        numbers = λ g. rw e at (L.numbers g);
+        numbers = rw e at L.numbers;
       }
 
-  left_other : is_digit b ≡ false → (eqb b 32 && (c.digit && ltb c.at 13)) ≡ false → Left line (with_other c) l
-  unfolding with_other goes_on
+  left_other : is_digit b ≡ false → (eqb b 32 && (c.digit && ltb c.at 13)) ≡ false → goes_on 13 false line ≡ false
+  unfolding goes_on
   left_other e u =
-      record {
-        exact = L.exact;
-        holds = L.holds;
-        test =
-            sym (out_of_place (eqb b 32) c.digit (ltb 0 (13 - c.at)) c.good (goes_on (13 - c.at - 1) false l) (rw more_left u))
-            ∙ (rw e at L.test);
-        numbers = λ g. absurd (never_both false g refl);
-      }
+      sym (rw e at L.test)
+      ∙ out_of_place (eqb b 32) c.digit (ltb 0 (13 - c.at)) (goes_on (13 - c.at - 1) false l) (rw more_left u)
 
-  pub left_turn : Left line (stepped c b) l
+  pub left_turn : MatchOption (stepped c b) (goes_on 13 false line ≡ false) (λ s. Left line s l)
   left_turn = go (is_digit b) (eqb b 32 && (c.digit && ltb c.at 13)) refl refl
     where
-      go : (t u : Bool) → is_digit b ≡ t → (eqb b 32 && (c.digit && ltb c.at 13)) ≡ u → Left line (stepped c b) l
+      go : (t u : Bool) → is_digit b ≡ t → (eqb b 32 && (c.digit && ltb c.at 13)) ≡ u → MatchOption (stepped c b) (goes_on 13 false line ≡ false) (λ s. Left line s l)
       go true u e f = rw (← step-digit c b e) (left-digit e)
       go false true e f = rw (← step-space c b e f) (left-space e f)
       go false false e f = rw (← step_other c b e f) (left_other e f)
 
 -- The loop: bytes before i are read.
 pub record Reading (line : List ℕ) (c : Scan) (i : ℕ) : Type 0 where
-  pub turns : i ≤ length line
   pub kept : Kept c
   pub left : Left line c (drop i line)
 
-pub reading-start : (line : List ℕ) → Reading line (record { values = replicate 14 0; at = 0; digit = false; good = true }) 0
+pub reading-start : (line : List ℕ) → Reading line (record { values = replicate 14 0; at = 0; digit = false }) 0
 unfolding numbers_in held
 reading-start line =
-    record {
-      turns = omega arith;
-      kept = record { low = omega arith };
-      left = record { exact = replicate 14 0; holds = refl; test = refl; numbers = λ g. refl };
-    }
+    record { kept = record { low = omega arith }; left = record { exact = replicate 14 0; holds = refl; test = refl; numbers = refl } }
 
-pub reading_turn : {line : List ℕ} {c : Scan} {i : ℕ} → Reading line c i → i < length line → (r : Scan) → r ≡ stepped c (get_or line i 0) → Kept r → Reading line r (i + 1)
-reading_turn {line} {c} {i} R h r e k =
-    record {
-      turns = omega arith;
-      kept = k;
-      left = rw (e, add-one) (left_turn line (drop (suc i) line) c (get_or line i 0) (rw (drop-cons line i 0 h) at R.left));
-    }
+-- One byte more, or one out of place.
+module _ {line : List ℕ} {c : Scan} {i : ℕ} (R : Reading line c i) (h : i < length line) where
+  turned : MatchOption (stepped c (get_or line i 0)) (goes_on 13 false line ≡ false) (λ s. Left line s (drop (suc i) line))
+  turned = left_turn line (drop (suc i) line) c (get_or line i 0) (rw (drop-cons line i 0 h) at R.left)
 
-finished : (line : List ℕ) (c : Scan) → Kept c → Left line c [] → Scanned line c
-unfolding goes_on numbers_from
-finished line c k L =
-    record {
-      whole = rw (same_place c.at k.low) L.test;
-      numbers = λ g. L.holds ∙ ap (map held) (L.numbers (and_left c.good (c.digit && eqb (13 - c.at) 0) (L.test ∙ g)));
-    }
-  where
-    same_place : (at : ℕ) → at < 14 → eqb at 13 ≡ eqb (13 - at) 0
-    same_place at h = go (eqb at 13) refl
-      where
-        go : (b : Bool) → eqb at 13 ≡ b → eqb at 13 ≡ eqb (13 - at) 0
-        go true e = e ∙ sym (eq-eqb (13 - at) 0 (omega (arith, eqb-true at 13 e)))
-        go false e = e ∙ sym (ne_eqb (13 - at) 0 (λ z. eqb-false at 13 e (omega arith)))
+  pub reading_turn : {r : Scan} → Some r ≡ stepped c (get_or line i 0) → Kept r → Reading line r (i + 1)
+  reading_turn e k = record { kept = k; left = rw add-one (rw (← e) at turned) }
 
-pub reading_done : {line : List ℕ} {c : Scan} {i : ℕ} → Reading line c i → length line ≤ i → Scanned line c
-reading_done {line} {c} {i} R h = finished line c R.kept (rw (drop_of_length-le line {i = i} h) at R.left)
+  pub reading_bad : None ≡ stepped c (get_or line i 0) → Scanned line None
+  reading_bad e = record { whole = sym (rw (← e) at turned); numbers = tt }
+
+-- At the end of the line.
+module _ {line : List ℕ} {c : Scan} {i : ℕ} (R : Reading line c i) (h : length line ≤ i) where
+  ended : Left line c []
+  ended = rw (drop_of_length-le line {i = i} h) at R.left
+
+  same_place : (at : ℕ) → at < 14 → eqb at 13 ≡ eqb (13 - at) 0
+  same_place at h = go (eqb at 13) refl
+    where
+      go : (b : Bool) → eqb at 13 ≡ b → eqb at 13 ≡ eqb (13 - at) 0
+      go true e = e ∙ sym (eq-eqb (13 - at) 0 (omega (arith, eqb-true at 13 e)))
+      go false e = e ∙ sym (ne_eqb (13 - at) 0 (λ z. eqb-false at 13 e (omega arith)))
+
+  whole_lem : (c.digit && eqb c.at 13) ≡ goes_on 13 false line
+  unfolding goes_on
+  whole_lem = rw (same_place c.at R.kept.low) ended.test
+
+  pub reading_done : (c.digit && eqb c.at 13) ≡ true → Scanned line (Some c.values)
+  unfolding numbers_from
+  reading_done e = record { whole = sym e ∙ whole_lem; numbers = ended.holds ∙ ap (map held) ended.numbers }
+
+  pub reading_short : (c.digit && eqb c.at 13) ≡ false → Scanned line None
+  reading_short e = record { whole = sym e ∙ whole_lem; numbers = tt }

@@ -1,73 +1,75 @@
 // Fourteen decimal numbers in a line, separated by single spaces.
-ghost use Rattle.std.specs.Prelude.{◌≡◌, ◌++◌, ◌+◌, ◌*◌, ◌<◌, ◌≤◌, length, drop};
+ghost use Rattle.std.specs.Prelude.{◌≡◌, ◌++◌, ◌+◌, ◌*◌, ◌<◌, ◌≤◌, IfSome, length, drop};
 ghost use Rattle.line.specs.Written.{decimal, space};
 ghost use Rattle.words.specs.Clauses.{Put};
 ghost use Rattle.numerals.specs.Numbers.{is_digit, numbers_rest, numbers_line};
 ghost use Rattle.numerals.specs.Clauses.{held, stepped, Kept, Scanned};
 
-use crate::Scan;
 use words::report::{put, put_decimal};
 
 // Whether a byte is a decimal digit.
+#[tactic(auto, unfolding(crate::specs::Numbers::is_digit))]
 pub fn is_digit(byte: u8) -> bool
     ensures { result ≡ is_digit byte }
 {
-    (b'0' <= byte) & (byte < b'0' + 10)
+    byte.is_ascii_digit()
 }
 
-// The greatest number of 32 bits.
-const GREATEST: u32 = 4294967295;
-
-// A number with a digit more.
+// A number with a digit more; one that 32 bits do not hold counts as the greatest of them.
+#[tactic(auto, unfolding(crate::specs::Clauses::held))]
 pub fn grown(value: u32, digit: u8) -> u32
     requires { digit < 10 }
     ensures { result ≡ held (10 * value + digit) }
 {
-    let n = 10 * value as u64 + digit as u64;
-    if n < GREATEST as u64 {
-        return n as u32;
-    }
-    GREATEST
+    value.saturating_mul(10).saturating_add(u32::from(digit))
 }
 
-// One byte of a line: a digit goes behind those of the number at hand, a space begins the next, anything else is out of place.
-fn step(c: Scan, byte: u8) -> Scan
-    requires { Kept c }
-    ensures value { result ≡ stepped c byte }
-    ensures kept { Kept result }
-{
-    let mut next = c;
-    let at = c.at;
-    if is_digit(byte) {
-        next.values[at] = grown(c.values[at], byte - b'0');
-        next.digit = true;
-        return next;
-    }
-    if (byte == b' ') & (c.digit & (at < 13)) {
-        next.at = at + 1;
-        next.digit = false;
-        return next;
-    }
-    next.good = false;
-    next
+// The decimal numbers of a line, as far as it is read.
+#[derive(Clone, Copy)]
+pub struct Scan {
+    pub values: [u32; 14],
+    // The place of the number at hand, and whether it has a digit.
+    pub at: usize,
+    pub digit: bool,
 }
 
-// The numbers of a line.
-pub fn numbers(line: &[u8]) -> Scan
+impl Scan {
+    // One byte of a line: a digit goes behind those of the number at hand, a space begins the next, anything else is out of place.
+    fn step(mut self, byte: u8) -> Option<Scan>
+        requires { Kept self }
+        ensures value { result ≡ stepped self byte }
+        ensures kept { IfSome result Kept }
+    {
+        if is_digit(byte) {
+            self.values[self.at] = grown(self.values[self.at], byte - b'0');
+            self.digit = true;
+            return Some(self);
+        }
+        if (byte == b' ') & (self.digit & (self.at < 13)) {
+            self.at += 1;
+            self.digit = false;
+            return Some(self);
+        }
+        None
+    }
+}
+
+// The fourteen numbers that a line is.
+pub fn numbers(line: &[u8]) -> Option<[u32; 14]>
     ensures { Scanned line.now result }
 {
-    let mut c = Scan {
+    let mut scan = Scan {
         values: [0; 14],
         at: 0,
         digit: false,
-        good: true,
     };
-    let mut i = 0;
-    while i < line.len() {
-        c = step(c, line[i]);
-        i += 1;
+    for byte in line {
+        scan = scan.step(*byte)?;
     }
-    c
+    if scan.digit & (scan.at == 13) {
+        return Some(scan.values);
+    }
+    None
 }
 
 // A space and a number.
@@ -85,10 +87,8 @@ fn put_rest(numbers: &[u32], out: &mut [u8], start: usize) -> usize
     ensures { Put 300 (numbers_rest (drop 1 numbers.now)) out.old start result out.new }
 {
     let mut at = start;
-    let mut k = 1;
-    while k < 14 {
+    for k in 1..14 {
         at = put_next(numbers[k], out, at);
-        k += 1;
     }
     put(b"\n", out, at)
 }

@@ -68,10 +68,10 @@ module _ (bits : List ℕ) (known : bits ≡ table half_bit 0 64) where
       let n : 8 * k + 4 + 4 ≡ 8 * (k + 1) = omega arith in
       rw eq (rw n at two)
 
-pub unpack_end : (bytes d out : List ℕ) (k n : ℕ) → Filled 0 (bit_at bytes) d out (8 * k) → length d ≡ length d / 8 * 8 → k ≤ n → n ≤ k → n ≡ length d / 8
+pub unpack_end : (bytes d out : List ℕ) (k : ℕ) → Filled 0 (bit_at bytes) d out (8 * k) → length d ≡ length d / 8 * 8 → k ≤ length d / 8 → length d / 8 ≤ k
     → out ≡ unpacked (length d) bytes
 unfolding unpacked
-unpack_end bytes d out k n w e h g m =
+unpack_end bytes d out k w e h g =
     let l : 8 * k ≡ length d = omega arith in
     filled_end 0 (bit_at bytes) d out (length d) refl (rw l at w)
 

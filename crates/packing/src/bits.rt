@@ -10,10 +10,8 @@ fn half_bits() -> [u8; 64]
     ensures { result ≡ table half_bit 0 64 }
 {
     let mut bits = [0u8; 64];
-    let mut k: usize = 0;
-    while k < 64 {
+    for k in 0..64usize {
         bits[k] = (((k / 4) >> (3 - k % 4)) % 2) as u8;
-        k += 1;
     }
     bits
 }
@@ -39,13 +37,10 @@ fn unpack_whole(bytes: &[u8], out: &mut [u8])
     ensures { out.new ≡ unpacked (length out.old) bytes.now }
 {
     let bits = half_bits();
-    let n = out.len() / 8;
-    let mut k = 0;
-    while k < n {
+    for k in 0..out.len() / 8 {
         let byte = bytes[k] as usize;
         put_half(&bits, byte / 16, out, 8 * k);
         put_half(&bits, byte % 16, out, 8 * k + 4);
-        k += 1;
     }
 }
 
@@ -54,11 +49,9 @@ fn unpack_rest(bytes: &[u8], from: usize, out: &mut [u8])
     requires { Unpacks bytes.now from out.old }
     ensures { out.new ≡ table (bit_at bytes.now) from (length out.old) }
 {
-    let mut i = 0;
-    while i < out.len() {
+    for i in 0..out.len() {
         let at = from + i;
         out[i] = (bytes[at / 8] >> (7 - at % 8)) % 2;
-        i += 1;
     }
 }
 
@@ -77,12 +70,10 @@ pub fn spare_zero(bytes: &[u8], n: usize) -> bool
     requires { length bytes.now ≤ 65536 }
     ensures { result ≡ spare_zero n bytes.now }
 {
-    let mut i = n;
-    while i < 8 * bytes.len() {
+    for i in n..8 * bytes.len() {
         if (bytes[i / 8] >> (7 - i % 8)) % 2 != 0 {
             return false;
         }
-        i += 1;
     }
     true
 }
@@ -91,10 +82,7 @@ pub fn spare_zero(bytes: &[u8], n: usize) -> bool
 fn bit_or_zero(bits: &[u8], i: usize) -> u8
     ensures { result ≡ get_or bits.now i 0 }
 {
-    if i < bits.len() {
-        return bits[i];
-    }
-    0
+    bits.get(i).copied().unwrap_or(0)
 }
 
 // The byte whose bits, highest first, are those from place `at` on; past the end they are zero.
@@ -103,10 +91,8 @@ fn last_byte(bits: &[u8], at: usize) -> u8
     ensures { result ≡ digits bits.now at 8 }
 {
     let mut byte: u32 = 0;
-    let mut j = 0;
-    while j < 8 {
+    for j in 0..8 {
         byte = byte * 2 + bit_or_zero(bits, at + j) as u32;
-        j += 1;
     }
     byte as u8
 }
@@ -152,9 +138,7 @@ pub fn pack(bits: &[u8], out: &mut [u8])
     requires { Packs bits.now out.old }
     ensures { out.new ≡ packed bits.now }
 {
-    let mut k = 0;
-    while k < out.len() {
+    for k in 0..out.len() {
         out[k] = byte_from(bits, 8 * k);
-        k += 1;
     }
 }

@@ -2,13 +2,14 @@
 use mathlib.Core.Path.{◌≡◌, refl, ◌∙◌, sym, ap, subst}
 use mathlib.Core.Bool.{Bool, true, false, ◌&&◌}
 use mathlib.Core.List.{List, [], ◌∷◌}
-use Prim.Native.Nat.{ℕ, zero, suc, ◌+◌, ◌-◌, ◌*◌, ◌/◌, ◌<◌, ◌≤◌, zero-le}
-use native.Mathlib.Nat.{le_trans, le_of_eq, add-zero, zero-add, add-suc, suc-add, le_of_suc-le-suc, not-suc-le-zero, mul-le-mul_right, mul-div-le}
+use Prim.Native.Nat.{ℕ, zero, suc, ◌+◌, ◌-◌, ◌*◌, ◌/◌, ◌%◌, ◌<◌, ◌≤◌, zero-le, min}
+use native.Mathlib.Nat.{le_trans, le_of_eq, add-zero, zero-add, add-suc, suc-add, le_of_suc-le-suc, not-suc-le-zero, mul-le-mul_right, mul-div-le, mod-lt}
 use native.Mathlib.Numerals.{add-one}
 use native.Mathlib.Omega.{arith}
 use lib.Dec.{T, leb, ltb, leb→le, ltb→lt}
 use lib.ListN.{length, get_or, drop, drop_of_length-le, get_or-eq_default}
 use lib.Seq.{drop-cons}
+use Rattle.std.proofs.lemmas.Nat.{div-add-mod', div-mul-add}
 use borrow.Author.Tests.{ltb-true, ltb-false}
 use Rattle.lists.specs.Lists.{total}
 use Rattle.patterns.specs.Patterns.{RX, RY, numerators, denominators}
@@ -63,6 +64,19 @@ RX_low r = low (ltb r 13) refl
     low false e =
         le_of_eq
         (get_or-eq_default numerators 1 (ltb-false r 13 e) ∙ sym (get_or-eq_default denominators 1 (ltb-false r 13 e)))
+
+-- std rounds up by the remainder.
+pub rounded_up : (a b : ℕ) → 0 < b → a / b + min 1 (a % b) ≡ (a + (b - 1)) / b
+rounded_up a b h = go (a % b) refl
+  where
+    go : (r : ℕ) → a % b ≡ r → a / b + min 1 r ≡ (a + (b - 1)) / b
+    go zero e =
+        let s : a + (b - 1) ≡ a / b * b + (b - 1) = omega (arith, div-add-mod' a b) in
+        add-zero (a / b) ∙ sym (div-mul-add (a / b) b (b - 1) (omega arith)) ∙ ap (λ n. n / b) (sym s)
+    go (suc r) e =
+        let m : a / b + min 1 (suc r) ≡ suc (a / b) = omega arith in
+        let s : a + (b - 1) ≡ suc (a / b) * b + r = omega (arith, div-add-mod' a b) in
+        m ∙ sym (div-mul-add (suc (a / b)) b r (omega (arith, mod-lt a h))) ∙ ap (λ n. n / b) (sym s)
 
 -- A level's input bits are at most its coded bits.
 pub share_low : (coded r : ℕ) → share coded r ≤ coded

@@ -1,5 +1,5 @@
 -- What the tables and formulas require of their numbers, and how the code holds and sums them: nothing of 01 is stated here.
-use Rattle.std.specs.Prelude.{ℕ, ◌+◌, ◌*◌, ◌/◌, ◌%◌, ◌≤◌, ◌≡◌, cond, ◌&&◌, List, map, ltb}
+use Rattle.std.specs.Prelude.{ℕ, ◌+◌, ◌*◌, ◌/◌, ◌%◌, ◌≤◌, ◌≡◌, List, [], map, get_or}
 use Rattle.lists.specs.Lists.{total}
 use Rattle.patterns.specs.Patterns.{RX, RY}
 use Rattle.partlengths.specs.Rates.{top_level, common_denominator}
@@ -20,9 +20,9 @@ pub record Rounds (a b : ℕ) : Type 0 where
   pub some : 1 ≤ b
   pub low : a + b ≤ 4294967295
 
--- Where a flat table holds an entry of a table with rows: row by row, columns entries each; the place after the last row stands for whatever lies outside the table.
-unfoldable pub place_in : ℕ → ℕ → ℕ → ℕ → ℕ
-place_in rows columns row column = cond (ltb row rows && ltb column columns) (row * columns + column) (rows * columns)
+-- The entry of a table by row and column, or what stands for every other pair.
+unfoldable pub looked_up : {A : Type 0} → List (List A) → ℕ → ℕ → A → A
+looked_up table row column other = get_or (get_or table row []) column other
 
 -- A level's input bits for whole rounds of its rate's pattern in so many coded bits: RX floor(coded / RY).
 unfoldable pub share : ℕ → ℕ → ℕ

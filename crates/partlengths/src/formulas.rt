@@ -28,12 +28,9 @@ pub fn shares(msc: u8, level: u8, coded: usize) -> usize
     requires { coded ≤ 131070 }
     ensures { result ≡ shares coded (rates msc level) }
 {
-    let count = tables::rate_count(msc, level);
     let mut sum = 0;
-    let mut k = 0;
-    while k < count {
-        sum += share(coded, tables::rate(msc, level, k));
-        k += 1;
+    for rate in tables::rates(msc, level) {
+        sum += share(coded, *rate);
     }
     sum
 }
@@ -49,7 +46,7 @@ pub fn hierarchical(msc: u8) -> bool
 pub fn less_tail(coded: usize) -> usize
     ensures { result ≡ coded - 12 }
 {
-    if coded < 12 { 0 } else { coded - 12 }
+    coded.saturating_sub(12)
 }
 
 // The bits of n cells of part A.
@@ -80,11 +77,12 @@ pub fn part_vspp(msc: u8, level: u8, n: usize) -> usize
 }
 
 // a / b, rounded towards plus infinity.
+#[tactic(auto, using(crate::proofs::Parts::rounded_up), unfolding(crate::specs::Formulas::round_up))]
 pub fn round_up(a: usize, b: usize) -> usize
     requires { Rounds a b }
     ensures { result ≡ round_up a b }
 {
-    (a + (b - 1)) / b
+    a.div_ceil(b)
 }
 
 // N1: the smallest multiple of RYlcm for which part A's bits number at least 8X.

@@ -4,10 +4,11 @@ use mathlib.Core.Path.{◌≡◌, refl, sym, ap, ◌∙◌}
 use mathlib.Core.Bool.{Bool, true, false}
 use mathlib.Core.List.{List, [], ◌∷◌, ◌++◌}
 use native.Mathlib.Nat.{zero-add}
+use native.Mathlib.Decide.{dec_lt}
 use native.Mathlib.Omega.{arith}
 use borrow.Author.Tests.{eqb-true, ltb-true, ltb-false}
 use lib.Dec.{eqb, ltb}
-use lib.ListN.{length, get_or, replicate, length-append, length-replicate, get_or-replicate, get_or-append}
+use lib.ListN.{length, get_or, replicate, length-append, length-replicate, get_or-replicate, get_or-append, get_or-eq_default}
 use lib.Seq.{ext_get_or, get_or-append-add}
 use lib.Count.{ones, ones_in, ones_step}
 use Rattle.lists.specs.Lists.{table, total}
@@ -24,6 +25,14 @@ use Rattle.patterns.specs.declared.Pattern.{Pattern}
 pub width_low : (rate : ℕ) → rate < 13 → (0 < RX rate) × (RX rate < 9)
 unfolding RX numerators
 width_low rate h = (less (λ k. 0) RX 13 tt rate h, less RX (λ k. 9) 13 tt rate h)
+
+pub width_high : (rate : ℕ) → RX rate ≤ 8
+unfolding RX numerators
+width_high rate =
+    elim (dec_lt rate 13) [ yes h ↦ omega (arith, width_low rate h) | no h ↦ past h ]
+  where
+    past : (rate < 13 → ⊥) → RX rate ≤ 8
+    past h = rw (get_or-eq_default numerators 1 {n = rate} (omega arith)) (omega arith)
 
 pub within : (rate : ℕ) → rate < 13 → begins rate + 4 * RX rate ≤ table_size
 unfolding begins RX numerators

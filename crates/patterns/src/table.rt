@@ -27,6 +27,7 @@ const ROWS: [[u8; 4]; 13] = [
     [0b11111111, 0b10000000, 0b00000000, 0b00000000],
 ];
 
+// Stays: four tables side by side, since a struct for each rate takes a line for each of its fields, and a rate's row is one line here.
 const NUMERATORS: [usize; 13] = [1, 3, 1, 4, 1, 4, 3, 2, 8, 3, 4, 7, 8];
 
 const DENOMINATORS: [usize; 13] = [4, 10, 3, 11, 2, 7, 5, 3, 11, 4, 5, 8, 9];
@@ -34,23 +35,19 @@ const DENOMINATORS: [usize; 13] = [4, 10, 3, 11, 2, 7, 5, 3, 11, 4, 5, 8, 9];
 const BEGINS: [usize; 13] = [0, 4, 16, 20, 36, 40, 56, 68, 76, 108, 120, 136, 164];
 
 // RX: the columns of a rate's pattern.
+#[tactic(auto, using(crate::proofs::Loaded::width_high), unfolding(crate::specs::Patterns::RX, crate::specs::Patterns::numerators))]
 pub fn numerator(rate: usize) -> usize
     ensures { (result ≡ RX rate) × (result ≤ 8) }
 {
-    if 13 <= rate {
-        return 1;
-    }
-    NUMERATORS[rate]
+    NUMERATORS.get(rate).copied().unwrap_or(1)
 }
 
 // RY: the bits that a rate's pattern keeps.
+#[tactic(auto, unfolding(crate::specs::Patterns::RY, crate::specs::Patterns::denominators))]
 pub fn denominator(rate: usize) -> usize
     ensures { result ≡ RY rate }
 {
-    if 13 <= rate {
-        return 1;
-    }
-    DENOMINATORS[rate]
+    DENOMINATORS.get(rate).copied().unwrap_or(1)
 }
 
 // Where the numbers of a rate begin.
@@ -123,16 +120,15 @@ pub fn standard_table() -> [u8; TABLE_SIZE]
         row: 0,
         column: 0,
     };
-    let mut k = 0;
-    while k < TABLE_SIZE {
+    for k in 0..TABLE_SIZE {
         kept[k] = standard_number(place.rate, place.row, place.column);
         place = next_place(place);
-        k += 1;
     }
     kept
 }
 
 // A number of a table that passes.
+#[tactic(auto, using(crate::proofs::Loaded::low))]
 fn bit(kept: &[u8; TABLE_SIZE], k: usize) -> u8
     requires { Allowed kept.now × (k < table_size) }
     ensures { (result ≡ get_or kept.now k 0) × (result < 2) }
@@ -141,6 +137,7 @@ fn bit(kept: &[u8; TABLE_SIZE], k: usize) -> u8
 }
 
 // A column from its numbers, which stand `width` apart.
+#[tactic(auto, unfolding(crate::specs::Clauses::column_from))]
 fn column(kept: &[u8; TABLE_SIZE], at: usize, width: usize) -> u8
     requires { Allowed kept.now × (at + 3 * width < table_size) }
     ensures { result ≡ column_from kept.now at width }
@@ -158,10 +155,8 @@ pub fn pattern(kept: &[u8; TABLE_SIZE], rate: usize) -> Pattern
     let width = numerator(rate);
     let at = begins(rate);
     let mut columns = [0u8; 8];
-    let mut i = 0;
-    while i < width {
+    for i in 0..width {
         columns[i] = column(kept, at + i, width);
-        i += 1;
     }
     Pattern { columns, width }
 }

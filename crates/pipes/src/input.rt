@@ -1,10 +1,10 @@
 // What comes in: a whole buffer, or a line.
-ghost use Rattle.std.specs.Prelude.{◌≡◌, ◌≤◌, false, length};
+ghost use Rattle.std.specs.Prelude.{◌≡◌, ◌≤◌, false, length, IfOk};
 ghost use Rattle.turns.specs.Turn.{after_all};
 
 use std::io::Read;
 use std::os::fd::AsRawFd;
-use turns::{Next, Seen, input, turn};
+use turns::{End, Seen, input, turn};
 
 // Whether a read tells the end of the input, and did not fail.
 fn tells_end<R: Read>(from: &mut R, bytes: &mut [u8]) -> bool {
@@ -15,41 +15,28 @@ fn tells_end<R: Read>(from: &mut R, bytes: &mut [u8]) -> bool {
 }
 
 // Fills a buffer from standard input; a read after that tells the end of the input from a read that failed.
-pub fn fill(rt: HostRuntime, bytes: &mut [u8]) -> Next {
+pub fn fill(rt: HostRuntime, bytes: &mut [u8]) -> Result<(), End> {
     let mut from = rt.stdin();
     let n = io::read_full(from.as_raw_fd(), bytes);
     let ended = tells_end(&mut from, &mut bytes[n..]);
     turn::after_read(n, bytes.len(), ended)
 }
 
-// How many bytes of a whole input came, and what follows.
-#[derive(Clone, Copy)]
-pub struct Taken {
-    pub next: Next,
-    pub got: usize,
-}
-
-// The whole of an input, or what fills the buffer.
-pub fn take_all<R: Read + AsRawFd>(from: &mut R, bytes: &mut [u8]) -> Taken
-    ensures { result.got ≤ length bytes.new }
+// The whole of an input, or what fills the buffer: how many bytes came.
+#[tactic(auto, unfolding(turns::specs::Turn::after_all))]
+pub fn take_all<R: Read + AsRawFd>(from: &mut R, bytes: &mut [u8]) -> Result<usize, End>
+    ensures { IfOk result (λ got. got ≤ length bytes.new) }
 {
     let n = io::read_full(from.as_raw_fd(), bytes);
     let ended = tells_end(from, &mut bytes[n..]);
-    Taken {
-        next: turn::after_all(n, bytes.len(), ended),
-        got: n,
-    }
+    turn::after_all(n, bytes.len(), ended)
 }
 
 // The same of an input that cannot be opened.
-pub fn take_none(bytes: &[u8]) -> Taken
-    ensures unread { result.next ≡ after_all 0 (length bytes.now) false }
-    ensures nothing { result.got ≡ 0 }
+pub fn take_none(bytes: &[u8]) -> Result<usize, End>
+    ensures { result ≡ after_all 0 (length bytes.now) false }
 {
-    Taken {
-        next: turn::after_all(0, bytes.len(), false),
-        got: 0,
-    }
+    turn::after_all(0, bytes.len(), false)
 }
 
 // A line, of which so many bytes count, and what ended it.
@@ -69,59 +56,26 @@ fn gather_byte<R: Read>(from: &mut R, line: &mut [u8; 256], count: usize) -> Gat
         Ok(n) => (n, n == 0),
         Err(_) => (0, false),
     };
-    let byte = one[0];
-    let seen = input::seen(got, ended, byte);
-    match seen {
-        Seen::Byte => Gathered {
-            count: input::gather(byte, line, count),
-            seen: Seen::Byte,
-        },
-        Seen::Feed => Gathered {
-            count,
-            seen: Seen::Feed,
-        },
-        Seen::Ended => Gathered {
-            count,
-            seen: Seen::Ended,
-        },
-        Seen::Failed => Gathered {
-            count,
-            seen: Seen::Failed,
-        },
-    }
+    let seen = input::seen(got, ended, one[0]);
+    let count = if seen == Seen::Byte {
+        input::gather(one[0], line, count)
+    } else {
+        count
+    };
+    Gathered { count, seen }
 }
 
-// A line up to its feed, the end of the input or a failure. A loop that is proved to end counts its turns.
+// A line up to its feed, the end of the input or a failure. A loop that is proved to end has a last turn.
 pub fn read_line<R: Read>(from: &mut R, line: &mut [u8; 256]) -> Gathered
     ensures { result.count ≤ 256 }
 {
     let mut count = 0;
-    let mut turns: u64 = 0;
-    while turns < u64::MAX {
+    for _ in 0..u64::MAX {
         let gathered = gather_byte(from, line, count);
-        let seen = gathered.seen;
-        count = gathered.count;
-        match seen {
-            Seen::Byte => turns += 1,
-            Seen::Feed => {
-                return Gathered {
-                    count,
-                    seen: Seen::Feed,
-                };
-            }
-            Seen::Ended => {
-                return Gathered {
-                    count,
-                    seen: Seen::Ended,
-                };
-            }
-            Seen::Failed => {
-                return Gathered {
-                    count,
-                    seen: Seen::Failed,
-                };
-            }
+        if gathered.seen != Seen::Byte {
+            return gathered;
         }
+        count = gathered.count;
     }
     Gathered {
         count,

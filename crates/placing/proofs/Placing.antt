@@ -126,3 +126,8 @@ module _ (kinds : List ℕ) (cells : Cells) (d : List ℤ) where
   placing_done grid counts p w h =
       let all : 3 * p ≡ 3 * length kinds = omega (arith, w.within) in
       filled_end (pos 0) (number_at kinds cells) d grid (3 * length kinds) w.fits.long (rw all at w.filled)
+
+-- Few places of its kind are before a place.
+pub count_few : (kinds : List ℕ) (cells : Cells) (d grid : List ℤ) (counts : List ℕ) (p : ℕ) → Placing kinds cells d grid counts p → p < length kinds
+    → get_or kinds p 0 < 256 → get_or counts (get_or kinds p 0) 0 ≤ 20745
+count_few kinds cells d grid counts p w h small = (bounds kinds cells d grid counts p w h small).few

@@ -1,6 +1,6 @@
 -- The loops that take cells. Assumes nothing.
 use Prim.Native.Nat.{ℕ, suc, ◌+◌, ◌*◌, ◌/◌, ◌%◌, ◌≤◌, ◌<◌}
-use mathlib.Core.Path.{◌≡◌, refl, sym, ap, ◌∙◌}
+use mathlib.Core.Path.{◌≡◌, sym, ap, ◌∙◌}
 use mathlib.Core.List.{List}
 use native.Mathlib.Omega.{arith}
 use lib.ListN.{length, get_or, set}
@@ -8,26 +8,8 @@ use lib.IntN.{ℤ, pos}
 use Rattle.lists.proofs.Tables.{Filled, filled-start, filled_turn, filled_end}
 use Rattle.kinds.specs.Kinds.{fac, sdc, msc}
 use Rattle.placing.specs.Cells.{count, before, nth, taken_of, taken}
-use Rattle.placing.specs.Clauses.{cells_from, TakeFits, Ahead}
-use Rattle.placing.proofs.Places.{count_le, before_none, before_same, before-other, before_le, before_inside, nth-before, Nth, nth-place}
-
--- From place p to place q there is no place of the kind, and one is still to come.
-pub record Seeking (kind : ℕ) (kinds : List ℕ) (p q : ℕ) : Type 0 where
-  pub same : before kind kinds q ≡ before kind kinds p
-  pub ahead : Ahead kind kinds p
-  pub inside : q < length kinds
-
-module _ (kind : ℕ) (kinds : List ℕ) (p : ℕ) where
-  pub seek_start : Ahead kind kinds p → Seeking kind kinds p p
-  seek_start a = record { same = refl; ahead = a; inside = before_inside kind kinds p a.some }
-
-  pub seek_turn : (q : ℕ) → Seeking kind kinds p q → (get_or kinds q 0 ≡ kind → ⊥) → Seeking kind kinds p (q + 1)
-  seek_turn q s e =
-      let same : before kind kinds (q + 1) ≡ before kind kinds p = before-other kind kinds q s.inside e ∙ s.same in
-      record { same = same; ahead = s.ahead; inside = before_inside kind kinds (q + 1) (omega (arith, s.ahead.some)) }
-
-  pub seek_done : (q : ℕ) → Seeking kind kinds p q → get_or kinds q 0 ≡ kind → q ≡ nth kind kinds (before kind kinds p)
-  seek_done q s e = sym (ap (nth kind kinds) (sym s.same) ∙ nth-before kind kinds q s.inside e)
+use Rattle.placing.specs.Clauses.{cells_from, TakeFits}
+use Rattle.placing.proofs.Places.{count_le, before_none, before-all, before_same, before-other, before_low, nth-before}
 
 -- Number n of the cells taken.
 abbrev pub cell_number : ℕ → List ℕ → List ℤ → ℕ → ℤ
@@ -39,11 +21,11 @@ pub record Taking (kind : ℕ) (kinds : List ℕ) (grid d out : List ℤ) (p n :
   pub number : n ≡ 2 * before kind kinds p
   pub filled : Filled (pos 0) (cell_number kind kinds grid) d out n
 
--- What is known of the next place of the kind.
-pub record Next (kind : ℕ) (kinds : List ℕ) (grid out : List ℤ) (n q : ℕ) : Type 0 where
-  pub inside : 3 * q + 2 < length grid
+-- What the code's numbers stay below at a place of the kind.
+pub record Bounds (kinds : List ℕ) (grid out : List ℤ) (p n : ℕ) : Type 0 where
+  pub inside : 3 * p + 2 < length grid
   pub room : n + 1 < length out
-  pub low : q < 20745
+  pub low : p < 20745
   pub few : n ≤ 41490
 
 module _ (kind : ℕ) (kinds : List ℕ) (grid d : List ℤ) where
@@ -51,57 +33,57 @@ module _ (kind : ℕ) (kinds : List ℕ) (grid d : List ℤ) where
   take-start f =
       record { fits = f; number = omega (arith, before_none kind kinds); filled = filled-start (pos 0) (cell_number kind kinds grid) d }
 
-  module _ (out : List ℤ) (p n : ℕ) (t : Taking kind kinds grid d out p n) (h : n < length out) where
-    pub ahead : Ahead kind kinds p
-    ahead = record { some = omega (arith, t.number, t.filled.long, t.fits.long) }
+  module _ {out : List ℤ} {p n : ℕ} (t : Taking kind kinds grid d out p n) (l : p < length kinds) (s : get_or kinds p 0 ≡ kind) where
+    -- it is the place of its number
+    here : p ≡ nth kind kinds (before kind kinds p)
+    here = sym (nth-before kind kinds p l s)
 
-    module _ (q : ℕ) (e : q ≡ nth kind kinds (before kind kinds p)) where
-      nth_here : Nth kind kinds (before kind kinds p)
-      nth_here = nth-place kind kinds (before kind kinds p) ahead.some
+    few : before kind kinds p < count kind kinds
+    few = before_low kind kinds p l s
 
-      pub next : Next kind kinds grid out n q
-      next =
-          record {
-            inside = omega (arith, nth_here.inside, t.fits.grids.long);
-            room = omega (arith, t.number, t.filled.long, t.fits.long, ahead.some);
-            low = omega (arith, nth_here.inside, t.fits.grids.low);
-            few = omega (arith, t.number, ahead.some, count_le kind kinds, t.fits.grids.low);
-          }
+    room : n + 1 < length out
+    room = omega (arith, t.number, t.filled.long, t.fits.long, few)
 
-      real : get_or grid (3 * q + 1) (pos 0) ≡ cell_number kind kinds grid n
-      real =
-          let half : n / 2 ≡ before kind kinds p = omega (arith, t.number) in
-          let even : n % 2 ≡ 0 = omega (arith, t.number) in
-          let at : 3 * q + 1 ≡ 3 * nth kind kinds (n / 2) + suc (n % 2) = rw (half, even, e) in
-          ap (λ k. get_or grid k (pos 0)) at
+    pub place_bounds : Bounds kinds grid out p n
+    place_bounds =
+        record {
+          inside = omega (arith, t.fits.grids.long);
+          room = room;
+          low = omega (arith, t.fits.grids.low);
+          few = omega (arith, t.number, few, count_le kind kinds, t.fits.grids.low);
+        }
 
-      imaginary : get_or grid (3 * q + 2) (pos 0) ≡ cell_number kind kinds grid (n + 1)
-      imaginary =
-          let half : (n + 1) / 2 ≡ before kind kinds p = omega (arith, t.number) in
-          let odd : (n + 1) % 2 ≡ 1 = omega (arith, t.number) in
-          let at : 3 * q + 2 ≡ 3 * nth kind kinds ((n + 1) / 2) + suc ((n + 1) % 2) = rw (half, odd, e) in
-          ap (λ k. get_or grid k (pos 0)) at
+    real : get_or grid (3 * p + 1) (pos 0) ≡ cell_number kind kinds grid n
+    real =
+        let half : n / 2 ≡ before kind kinds p = omega (arith, t.number) in
+        let even : n % 2 ≡ 0 = omega (arith, t.number) in
+        let at : 3 * p + 1 ≡ 3 * nth kind kinds (n / 2) + suc (n % 2) = rw (half, even) (omega (arith, here)) in
+        ap (λ k. get_or grid k (pos 0)) at
 
-      pub take_turn : (a b : ℤ) → a ≡ get_or grid (3 * q + 1) (pos 0) → b ≡ get_or grid (3 * q + 2) (pos 0)
-          → Taking kind kinds grid d (set (set out n a) (n + 1) b) (q + 1) (n + 2)
-      take_turn a b f g =
-          let low : n + 1 < length d = omega (arith, next.room, t.filled.long) in
-          let counted : before kind kinds (q + 1) ≡ before kind kinds q + 1 = before_same kind kinds q (rw e nth_here.inside) (rw e nth_here.has) in
-          let number : before kind kinds q ≡ before kind kinds p = rw e nth_here.number in
-          let two : n + 1 + 1 ≡ n + 2 = omega arith in
-          let x = filled_turn (pos 0) (cell_number kind kinds grid) d out n a (omega arith) (f ∙ real) t.filled in
-          let y = filled_turn (pos 0) (cell_number kind kinds grid) d (set out n a) (n + 1) b low (g ∙ imaginary) x in
-          record { fits = t.fits; number = omega (arith, t.number); filled = rw two at y }
+    imaginary : get_or grid (3 * p + 2) (pos 0) ≡ cell_number kind kinds grid (n + 1)
+    imaginary =
+        let half : (n + 1) / 2 ≡ before kind kinds p = omega (arith, t.number) in
+        let odd : (n + 1) % 2 ≡ 1 = omega (arith, t.number) in
+        let at : 3 * p + 2 ≡ 3 * nth kind kinds ((n + 1) / 2) + suc ((n + 1) % 2) = rw (half, odd) (omega (arith, here)) in
+        ap (λ k. get_or grid k (pos 0)) at
 
-  pub take_done : (out : List ℤ) (p n : ℕ) → Taking kind kinds grid d out p n → length out ≤ n → out ≡ taken_of kind kinds grid
+    pub place_taken : (a b : ℤ) → a ≡ get_or grid (3 * p + 1) (pos 0) → b ≡ get_or grid (3 * p + 2) (pos 0)
+        → Taking kind kinds grid d (set (set out n a) (n + 1) b) (p + 1) (n + 2)
+    place_taken a b f g =
+        let low : n + 1 < length d = omega (arith, room, t.filled.long) in
+        let two : n + 1 + 1 ≡ n + 2 = omega arith in
+        let x = filled_turn (pos 0) (cell_number kind kinds grid) d out n a (omega arith) (f ∙ real) t.filled in
+        let y = filled_turn (pos 0) (cell_number kind kinds grid) d (set out n a) (n + 1) b low (g ∙ imaginary) x in
+        record { fits = t.fits; number = omega (arith, t.number, before_same kind kinds p l s); filled = rw two at y }
+
+  pub place_passed : {out : List ℤ} {p n : ℕ} → Taking kind kinds grid d out p n → p < length kinds → (get_or kinds p 0 ≡ kind → ⊥) → Taking kind kinds grid d out (p + 1) n
+  place_passed {out} {p} {n} t l s = record { fits = t.fits; number = t.number ∙ ap (λ k. 2 * k) (sym (before-other kind kinds p l s)); filled = t.filled }
+
+  pub take_done : (out : List ℤ) (p n : ℕ) → Taking kind kinds grid d out p n → length kinds ≤ p → out ≡ taken_of kind kinds grid
   unfolding taken_of
   take_done out p n t h =
-      filled_end (pos 0) (cell_number kind kinds grid) d out (2 * count kind kinds) t.fits.long
-      (record {
-        long = t.filled.long;
-        done = λ k l. t.filled.done k (omega (arith, t.filled.long, t.fits.long));
-        rest = λ k l. t.filled.rest k (omega (arith, t.number, before_le kind kinds p, t.fits.long));
-      })
+      let all : n ≡ 2 * count kind kinds = omega (arith, t.number, before-all kind kinds p h) in
+      filled_end (pos 0) (cell_number kind kinds grid) d out (2 * count kind kinds) t.fits.long (rw all at t.filled)
 
 -- The cells of the three kinds.
 pub all-taken : (kinds : List ℕ) (grid a b c : List ℤ) → a ≡ taken_of 4 kinds grid → b ≡ taken_of 5 kinds grid → c ≡ taken_of 6 kinds grid

@@ -1,4 +1,4 @@
--- The refusals of a plan one after the other, and what an accepted plan is. Assumes nothing.
+-- What an accepted plan is. Assumes nothing.
 use Prim.Native.Nat.{ℕ, zero, suc, ◌≤◌, ◌<◌}
 use native.Mathlib.Omega.{arith}
 use borrow.Author.Tests.{lt-ltb, ltb-false, leb-false, not-false}
@@ -13,43 +13,10 @@ use Rattle.settings.specs.Refusal.{first}
 use Rattle.plan.specs.declared.Rule.{Rule}
 use Rattle.plan.specs.Rules.{most_rules, week_frames}
 use Rattle.plan.specs.Answers.{settings_refusal, ordered, all_covered, none_twice, plan_refusal}
-use Rattle.plan.specs.Clauses.{ends_covered, firsts_once}
-use Rattle.plan.proofs.Minutes.{ends-all, firsts_all}
 
--- 1 to 7
-pub refused_settings : (plan : List Rule) (t number : ℕ) → number ≡ settings_refusal plan → (number ≡ 0 → ⊥) → number ≡ plan_refusal plan t
-unfolding plan_refusal first
-refused_settings plan t number e n = rw (← e, lt-ltb 0 number (some number n))
-  where
-    some : (a : ℕ) → (a ≡ 0 → ⊥) → 0 < a
-    some zero n = absurd (n refl)
-    some (suc a) n = omega arith
-
--- 24, 25, 26 and acceptance, each by the tests before it
+-- 24
 abbrev pub out_of_range : List Rule → ℕ → Bool
 out_of_range plan t = ltb most_rules (length plan) || (not (every (map ordered plan)) || leb week_frames t)
-
-module _ (plan : List Rule) (t : ℕ) (s : settings_refusal plan ≡ 0) where
-  pub refused_range : out_of_range plan t ≡ true → 24 ≡ plan_refusal plan t
-  unfolding plan_refusal first
-  refused_range o = rw (s, o)
-
-  module _ (o : out_of_range plan t ≡ false) where
-    pub refused-gap : ends_covered plan ≡ false → 25 ≡ plan_refusal plan t
-    unfolding plan_refusal first
-    refused-gap c = rw (s, o, ← ends-all plan, c)
-
-    module _ (c : ends_covered plan ≡ true) where
-      in_order_lem : every (map ordered plan) ≡ true
-      in_order_lem = not-false _ (or_false _ (leb week_frames t) (or_false (ltb most_rules (length plan)) _ o).1).0
-
-      pub refused_twice : firsts_once plan ≡ false → 26 ≡ plan_refusal plan t
-      unfolding plan_refusal first
-      refused_twice n = rw (s, o, ← ends-all plan, c, ← firsts_all plan in_order_lem, n)
-
-      pub not-refused : firsts_once plan ≡ true → 0 ≡ plan_refusal plan t
-      unfolding plan_refusal first
-      not-refused n = rw (s, o, ← ends-all plan, c, ← firsts_all plan in_order_lem, n)
 
 -- what acceptance says
 pub record Good (plan : List Rule) (t : ℕ) : Type 0 where

@@ -1,26 +1,25 @@
 -- Loops over the rules of a plan. Assumes nothing.
-use Prim.Native.Nat.{ℕ, zero, suc, ◌+◌, ◌-◌, ◌≤◌, ◌<◌}
-use native.Mathlib.Nat.{add-zero, zero-add, add-suc, suc-add, sub-zero}
+use Prim.Native.Nat.{ℕ, zero, suc, ◌+◌, ◌-◌, ◌≤◌, ◌<◌, min}
+use native.Mathlib.Nat.{add-zero, zero-add, add-suc, suc-add}
 use native.Mathlib.Numerals.{add-one}
 use native.Mathlib.Omega.{arith}
-use borrow.Author.Tests.{ne_eqb, lt-ltb, le-ltb, lt-leb, le-leb}
+use borrow.Author.Tests.{lt-ltb}
 use mathlib.Core.Path.{◌≡◌, refl, sym, ap, ap₂, ◌∙◌}
-use mathlib.Core.Logic.{◌⊎◌, inl, inr}
-use mathlib.Core.Bool.{Bool, true, false, not, ◌&&◌, ◌||◌}
+use mathlib.Core.Bool.{Bool, true, false, ◌&&◌}
 use mathlib.Core.List.{List, ◌∷◌, map}
 use lib.ListN.{length, get_or, take, drop, length-take}
 use lib.Seq.{drop-cons, drop-length, get_or-take}
-use lib.Dec.{eqb, ltb, leb}
+use lib.Dec.{ltb}
+use Rattle.std.specs.List.{list_all, range_with_len}
 use Rattle.lists.specs.Lists.{table}
 use Rattle.lists.specs.Bools.{every}
 use Rattle.lists.proofs.Tables.{table_is, map-table}
-use Rattle.lists.proofs.Counting.{below_or}
 use Rattle.settings.specs.Refusal.{first, refusal}
 use Rattle.plan.specs.declared.Rule.{Rule}
 use Rattle.plan.specs.declared.Found.{Found}
-use Rattle.plan.specs.Rules.{most_rules, week_minutes, has, rules_with, place_of, no_rule}
-use Rattle.plan.specs.Answers.{first_number}
-use Rattle.plan.specs.Clauses.{found_in, after_covered, afters_covered, ends_covered}
+use Rattle.plan.specs.Rules.{most_rules, has, rules_with, place_of, no_rule}
+use Rattle.plan.specs.Answers.{first_number, settings_refusal}
+use Rattle.plan.specs.Clauses.{found_in}
 
 -- a function of each rule, by the rules' places
 pub map-places : {B : Type 0} (f : Rule → B) (plan : List Rule) → map f plan ≡ table (λ k. f (get_or plan k no_rule)) 0 (length plan)
@@ -29,40 +28,28 @@ map-places f plan =
     ∙ map-table f (λ k. get_or plan k no_rule) 0 (length plan)
 
 -- a test of each rule, made by the rules' places
-pub tests-all : (f : Rule → Bool) (plan : List Rule) (n : ℕ) (b : Bool) → n ≡ length plan → b ≡ every (table (λ k. f (get_or plan k no_rule)) 0 n) → b ≡ every (map f plan)
-tests-all f plan n b e h = h ∙ rw (e, map-places f plan)
+range-table : (f : ℕ → Bool) (k n : ℕ) → list_all f (range_with_len k n) ≡ every (table f k n)
+unfolding every table
+range-table f k zero = refl
+range-table f k (suc n) = rw add-one (ap (λ b. f k && b) (range-table f (suc k) n))
 
--- an `after` has a rule unless it is below 10,080 and none has it
-after_test : (a w : ℕ) → (leb week_minutes a || ltb 0 w) ≡ not (ltb a week_minutes && eqb w 0)
-after_test a w = go (below_or a week_minutes) w
-  where
-    go : (a < week_minutes) ⊎ (week_minutes ≤ a) → (w : ℕ) → (leb week_minutes a || ltb 0 w) ≡ not (ltb a week_minutes && eqb w 0)
-    go (inl l) zero = rw (lt-ltb a week_minutes l, lt-leb week_minutes a l)
-    go (inl l) (suc w) = rw (lt-ltb a week_minutes l, lt-leb week_minutes a l, lt-ltb 0 (suc w) (omega arith), ne_eqb (suc w) 0 (omega arith))
-    go (inr l) w = rw (le-ltb a week_minutes l, le-leb week_minutes a l)
-
-pub after_covered_lem : (plan : List Rule) (r : Rule) (found : Found) (b : Bool) → found ≡ found_in plan r.after
-    → (ltb r.after week_minutes && eqb found.count 0) ≡ b → after_covered plan r ≡ not b
-unfolding after_covered found_in
-after_covered_lem plan r found b e h = after_test r.after (rules_with plan r.after) ∙ ap not (rw e at h)
-
--- minute 0 and each `after` have a rule, unless one has none
-ends_test : (n : ℕ) (b : Bool) → (ltb 0 n && b) ≡ not (eqb n 0 || not b)
-ends_test zero b = refl
-ends_test (suc n) true = rw (lt-ltb 0 (suc n) (omega arith), ne_eqb (suc n) 0 (omega arith))
-ends_test (suc n) false = rw (lt-ltb 0 (suc n) (omega arith), ne_eqb (suc n) 0 (omega arith))
-
-pub ends_covered_lem : (plan : List Rule) (found : Found) (afters b : Bool) → found ≡ found_in plan 0 → afters ≡ afters_covered plan
-    → (eqb found.count 0 || not afters) ≡ b → ends_covered plan ≡ not b
-unfolding found_in ends_covered
-ends_covered_lem plan found afters b e a h = ends_test (rules_with plan 0) (afters_covered plan) ∙ ap not (rw (e, a) at h)
+pub tests-all : (f : Rule → Bool) (plan : List Rule) (n : ℕ) (b : Bool) → n ≡ length plan
+    → b ≡ list_all (λ k. f (get_or plan k no_rule)) (range_with_len 0 n) → b ≡ every (map f plan)
+tests-all f plan n b e h = h ∙ range-table _ 0 n ∙ rw (e, map-places f plan)
 
 -- the rules that are asked for 1 to 7, and their numbers
 abbrev pub asked_number : List Rule → ℕ → ℕ
 asked_number plan k = refusal (get_or (take most_rules plan) k no_rule).settings
 
-pub asked_rule : (plan : List Rule) (k : ℕ) → k < length (take most_rules plan) → (k < length plan) × (get_or plan k no_rule ≡ get_or (take most_rules plan) k no_rule)
-asked_rule plan k h = let l = length-take most_rules plan in (omega (arith, h, l), sym (get_or-take most_rules plan k no_rule (omega (arith, h, l))))
+module _ (plan : List Rule) (n : ℕ) (e : n ≡ min (length plan) most_rules) where
+  pub asked_is : (k : ℕ) (r : Rule) → k < n → r ≡ get_or plan k no_rule → refusal r.settings ≡ asked_number plan k
+  asked_is k r h w = ap (λ (r : Rule). refusal r.settings) (w ∙ sym (get_or-take most_rules plan k no_rule (omega arith)))
+
+  pub asked_all : first_number (table (asked_number plan) 0 n) ≡ settings_refusal plan
+  unfolding settings_refusal
+  asked_all =
+      let l : length (take most_rules plan) ≡ n = omega (arith, length-take most_rules plan) in
+      sym (ap first_number (map-places (λ r. refusal r.settings) (take most_rules plan) ∙ rw l))
 
 -- before rule k - 1 is asked whether it has a minute: what those from k on say
 pub record Asked (plan : List Rule) (minute k : ℕ) (found : Found) : Type 0 where
@@ -109,16 +96,7 @@ module _ (plan : List Rule) (minute : ℕ) where
   unfolding found_in
   asked_end found w = ap₂ (λ n p. record { count = n; place = p }) w.count (w.place ∙ zero-add _)
 
--- before number k: those before it and those from it on give what all give
-pub record Numbered (f : ℕ → ℕ) (n number k : ℕ) : Type 0 where
-  pub upto : k ≤ n
-  pub rest : first (ltb 0 number) number (first_number (table f k (n - k))) ≡ first_number (table f 0 n)
-
-first-first : (a b c : ℕ) → first (ltb 0 (first (not (eqb a 0)) a b)) (first (not (eqb a 0)) a b) c ≡ first (ltb 0 a) a (first (ltb 0 b) b c)
-unfolding first
-first-first zero b c = refl
-first-first (suc a) b c = rw (ne_eqb (suc a) 0 (omega arith), lt-ltb 0 (suc a) (omega arith))
-
+-- the first number that is not 0, where those before number k are 0
 one_number : (f : ℕ → ℕ) (n k : ℕ) → k < n → first_number (table f k (n - k)) ≡ first (ltb 0 (f k)) (f k) (first_number (table f (k + 1) (n - (k + 1))))
 unfolding first_number table
 one_number f n k h =
@@ -126,15 +104,15 @@ one_number f n k h =
     rw (e, add-one k)
 
 module _ (f : ℕ → ℕ) (n : ℕ) where
-  pub numbered_start : Numbered f n 0 0
+  pub none_turn : (k : ℕ) → k < n → f k ≡ 0 → first_number (table f k (n - k)) ≡ first_number (table f 0 n)
+      → first_number (table f (k + 1) (n - (k + 1))) ≡ first_number (table f 0 n)
   unfolding first
-  numbered_start = record { upto = omega arith; rest = rw sub-zero }
+  none_turn k h z w = rw (one_number f n k h, z) at w
 
-  pub numbered_turn : (number k next : ℕ) → k < n → next ≡ f k → Numbered f n number k → Numbered f n (first (not (eqb number 0)) number next) (k + 1)
-  numbered_turn number k next h e w =
-      record { upto = omega arith; rest = first-first number next _ ∙ rw e (rw (one_number f n k h) at w.rest) }
+  pub none_stop : (k : ℕ) → k < n → 0 < f k → first_number (table f k (n - k)) ≡ first_number (table f 0 n) → f k ≡ first_number (table f 0 n)
+  unfolding first
+  none_stop k h z w = rw (one_number f n k h, lt-ltb 0 (f k) z) at w
 
-  pub numbered_end : (number k : ℕ) → n ≤ k → Numbered f n number k → number ≡ first_number (table f 0 n)
-  unfolding first_number table first
-  numbered_end zero k h w = let m : n - k ≡ 0 = omega arith in rw m at w.rest
-  numbered_end (suc a) k h w = let m : n - k ≡ 0 = omega arith in rw (m, lt-ltb 0 (suc a) (omega arith)) at w.rest
+  pub none_end : (k : ℕ) → n ≤ k → first_number (table f k (n - k)) ≡ first_number (table f 0 n) → 0 ≡ first_number (table f 0 n)
+  unfolding first_number table
+  none_end k h w = let m : n - k ≡ 0 = omega arith in rw m at w

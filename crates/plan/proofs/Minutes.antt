@@ -2,10 +2,10 @@
 use Prim.Native.Nat.{ℕ, zero, suc, ◌≤◌, ◌<◌, zero-le}
 use native.Mathlib.Nat.{zero-add}
 use native.Mathlib.Omega.{arith}
-use borrow.Author.Tests.{lt-ltb, le-leb, ltb-true, leb-true, lt-leb, eqb-true, eqb-false}
-use mathlib.Core.Path.{◌≡◌, refl, sym, ap}
+use borrow.Author.Tests.{lt-ltb, le-ltb, le-leb, ltb-true, leb-true, lt-leb, eqb-true, eqb-false}
+use mathlib.Core.Path.{◌≡◌, refl, sym, ap, ◌∙◌}
 use mathlib.Core.Logic.{◌⊎◌, inl, inr}
-use mathlib.Core.Bool.{Bool, true, false}
+use mathlib.Core.Bool.{Bool, true, false, ◌&&◌}
 use mathlib.Core.List.{List, [], ◌∷◌, map}
 use lib.ListN.{length, get_or}
 use lib.Dec.{eqb, ltb, leb}
@@ -13,9 +13,10 @@ use Rattle.lists.specs.Bools.{every}
 use Rattle.lists.proofs.Bools.{and_left, and_right, both, or_right, every-table, table-every}
 use Rattle.lists.proofs.Counting.{below_or}
 use Rattle.plan.specs.declared.Rule.{Rule}
+use Rattle.plan.specs.declared.Found.{Found}
 use Rattle.plan.specs.Rules.{week_minutes, has, rules_with, place_of, no_rule}
 use Rattle.plan.specs.Answers.{ordered, all_covered, none_twice}
-use Rattle.plan.specs.Clauses.{after_covered, afters_covered, ends_covered, first_once, firsts_once}
+use Rattle.plan.specs.Clauses.{found_in, after_covered, afters_covered, ends_covered, first_once, firsts_once}
 use Rattle.plan.proofs.Loops.{map-places}
 
 -- two tests of which each holds with the other are one
@@ -126,9 +127,9 @@ covered_all plan h (suc m) l =
     let w = place-has plan m (covered_all plan h m (omega arith)) in
     covered_next plan m (place_of plan m) (and_right (ltb 0 (rules_with plan 0)) _ h) l w.0 w.1
 
-pub ends-all : (plan : List Rule) → ends_covered plan ≡ all_covered plan
+pub ends_all : (plan : List Rule) → ends_covered plan ≡ all_covered plan
 unfolding ends_covered afters_covered all_covered after_covered
-ends-all plan = one_test (ends_covered plan) (all_covered plan) onward back
+ends_all plan = one_test (ends_covered plan) (all_covered plan) onward back
   where
     onward : ends_covered plan ≡ true → all_covered plan ≡ true
     onward h = every-table (λ m. ltb 0 (rules_with plan m)) 0 week_minutes (λ m a b. lt-ltb 0 (rules_with plan m) (covered_all plan h m (rw zero-add at b)))
@@ -214,3 +215,12 @@ firsts_all plan o = one_test (firsts_once plan) (none_twice plan) onward back
 
     back : none_twice plan ≡ true → firsts_once plan ≡ true
     back h = each_rule plan (first_once plan) (λ k l. table-every (λ m. ltb (rules_with plan m) 2) week_minutes h (get_or plan k no_rule).first (low k l))
+
+-- a minute 0 with a rule leaves it to the rules' ends, and one without decides
+pub ends_some : (plan : List Rule) (found : Found) (b : Bool) → found ≡ found_in plan 0 → 0 < found.count → b ≡ afters_covered plan → b ≡ all_covered plan
+unfolding found_in ends_covered
+ends_some plan found b e h w = w ∙ sym (ap (λ t. t && afters_covered plan) (lt-ltb 0 (rules_with plan 0) (rw e at h))) ∙ ends_all plan
+
+pub ends_none : (plan : List Rule) (found : Found) → found ≡ found_in plan 0 → found.count ≤ 0 → ltb 0 found.count ≡ all_covered plan
+unfolding found_in ends_covered
+ends_none plan found e h = le-ltb 0 found.count h ∙ sym (ap (λ t. t && afters_covered plan) (le-ltb 0 (rules_with plan 0) (rw e at h))) ∙ ends_all plan

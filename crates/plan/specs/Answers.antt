@@ -1,10 +1,12 @@
 -- The refusals of a plan and its answer for a super frame. 02, S-12.
-use Rattle.std.specs.Prelude.{ℕ, Bool, cond, not, ◌&&◌, ◌||◌, List, [], ◌∷◌, map, length, take, eqb, ltb, leb}
+use Rattle.std.specs.Prelude.{ℕ, Result, Ok, Err, Bool, cond, not, ◌&&◌, ◌||◌, List, [], ◌∷◌, map, length, take, eqb, ltb, leb}
 use Rattle.lists.specs.Lists.{table}
 use Rattle.lists.specs.Bools.{every}
 use Rattle.settings.specs.Refusal.{first, refusal}
 use Rattle.settingbytes.specs.Numbers.{Numbers, yielded}
 use Rattle.plan.specs.declared.Rule.{Rule}
+use Rattle.refusal.specs.declared.Refusal.{Refusal}
+use Rattle.refusal.specs.Numbers.{number}
 use Rattle.plan.specs.declared.Answer.{Answer}
 use Rattle.plan.specs.Rules.{most_rules, week_minutes, week_frames, rules_with, place_of, minute_of, mark_of}
 
@@ -36,16 +38,27 @@ plan_refusal plan t =
     (first (ltb most_rules (length plan) || (not (every (map ordered plan)) || leb week_frames t)) 24
     (first (not (all_covered plan)) 25 (first (not (none_twice plan)) 26 0)))
 
+-- An answer in numbers: the refusal's, or 0, the rule's place and the mark.
+pub record Answered : Type 0 where
+  pub refusal : ℕ
+  pub place : ℕ
+  pub mark : ℕ
+
 -- The answer for a super frame of the week: the rule's place in the list and the mark, 0 and 0 with a refusal.
-unfoldable pub accepted : List Rule → ℕ → Answer
+unfoldable pub accepted : List Rule → ℕ → Answered
 accepted plan t = record { refusal = 0; place = place_of plan (minute_of t); mark = mark_of plan t }
 
-unfoldable pub refused : ℕ → Answer
+unfoldable pub refused : ℕ → Answered
 refused number = record { refusal = number; place = 0; mark = 0 }
 
-unfoldable pub answer_of : List Rule → ℕ → Answer
+unfoldable pub answer_of : List Rule → ℕ → Answered
 answer_of plan t = cond (eqb (plan_refusal plan t) 0) (accepted plan t) (refused (plan_refusal plan t))
 
 -- Place and mark; a refusal leaves the two bytes as they were.
-unfoldable pub plan_into : Answer → List ℕ → Numbers
+unfoldable pub plan_into : Answered → List ℕ → Numbers
 plan_into a bytes = cond (eqb a.refusal 0) (yielded 0 (a.place ∷ a.mark ∷ [])) (yielded a.refusal bytes)
+
+-- What the function answers, in the same numbers.
+abbrev pub answered : Result Answer Refusal → Answered
+answered (Ok a) = record { refusal = 0; place = a.place; mark = a.mark }
+answered (Err r) = refused (number r)

@@ -7,6 +7,11 @@ pub mod refusals;
 pub mod rules;
 pub mod theorems;
 
+ghost use Rattle.std.specs.Prelude.{◌≡◌};
+ghost use Rattle.plan.specs.Answers.{ordered};
+ghost use Rattle.plan.specs.Rules.{has};
+
+use crate::rules::WEEK_MINUTES;
 use settings::Settings;
 
 // A rule of a plan: its first minute, the minute after its last, and its settings.
@@ -17,6 +22,24 @@ pub struct Rule {
     pub settings: Settings,
 }
 
+impl Rule {
+    // Whether the rule has a minute: those from its first to the one before its `after`.
+    #[tactic(auto, unfolding(crate::specs::Rules::has))]
+    fn has(self, minute: u16) -> bool
+        ensures { result ≡ has self minute }
+    {
+        self.first <= minute && minute < self.after
+    }
+
+    // Whether the rule is neither empty nor reversed and has no minute above 10,080.
+    #[tactic(auto, unfolding(crate::specs::Answers::ordered))]
+    fn is_ordered(self) -> bool
+        ensures { result ≡ ordered self }
+    {
+        self.first < self.after && self.after <= WEEK_MINUTES
+    }
+}
+
 // The rules that have a minute: how many, and the first one's place in the list.
 #[derive(Clone, Copy)]
 pub struct Found {
@@ -24,10 +47,9 @@ pub struct Found {
     pub place: usize,
 }
 
-// The answer for a super frame: the refusal, or 0, the rule's place and the mark.
+// The answer for a super frame: the rule's place and the mark.
 #[derive(Clone, Copy)]
 pub struct Answer {
-    pub refusal: u8,
     pub place: u8,
     pub mark: u8,
 }

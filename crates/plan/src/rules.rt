@@ -4,7 +4,7 @@ ghost use Rattle.plan.specs.Rules.{rule_of, rules_of, no_rule};
 ghost use Rattle.plan.specs.Clauses.{found_in};
 
 use crate::{Found, Rule};
-use settingbytes::bytes::{settings_of, word};
+use settingbytes::bytes::settings_of;
 
 // A rule is fourteen bytes.
 pub const RULE_BYTES: usize = 14;
@@ -18,8 +18,8 @@ fn rule_of(bytes: &[u8]) -> Rule
     ensures { result ≡ rule_of bytes.now }
 {
     Rule {
-        first: word(bytes[0], bytes[1]),
-        after: word(bytes[2], bytes[3]),
+        first: u16::from_be_bytes([bytes[0], bytes[1]]),
+        after: u16::from_be_bytes([bytes[2], bytes[3]]),
         settings: settings_of(&bytes[4..]),
     }
 }
@@ -43,12 +43,13 @@ pub fn rule_at(rules: &[u8], k: usize) -> Rule
 pub fn find(rules: &[u8], minute: u16) -> Found
     ensures { result ≡ found_in (rules_of rules.now) minute }
 {
-    let mut k = count(rules);
-    let mut found = Found { count: 0, place: k };
-    while 0 < k {
-        k -= 1;
-        let r = rule_at(rules, k);
-        if (r.first <= minute) & (minute < r.after) {
+    let many = count(rules);
+    let mut found = Found {
+        count: 0,
+        place: many,
+    };
+    for k in (0..many).rev() {
+        if rule_at(rules, k).has(minute) {
             found = Found {
                 count: found.count + 1,
                 place: k,

@@ -9,9 +9,8 @@ use lib.ListN.{length, get_or}
 use lib.Dec.{eqb, ltb, leb}
 use Rattle.lists.proofs.Bools.{and_left, and_right}
 use Rattle.plan.specs.declared.Rule.{Rule}
-use Rattle.plan.specs.declared.Answer.{Answer}
 use Rattle.plan.specs.Rules.{week_minutes, no_rule, rules_of}
-use Rattle.plan.specs.Answers.{ordered, plan_refusal, accepted, refused, answer_of}
+use Rattle.plan.specs.Answers.{ordered, plan_refusal, Answered, accepted, refused, answer_of}
 use Rattle.plan.specs.Clauses.{Covered}
 use Rattle.plan.proofs.Minutes.{at_rule}
 use Rattle.plan.proofs.Chain.{good}
@@ -26,7 +25,7 @@ answer_number_lem plan t = go (eqb (plan_refusal plan t) 0) refl
     go true e = sym (eqb-true (plan_refusal plan t) 0 e)
     go false e = refl
 
-module _ (bytes : List ℕ) (t : ℕ) (a : Answer) (e : a ≡ answer_of (rules_of bytes) t) (z : a.refusal ≡ 0) where
+module _ (bytes : List ℕ) (t : ℕ) (a : Answered) (e : a ≡ answer_of (rules_of bytes) t) (z : a.refusal ≡ 0) where
   abbrev plan : List Rule
   plan = rules_of bytes
 

@@ -5,7 +5,6 @@ use Rattle.line.specs.Written.{decimal, space, line_end}
 use Rattle.console.specs.Text.{bytes_in}
 use Rattle.words.specs.Report.{refused_part}
 use Rattle.plan.specs.declared.Rule.{Rule}
-use Rattle.plan.specs.declared.Answer.{Answer}
 use Rattle.plan.specs.Rules.{minute_frames, no_rule, mark_of}
 use Rattle.plan.specs.Answers.{answer_of}
 use Rattle.planjobs.specs.declared.Printed.{Printed}
@@ -25,12 +24,13 @@ unfoldable pub print_refused : ℕ → List ℕ → PrintYield
 print_refused number out = print_yield (record { refusal = number; length = 0; next = 0 }) out
 
 -- `plan FILE SUPERFRAME`: place and mark.
-unfoldable pub answer_text : Answer → List ℕ
-answer_text a = decimal a.place ++ space ++ decimal a.mark ++ line_end
+unfoldable pub answer_text : ℕ → ℕ → List ℕ
+answer_text place mark = decimal place ++ space ++ decimal mark ++ line_end
 
 unfoldable pub answer_printed : List Rule → ℕ → List ℕ → PrintYield
 answer_printed plan t out =
-    cond (eqb (answer_of plan t).refusal 0) (printing 0 (answer_text (answer_of plan t)) out) (print_refused (answer_of plan t).refusal out)
+    let a = answer_of plan t in
+    cond (eqb a.refusal 0) (printing 0 (answer_text a.place a.mark) out) (print_refused a.refusal out)
 
 -- `plan FILE`: each stretch, from the minute with which it begins: its first super frame, its rule's place, and the first super
 -- frame of its closing, or a hyphen where it has none.

@@ -12,13 +12,11 @@ use numerals::numbers::{grown, is_digit};
 const GREATEST_MINUTE: u32 = 65535;
 
 // Whether a space stands at a place.
+#[tactic(auto, using(crate::proofs::Scanned::no_space))]
 fn is_space(line: &[u8], at: usize) -> bool
     ensures { result ≡ eqb (get_or line.now at 0) 32 }
 {
-    if line.len() <= at {
-        return false;
-    }
-    line[at] == b' '
+    at < line.len() && line[at] == b' '
 }
 
 // The decimal number from a place on.
@@ -27,26 +25,25 @@ pub fn number(line: &[u8], from: usize) -> Number
     ensures next_in_bounds { result.next ≤ length line.now + from }
 {
     let mut value = 0;
-    let mut next = from;
-    while next < line.len() {
+    for next in from..line.len() {
         let byte = line[next];
         if !is_digit(byte) {
             return Number { value, next };
         }
         value = grown(value, byte - b'0');
-        next += 1;
     }
-    Number { value, next }
+    Number {
+        value,
+        next: from.max(line.len()),
+    }
 }
 
 // A minute that goes into two bytes.
+#[tactic(auto, unfolding(crate::specs::Lines::minute_of))]
 fn minute(n: u32) -> u16
     ensures { result ≡ minute_of n }
 {
-    if n < GREATEST_MINUTE {
-        return n as u16;
-    }
-    GREATEST_MINUTE as u16
+    n.min(GREATEST_MINUTE) as u16
 }
 
 // Byte k of a rule from its minutes and the digits of its settings.
@@ -77,10 +74,8 @@ fn put_rule(first: u32, after: u32, settings: &[u8], out: &mut [u8])
     requires out_len { length out.old ≡ 14 }
     ensures { out.new ≡ table (rule_byte first after settings.now) 0 14 }
 {
-    let mut k = 0;
-    while k < out.len() {
-        out[k] = rule_byte(first, after, settings, k);
-        k += 1;
+    for (k, byte) in out.iter_mut().enumerate() {
+        *byte = rule_byte(first, after, settings, k);
     }
 }
 

@@ -10,7 +10,8 @@ use plan::Answer;
 use plan::answers::answer;
 use plan::marks::{MINUTE_FRAMES, mark};
 use plan::rules::rule_at;
-use words::report::{put, put_decimal, put_refused};
+use words::report::{put, put_decimal, say_refused};
+use words::text::Text;
 
 // Nothing printed.
 fn refused(number: u8) -> Printed
@@ -26,7 +27,7 @@ fn refused(number: u8) -> Printed
 // Place and mark.
 fn put_answer(a: Answer, out: &mut [u8]) -> usize
     requires { 1024 ≤ length out.old }
-    ensures { Put 1024 (answer_text a) out.old 0 result out.new }
+    ensures { Put 1024 (answer_text a.place a.mark) out.old 0 result out.new }
 {
     let a1 = put_decimal(a.place as u64, out, 0);
     let b = put(b" ", out, a1);
@@ -39,10 +40,10 @@ pub fn answer_line(rules: &[u8], t: u32, out: &mut [u8; 1024]) -> Printed
     ensures out_after { print_yield result out.new ≡ answer_printed (rules_of rules.now) t out.old }
     ensures length_bound { result.length ≤ 1024 }
 {
-    let a = answer(rules, t);
-    if a.refusal != 0 {
-        return refused(a.refusal);
-    }
+    let a = match answer(rules, t) {
+        Ok(a) => a,
+        Err(refusal) => return refused(refusal.number()),
+    };
     let n = put_answer(a, out);
     Printed {
         refusal: 0,
@@ -95,10 +96,10 @@ pub fn stretch_line(rules: &[u8], minute: u16, out: &mut [u8; 1024]) -> Printed
     ensures length_bound { result.length ≤ 1024 }
 {
     let frame = MINUTE_FRAMES * minute as u32;
-    let a = answer(rules, frame);
-    if a.refusal != 0 {
-        return refused(a.refusal);
-    }
+    let a = match answer(rules, frame) {
+        Ok(a) => a,
+        Err(refusal) => return refused(refusal.number()),
+    };
     let after = rule_at(rules, a.place as usize).after;
     let closing = closing_frame(rules, after);
     let n = put_stretch(frame, a.place, closing, out);
@@ -110,10 +111,13 @@ pub fn stretch_line(rules: &[u8], minute: u16, out: &mut [u8; 1024]) -> Printed
 }
 
 // What is said of a plan that is refused.
-pub fn refused_line(number: u8, out: &mut [u8; 1024]) -> usize
-    ensures { Put 1024 (refused_line number) out.old 0 result out.new }
+#[tactic(auto, using(std::proofs::Common::append_assoc), unfolding(crate::specs::Week::refused_line, console::specs::Text::bytes_in, lists::specs::Lists::table))]
+pub fn refused_line(number: u8) -> Text
+    ensures { result ≡ refused_line number }
 {
-    let a = put(b"plan: ", out, 0);
-    let b = put_refused(number, 0, out, a);
-    put(b"\n", out, b)
+    let mut text = Text::new();
+    text.put(b"plan: ");
+    say_refused(&mut text, number, 0);
+    text.put(b"\n");
+    text
 }

@@ -1,5 +1,5 @@
 -- The test of cells that are bytes, by arithmetic on four bits. Assumes nothing.
-use Prim.Native.Nat.{ℕ, ◌/◌, ◌%◌, ◌≤◌, ◌<◌}
+use Prim.Native.Nat.{ℕ, ◌/◌, ◌%◌, ◌<◌}
 use mathlib.Core.Bool.{Bool, true, false, ◌&&◌, ◌||◌}
 use mathlib.Core.Path.{◌≡◌, refl, ◌∙◌}
 use mathlib.Core.List.{List}
@@ -11,6 +11,8 @@ use lib.ListN.{get_or}
 use lib.IntN.{pos}
 use Rattle.lists.specs.Lists.{table}
 use Rattle.lists.specs.Same.{same_number}
+use Rattle.block.specs.declared.Constellation.{Constellation}
+use Rattle.block.specs.declared.Constellation.TheVariants.{Qam4, Qam16, Sm64, HmSym, HmMix}
 use Rattle.block.specs.Mapping.{coordinate, qam4, qam16, standard64, symmetric64, constellation}
 use Rattle.block.specs.Points.{is_empty, on_axis, is_point}
 use Rattle.cellbytes.specs.CellBytes.{signed, real_of, imaginary_of, numbers}
@@ -18,7 +20,7 @@ use Rattle.cellbytes.specs.TwosComplement.{twos_complement}
 use Rattle.cellbytes.proofs.CellBytes.{real_at, imaginary_at}
 use Rattle.pointtests.specs.PointTests.{cell_passes, all_cells}
 use Rattle.pointtests.specs.Clauses.{half_passes, byte_passes, Reaches}
-use Rattle.pointtests.proofs.PointTests.{agree, else_qam4}
+use Rattle.pointtests.proofs.PointTests.{agree}
 
 -- the sixteen halves of each axis
 half_4 : (n : ℕ) → n < 16 → half_passes 1 n ≡ on_axis qam4 (signed n)
@@ -37,28 +39,25 @@ half_symmetric : (n : ℕ) → n < 16 → half_passes 7 n ≡ on_axis symmetric6
 unfolding on_axis same_number table symmetric64 coordinate signed twos_complement
 half_symmetric = agree (half_passes 7) (λ n. on_axis symmetric64 (signed n)) 16 tt
 
-pub reaches_16 : Reaches 1 3
+pub reaches_4 : Reaches Qam4 1
+unfolding constellation
+reaches_4 = record { low = omega arith; real = half_4; imaginary = half_4 }
+
+pub reaches_16 : Reaches Qam16 3
 unfolding constellation
 reaches_16 = record { low = omega arith; real = half_16; imaginary = half_16 }
 
-pub reaches_standard : Reaches 2 7
+pub reaches_standard : Reaches Sm64 7
 unfolding constellation
 reaches_standard = record { low = omega arith; real = half_standard; imaginary = half_standard }
 
-pub reaches_symmetric : Reaches 3 7
+pub reaches_symmetric : Reaches HmSym 7
 unfolding constellation
 reaches_symmetric = record { low = omega arith; real = half_symmetric; imaginary = half_symmetric }
 
-pub reaches_mixed : Reaches 4 7
+pub reaches_mixed : Reaches HmMix 7
 unfolding constellation
 reaches_mixed = record { low = omega arith; real = half_symmetric; imaginary = half_standard }
-
-pub reaches_else : (c : ℕ) → (0 < c → 5 ≤ c) → Reaches c 1
-unfolding constellation
-reaches_else =
-    else_qam4 (λ c. Reaches c 1)
-    (record { low = omega arith; real = half_4; imaginary = half_4 })
-    (λ c. record { low = omega arith; real = half_4; imaginary = half_4 })
 
 -- the byte of (0, 0) is 0
 half_zero : (n : ℕ) → n < 16 → same_number (pos 0) (signed n) ≡ eqb n 0
@@ -79,13 +78,13 @@ unfolding is_empty real_of imaginary_of
 blank_byte b h = rw (half_zero (b / 16) (omega arith), half_zero (b % 16) (omega arith)) (both_zero b)
 
 -- what the code finds of a byte
-byte_axes : (c : ℕ) (blank : Bool) (top b : ℕ) → Reaches c top → b < 256
+byte_axes : (c : Constellation) (blank : Bool) (top b : ℕ) → Reaches c top → b < 256
     → byte_passes top blank b ≡ (blank && is_empty (real_of b) (imaginary_of b)) || is_point (constellation c) (real_of b) (imaginary_of b)
 unfolding is_point real_of imaginary_of
 byte_axes c blank top b R h = rw (← blank_byte b h, R.real (b / 16) (omega arith), R.imaginary (b % 16) (omega arith))
 
 -- and of cell i
-pub byte_read : (c : ℕ) (blank : Bool) (cells : List ℕ) (i top : ℕ) (r : Bool) → Reaches c top → get_or cells i 0 < 256 → r ≡ byte_passes top blank (get_or cells i 0)
+pub byte_read : (c : Constellation) (blank : Bool) (cells : List ℕ) (i top : ℕ) (r : Bool) → Reaches c top → get_or cells i 0 < 256 → r ≡ byte_passes top blank (get_or cells i 0)
     → r ≡ cell_passes (all_cells c blank) (numbers cells) i
 unfolding cell_passes
 byte_read c blank cells i top r R h e =

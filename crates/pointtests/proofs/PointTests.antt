@@ -22,6 +22,8 @@ use Rattle.lists.proofs.Counting.{below_or}
 use Rattle.lists.proofs.Rules.{each, at, both_left, both_right}
 use Rattle.lists.proofs.Tests.{every_pairs}
 use Rattle.lists.proofs.Tables.{table_ext}
+use Rattle.block.specs.declared.Constellation.{Constellation}
+use Rattle.block.specs.declared.Constellation.TheVariants.{Qam4, Qam16, Sm64, HmSym, HmMix}
 use Rattle.block.specs.Mapping.{coordinate, qam4, qam16, standard64, symmetric64, constellation, axis}
 use Rattle.block.specs.Points.{on_axis, is_point, are_points}
 use Rattle.pointtests.specs.declared.PointTest.{PointTest}
@@ -105,37 +107,25 @@ tells_symmetric : (v : ℤ) → SFits w16 v → by_mask (negsuc 6) v ≡ on_axis
 unfolding on_axis same_number table symmetric64 coordinate near
 tells_symmetric = tells symmetric64 1 (omega arith) tt tt tt
 
-pub masks_16 : Masks 1 (negsuc 2)
+pub masks_4 : Masks Qam4 (negsuc 0)
+unfolding constellation
+masks_4 = record { fits = record { sfits = omega arith }; real = tells_4; imaginary = tells_4 }
+
+pub masks_16 : Masks Qam16 (negsuc 2)
 unfolding constellation
 masks_16 = record { fits = record { sfits = omega arith }; real = tells_16; imaginary = tells_16 }
 
-pub masks_standard : Masks 2 (negsuc 6)
+pub masks_standard : Masks Sm64 (negsuc 6)
 unfolding constellation
 masks_standard = record { fits = record { sfits = omega arith }; real = tells_standard; imaginary = tells_standard }
 
-pub masks_symmetric : Masks 3 (negsuc 6)
+pub masks_symmetric : Masks HmSym (negsuc 6)
 unfolding constellation
 masks_symmetric = record { fits = record { sfits = omega arith }; real = tells_symmetric; imaginary = tells_symmetric }
 
-pub masks_mixed : Masks 4 (negsuc 6)
+pub masks_mixed : Masks HmMix (negsuc 6)
 unfolding constellation
 masks_mixed = record { fits = record { sfits = omega arith }; real = tells_symmetric; imaginary = tells_standard }
-
--- constellation 0 and what is no constellation
-pub else_qam4 : (P : ℕ → Type 0) → P 0 → ((c : ℕ) → P (suc (suc (suc (suc (suc c)))))) → (c : ℕ) → (0 < c → 5 ≤ c) → P c
-else_qam4 P p q zero h = p
-else_qam4 P p q (suc zero) h = absurd (omega (arith, h (omega arith)))
-else_qam4 P p q (suc (suc zero)) h = absurd (omega (arith, h (omega arith)))
-else_qam4 P p q (suc (suc (suc zero))) h = absurd (omega (arith, h (omega arith)))
-else_qam4 P p q (suc (suc (suc (suc zero)))) h = absurd (omega (arith, h (omega arith)))
-else_qam4 P p q (suc (suc (suc (suc (suc c))))) h = q c
-
-pub masks_else : (c : ℕ) → (0 < c → 5 ≤ c) → Masks c (negsuc 0)
-unfolding constellation
-masks_else =
-    else_qam4 (λ c. Masks c (negsuc 0))
-    (record { fits = record { sfits = omega arith }; real = tells_4; imaginary = tells_4 })
-    (λ c. record { fits = record { sfits = omega arith }; real = tells_4; imaginary = tells_4 })
 
 -- a number is 0 exactly if its bits are
 pub zero_bits_lem : (v : ℤ) → SFits w16 v → eqb (of_z w16 v) 0 ≡ same_number (pos 0) v
@@ -168,12 +158,12 @@ pub delay-next : (D i delay r : ℕ) → delay ≡ i % D → r ≡ (delay + 1) %
 delay-next D i delay r e f = f ∙ rw e (mod-add-mod i D 1)
 
 -- the test that every cell is a point of a constellation
-only_cell : (c : ℕ) (cells : List ℤ) (i : ℕ)
+only_cell : (c : Constellation) (cells : List ℤ) (i : ℕ)
     → cell_passes (points_only c) cells i ≡ is_point (constellation c) (get_or cells (2 * i) (pos 0)) (get_or cells (2 * i + 1) (pos 0))
 unfolding cell_passes
 only_cell c cells i = rw (mod-one i)
 
-pub points_only_lem : (c : ℕ) (cells : List ℤ) → length cells % 2 ≡ 0 → points_pass (points_only c) cells ≡ are_points (constellation c) cells
+pub points_only_lem : (c : Constellation) (cells : List ℤ) → length cells % 2 ≡ 0 → points_pass (points_only c) cells ≡ are_points (constellation c) cells
 unfolding points_pass are_points is_point axis
 points_only_lem c cells h =
     let n : length cells ≡ 2 * (length cells / 2) = omega arith in

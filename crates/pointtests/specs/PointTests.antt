@@ -2,6 +2,7 @@
 use Rattle.std.specs.Prelude.{ℕ, ◌+◌, ◌*◌, ◌/◌, ◌%◌, Bool, false, ◌&&◌, ◌||◌, List, length, get_or, ℤ, pos, ltb}
 use Rattle.lists.specs.Lists.{table}
 use Rattle.lists.specs.Bools.{every}
+use Rattle.block.specs.declared.Constellation.{Constellation}
 use Rattle.block.specs.Mapping.{constellation}
 use Rattle.block.specs.Points.{is_empty, is_point}
 use Rattle.pointtests.specs.declared.PointTest.{PointTest}
@@ -18,9 +19,9 @@ unfoldable pub points_pass : PointTest → List ℤ → Bool
 points_pass test cells = every (table (cell_passes test cells) 0 (length cells / 2))
 
 -- The test that every cell is a point of constellation c, or (0, 0) where such cells pass; none is ignored.
-abbrev pub all_cells : ℕ → Bool → PointTest
+abbrev pub all_cells : Constellation → Bool → PointTest
 all_cells c blank = record { constellation = c; depth = 1; count = 0; blank = blank }
 
 -- The test that every cell is a point.
-abbrev pub points_only : ℕ → PointTest
+abbrev pub points_only : Constellation → PointTest
 points_only c = all_cells c false

@@ -5,17 +5,16 @@ ghost use Rattle.pointtests.specs.PointTests.{points_pass, all_cells};
 ghost use Rattle.pointtests.specs.Clauses.{by_mask, Masks, Finds, half_passes, byte_passes, Reaches};
 
 use crate::PointTest;
+use block::Constellation;
 
 // The mask by which the coordinates of a constellation are told: in its places they have 1, or all that is there.
-fn mask_of(c: u8) -> i16
+fn mask_of(c: Constellation) -> i16
     ensures { Masks c result }
 {
     match c {
-        1 => -3,
-        2 => -7,
-        3 => -7,
-        4 => -7,
-        _ => -1,
+        Constellation::Qam4 => -1,
+        Constellation::Qam16 => -3,
+        Constellation::Sm64 | Constellation::HmSym | Constellation::HmMix => -7,
     }
 }
 
@@ -48,16 +47,13 @@ pub fn next_modulo(depth: usize, delay: usize) -> usize
 }
 
 // Every cell passes, and none is ignored. All are looked at, whatever came before.
-pub fn all_pass(c: u8, blank: bool, cells: &[i16]) -> bool
+pub fn all_pass(c: Constellation, blank: bool, cells: &[i16]) -> bool
     ensures { result ≡ points_pass (all_cells c blank) cells.now }
 {
     let mask = mask_of(c);
-    let n = cells.len() / 2;
     let mut passed = true;
-    let mut i = 0;
-    while i < n {
+    for i in 0..cells.len() / 2 {
         passed = passed & cell_passes(mask, blank, cells, i);
-        i += 1;
     }
     passed
 }
@@ -68,14 +64,11 @@ fn some_pass(test: PointTest, cells: &[i16]) -> bool
     ensures { result ≡ points_pass test cells.now }
 {
     let mask = mask_of(test.constellation);
-    let n = cells.len() / 2;
     let mut passed = true;
     let mut delay = 0;
-    let mut i = 0;
-    while i < n {
+    for i in 0..cells.len() / 2 {
         passed = passed & ((test.count < delay) | cell_passes(mask, test.blank, cells, i));
         delay = next_modulo(test.depth, delay);
-        i += 1;
     }
     passed
 }
@@ -92,15 +85,13 @@ pub fn points_pass(test: PointTest, cells: &[i16]) -> bool
 }
 
 // The largest coordinate of a constellation.
-fn largest(c: u8) -> u8
+fn largest(c: Constellation) -> u8
     ensures { Reaches c result }
 {
     match c {
-        1 => 3,
-        2 => 7,
-        3 => 7,
-        4 => 7,
-        _ => 1,
+        Constellation::Qam4 => 1,
+        Constellation::Qam16 => 3,
+        Constellation::Sm64 | Constellation::HmSym | Constellation::HmMix => 7,
     }
 }
 
@@ -121,15 +112,13 @@ fn byte_passes(top: u8, blank: bool, b: u8) -> bool
 }
 
 // Every cell of a memory passes, whatever came before.
-pub fn bytes_pass(c: u8, blank: bool, cells: &[u8]) -> bool
+pub fn bytes_pass(c: Constellation, blank: bool, cells: &[u8]) -> bool
     ensures { result ≡ points_pass (all_cells c blank) (numbers cells.now) }
 {
     let top = largest(c);
     let mut passed = true;
-    let mut i = 0;
-    while i < cells.len() {
-        passed = passed & byte_passes(top, blank, cells[i]);
-        i += 1;
+    for cell in cells {
+        passed = passed & byte_passes(top, blank, *cell);
     }
     passed
 }

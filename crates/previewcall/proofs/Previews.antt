@@ -10,16 +10,25 @@ use Rattle.superframe.specs.declared.State.{State}
 use Rattle.superframe.specs.Call.{memory_length}
 use Rattle.superframe.specs.Code.{CodeCall, CodeYield, code_refusal, code_accepted, code_refused}
 use Rattle.previewcall.specs.Preview.{without_memory, preview_of}
-use Rattle.superframe.specs.Clauses.{CodeFits}
+use Rattle.std.proofs.Common.{Err}
+use lib.IntN.{ℤ}
+use Rattle.refusal.specs.declared.Refusal.{Refusal}
+use Rattle.refusal.specs.Numbers.{number}
+use Rattle.refusal.proofs.Positive.{number_positive}
+use Rattle.superframe.specs.Answers.{done}
+use Rattle.previewcall.specs.Clauses.{preview_yield}
+use Rattle.superframe.specs.Clauses.{CodeFits, code_call}
 use Rattle.superframe.proofs.Calls.{code_fits, code_accepts, code_refuses}
 
-module _ (state : State) (memory : List ℕ) (c : CodeCall) (r : ℕ) (e : r ≡ code_refusal state memory c) where
-  -- A refusal leaves the outputs, and gives the state handed in.
-  pub refused_preview : (r ≡ 0 → ⊥)
-      → record { done = record { refusal = r; state = state }; faccells = c.faccells; sdccells = c.sdccells; msccells = c.msccells } ≡ preview_of state memory c
-  unfolding preview_of without_memory code_refused
-  refused_preview h = sym (ap without_memory (code_refuses state memory c r (sym e) (omega arith)))
+-- A refusal leaves the outputs, and the caller keeps the state handed in.
+pub refused_preview : (state : State) (memory : List ℕ) (fac sdc msc : List ℕ) (faccells sdccells msccells : List ℤ) (r : Refusal)
+    → number r ≡ code_refusal state memory (code_call fac sdc msc faccells sdccells msccells)
+    → preview_yield (done state (Err r)) faccells sdccells msccells ≡ preview_of state memory (code_call fac sdc msc faccells sdccells msccells)
+unfolding preview_of without_memory code_refused
+refused_preview state memory fac sdc msc faccells sdccells msccells r e =
+    sym (ap without_memory (code_refuses state memory _ (number r) (sym e) (number_positive r)))
 
+module _ (state : State) (memory : List ℕ) (c : CodeCall) (r : ℕ) (e : r ≡ code_refusal state memory c) where
   module _ (h : r ≡ 0) where
     passed : CodeFits state memory c
     passed = code_fits state memory c (sym e ∙ h)

@@ -1,7 +1,7 @@
 -- The call preview: what Code would give on a copy of the memory. 02 S-3.
 use Rattle.std.specs.Prelude.{ℕ, List, ℤ}
 use Rattle.superframe.specs.declared.State.{State}
-use Rattle.superframe.specs.declared.Done.{Done}
+use Rattle.superframe.specs.Answers.{Done}
 use Rattle.superframe.specs.Code.{CodeCall, CodeYield, code_of}
 
 -- All that a preview yields: its answer, and the outputs as it leaves them. It is lent Code's inputs and outputs, and memory to be read only.

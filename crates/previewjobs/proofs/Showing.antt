@@ -16,7 +16,7 @@ use Rattle.previewjobs.specs.Shown.{preview_written, shown_of, copy_after}
 
 -- A job's yield without state and memory.
 abbrev made : JobYield → MadeYield
-made y = made_yield (record { outcome = y.step.outcome; length = y.step.length }) y.out
+made y = made_yield y.step.made y.out
 
 made-answered : (b : Bool) (number : ℕ) (state : State) (memory bytes out : List ℕ) → made (cond b (Job·through state memory bytes out) (Job·refused number 0 state memory out)) ≡ cond b (through bytes out) (refused number out)
 unfolding through refused Job·through Job·refused

@@ -1,15 +1,16 @@
 // The numbers of the lengths, of a call that reads. 01 "Operations".
 ghost use Rattle.std.specs.Prelude.{◌≡◌};
+ghost use Rattle.refusal.specs.Numbers.{answer};
 ghost use Rattle.superframe.specs.Code.{byte_lengths, cell_lengths};
 ghost use Rattle.callrefusals.specs.Clauses.{refusal_then};
 
-use callrefusals::refusal;
+use callrefusals::refusals::{accepted_sizes, bytes_long, cells_long, check_lengths};
 use channels::Scheme;
-use channels::tables::scheme_refusal;
-use settings::answers;
+use refusal::Refusal;
 
 // 1 to 10: the cells come in, and bytes go out.
-pub fn read_lengths(
+#[tactic(auto, using(callrefusals::proofs::Chains::then_refused))]
+pub fn check_buffers(
     s: Scheme,
     faccells: &[i16],
     sdccells: &[i16],
@@ -18,14 +19,13 @@ pub fn read_lengths(
     fac: &[u8],
     sdc: &[u8],
     msc: &[u8],
-) -> u8
-    ensures { result ≡ refusal_then s memory.now
+) -> Result<(), Refusal>
+    ensures { answer result ≡ refusal_then s memory.now
         (cell_lengths s.settings faccells.now sdccells.now msccells.now)
         (byte_lengths s.settings fac.now sdc.now msc.now) 0 }
 {
-    let number = scheme_refusal(s);
-    let z = answers::sizes(s.settings);
-    let nine = refusal::cells_long(z, faccells.len(), sdccells.len(), msccells.len());
-    let ten = refusal::bytes_long(z, fac.len(), sdc.len(), msc.len());
-    refusal::length_refusal(number, z, memory.len(), nine, ten)
+    let z = accepted_sizes(s.settings, &s.table)?;
+    let nine = cells_long(z, faccells.len(), sdccells.len(), msccells.len());
+    let ten = bytes_long(z, fac.len(), sdc.len(), msc.len());
+    check_lengths(z, memory.len(), nine, ten)
 }

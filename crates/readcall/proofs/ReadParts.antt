@@ -25,7 +25,7 @@ use Rattle.channels.specs.Fac.{fac_block}
 use Rattle.channels.specs.Sdc.{sdc_block}
 use Rattle.channels.specs.Msc.{msc_block}
 use Rattle.superframe.specs.declared.State.{State}
-use Rattle.superframe.specs.declared.Answer.TheVariants.{Finished, Refused}
+use Rattle.superframe.specs.Answers.{Finished, Refused}
 use Rattle.superframe.specs.Call.{parts, joined, in_order, memory_length}
 use Rattle.superframe.specs.Code.{byte_lengths, cell_lengths, progress_of}
 use Rattle.superframe.specs.Read.{ReadCall, point_tests, given_tests, order_refusal, answer_of, handed_out, read_accepted, read_refused, read_of}
@@ -37,8 +37,11 @@ use Rattle.callrefusals.specs.Clauses.{refusal_then}
 use Rattle.callrefusals.proofs.Chains.{then_stops, then_goes_on}
 use Rattle.cellmemory.proofs.Progress.{memory_most}
 use Rattle.readblocks.specs.declared.Blocks.{Blocks}
-use Rattle.faults.specs.declared.Fault.{Fault}
-use Rattle.faults.specs.declared.Fault.TheVariants.{Nowhere, At}
+use Rattle.std.proofs.Common.{Option, Some, None, Err}
+use Rattle.refusal.specs.declared.Refusal.{Refusal}
+use Rattle.refusal.specs.Numbers.{number}
+use Rattle.refusal.proofs.Positive.{number_positive}
+use Rattle.superframe.specs.Answers.{reading}
 use Rattle.faults.specs.Clauses.{fault_of, point_test, CellsLent}
 use Rattle.readblocks.specs.Clauses.{facs_of, frames_of, blocks_of, BlocksLent, BlocksRead}
 use Rattle.readcall.specs.Clauses.{ReadPasses}
@@ -73,8 +76,8 @@ module _ (state : State) (memory : List ℕ) (faccells sdccells msccells : List 
   unfolding order_refusal refusal_then
   order_is = refl
 
-  pub order_early : (n ≡ 0 → ⊥) → n ≡ order_refusal state memory (read_call faccells sdccells msccells fac sdc msc)
-  order_early h = then_stops _ _ _ _ n g _ h ∙ order_is
+  stopped_early : (n ≡ 0 → ⊥) → n ≡ order_refusal state memory (read_call faccells sdccells msccells fac sdc msc)
+  stopped_early h = then_stops _ _ _ _ n g _ h ∙ order_is
 
   module _ (h : n ≡ 0) (d : Bool) (l : d ≡ in_order false state memory) where
     order_rest : order_refusal state memory (read_call faccells sdccells msccells fac sdc msc) ≡ first (not d) 12 0
@@ -88,16 +91,18 @@ module _ (state : State) (memory : List ℕ) (faccells sdccells msccells : List 
     unfolding first
     order_none t = sym (order_rest ∙ rw t)
 
+pub order_early : (state : State) (memory : List ℕ) (faccells sdccells msccells : List ℤ) (fac sdc msc : List ℕ) (r : Refusal)
+    → number r ≡ refusal_then state.scheme memory (cell_lengths state.scheme.settings faccells sdccells msccells) (byte_lengths state.scheme.settings fac sdc msc) 0
+    → number r ≡ order_refusal state memory (read_call faccells sdccells msccells fac sdc msc)
+order_early state memory faccells sdccells msccells fac sdc msc r g =
+    stopped_early state memory faccells sdccells msccells fac sdc msc (number r) g (λ h. absurd (omega (arith, number_positive r, h)))
+
 -- A refusal leaves everything as it was.
 module _ (state : State) (memory : List ℕ) (c : ReadCall) where
   refused_is : (r b : ℕ) → answer_of state memory c ≡ Refused r b → 0 < r
       → read_yield (record { answer = Refused r b; state = state }) memory c.fac c.sdc c.msc ≡ read_of state memory c
   unfolding read_refused
   refused_is r b e h = sym (read_refuses state memory c r b e h ∙ rw e)
-
-  pub refused_order : (r : ℕ) → r ≡ order_refusal state memory c → (r ≡ 0 → ⊥)
-      → read_yield (record { answer = Refused r 0; state = state }) memory c.fac c.sdc c.msc ≡ read_of state memory c
-  refused_order r e h = refused_is r 0 (answer_order state memory c r (sym e) (omega arith)) (omega arith)
 
   -- A call that no number up to 12 refuses: its cells, and the lowest block at fault by the table of tests.
   module _ (r : ℕ) (e : r ≡ order_refusal state memory c) (h : r ≡ 0) where
@@ -113,18 +118,24 @@ module _ (state : State) (memory : List ℕ) (c : ReadCall) where
           msclong = f.cells.msclong;
         }
 
-    module _ (f : Fault) (g : f ≡ fault_of (table (point_test state.scheme state.count c.faccells c.sdccells c.msccells) 0 8)) where
+    module _ (f : Option ℕ) (g : f ≡ fault_of (table (point_test state.scheme state.count c.faccells c.sdccells c.msccells) 0 8)) where
       fault_is : f ≡ fault_of (point_tests state.scheme state.count c)
       fault_is = g ∙ ap fault_of (sym (tests_are state.scheme state.count c))
 
-      pub refused_points : (b : ℕ) → f ≡ At b
+      pub refused_points : (b : ℕ) → f ≡ Some b
           → read_yield (record { answer = Refused 13 b; state = state }) memory c.fac c.sdc c.msc ≡ read_of state memory c
       refused_points b l =
           let t = fault_at _ f b fault_is l in
           refused_is 13 b (answer_points state memory c (sym e ∙ h) t.0 ∙ rw t.1) (omega arith)
 
-      pub passes_points : f ≡ Nowhere → ReadPasses state memory c
+      pub passes_points : f ≡ None → ReadPasses state memory c
       passes_points l = record { order = sym e ∙ h; points = fault_nowhere _ f fault_is l }
+
+pub refused_order : (state : State) (memory : List ℕ) (faccells sdccells msccells : List ℤ) (fac sdc msc : List ℕ) (r : Refusal)
+    → number r ≡ order_refusal state memory (read_call faccells sdccells msccells fac sdc msc)
+    → read_yield (reading state (Err (record { refusal = r; block = 0 }))) memory fac sdc msc ≡ read_of state memory (read_call faccells sdccells msccells fac sdc msc)
+refused_order state memory faccells sdccells msccells fac sdc msc r e =
+    refused_is state memory _ (number r) 0 (answer_order state memory _ (number r) (sym e) (number_positive r)) (number_positive r)
 
 -- What is known of a call that no number from 1 to 13 refuses.
 module _ (state : State) (memory : List ℕ) (c : ReadCall) (w : ReadPasses state memory c) where
@@ -171,7 +182,7 @@ module _ (state : State) (memory : List ℕ) (c : ReadCall) (w : ReadPasses stat
 
   -- Its blocks were read on a copy of memory and into other buffers.
   module _ (work fac sdc msc : List ℕ) (same : work ≡ memory) (r : Blocks) (work' fac' sdc' msc' : List ℕ)
-      (B : BlocksRead state work (read_call c.faccells c.sdccells c.msccells fac sdc msc) r work' fac' sdc' msc') (f : Fault) (e : f ≡ fault_of r.given) where
+      (B : BlocksRead state work (read_call c.faccells c.sdccells c.msccells fac sdc msc) r work' fac' sdc' msc') (f : Option ℕ) (e : f ≡ fault_of r.given) where
     blocks_are : r ≡ blocks_of state memory c
     unfolding blocks_of
     blocks_are = rw same at B.blocks
@@ -179,7 +190,7 @@ module _ (state : State) (memory : List ℕ) (c : ReadCall) (w : ReadPasses stat
     lost_is : f ≡ fault_of (tests ++ replicate (3 - length frames) true)
     lost_is = e ∙ ap (λ (x : Blocks). fault_of x.given) blocks_are ∙ ap fault_of marks_are
 
-    pub refused_blocks : (b : ℕ) → f ≡ At b
+    pub refused_blocks : (b : ℕ) → f ≡ Some b
         → read_yield (record { answer = Refused 14 b; state = state }) memory c.fac c.sdc c.msc ≡ read_of state memory c
     refused_blocks b l =
         let t = fault_at _ f b lost_is l in
@@ -187,7 +198,7 @@ module _ (state : State) (memory : List ℕ) (c : ReadCall) (w : ReadPasses stat
         refused_is state memory c 14 b
         (answer_blocks state memory c w.order w.points fails ∙ rw (← t.1, fault_front tests (replicate (3 - length frames) true) fails)) (omega arith)
 
-    module _ (l : f ≡ Nowhere) where
+    module _ (l : f ≡ None) where
       all-given : every tests ≡ true
       all-given = sym (every_trues tests (3 - length frames)) ∙ fault_nowhere _ f lost_is l
 

@@ -1,23 +1,25 @@
 // The call Read. 01 "Buffers and state" and "Operations".
 ghost use Rattle.std.specs.Prelude.{◌≡◌};
+ghost use Rattle.refusal.specs.Numbers.{answer};
+ghost use Rattle.superframe.specs.Answers.{reading};
 ghost use Rattle.lists.specs.Buffers.{Long};
 ghost use Rattle.superframe.specs.Read.{order_refusal, read_of};
 ghost use Rattle.superframe.specs.Clauses.{read_call, read_yield};
 ghost use Rattle.readcall.specs.Clauses.{ReadPasses};
 
 use block::buffers::{MOST_MSC_BYTES, MOST_SDC_BYTES};
-use callrefusals::refusal;
+use callrefusals::refusals::in_order;
 use cellmemory::buffers::memory_buffer;
-use faults::Fault;
 use faults::lowest::{lost_fault, point_fault};
-use lists::bytes::copy as copy_bytes;
 use partlengths::tables::FAC_BYTES;
-use readblocks::lengths::read_lengths;
+use readblocks::lengths::check_buffers;
 use readblocks::places::read_blocks;
-use superframe::{Answer, Reading, State};
+use refusal::Refusal;
+use superframe::{Finished, ReadRefusal, State};
 
 // 1 to 10, and 12.
-fn order_refusal(
+#[tactic(auto, using(crate::proofs::ReadParts::order_early))]
+fn check_order(
     state: State,
     faccells: &[i16],
     sdccells: &[i16],
@@ -26,27 +28,16 @@ fn order_refusal(
     fac: &[u8],
     sdc: &[u8],
     msc: &[u8],
-) -> u8
-    ensures { result ≡ order_refusal state memory.now
+) -> Result<(), Refusal>
+    ensures { answer result ≡ order_refusal state memory.now
         (read_call faccells.now sdccells.now msccells.now fac.now sdc.now msc.now) }
 {
-    let number = read_lengths(
-        state.scheme,
-        faccells,
-        sdccells,
-        msccells,
-        memory,
-        fac,
-        sdc,
-        msc,
-    );
-    if number != 0 {
-        return number;
+    let s = state.scheme;
+    check_buffers(s, faccells, sdccells, msccells, memory, fac, sdc, msc)?;
+    if !in_order(state, false, memory) {
+        return Err(Refusal::Order);
     }
-    if !refusal::in_order(state, false, memory) {
-        return 12;
-    }
-    0
+    Ok(())
 }
 
 // Working buffers for the largest settings, each from a function of its own: proofs then take its length and do not write it out.
@@ -78,9 +69,9 @@ fn read_whole(
     fac: &mut [u8],
     sdc: &mut [u8],
     msc: &mut [u8],
-) -> Reading
+) -> Result<Finished, ReadRefusal>
     requires { ReadPasses state memory.old (read_call faccells.now sdccells.now msccells.now fac.old sdc.old msc.old) }
-    ensures { read_yield result memory.new fac.new sdc.new msc.new
+    ensures { read_yield (reading state result) memory.new fac.new sdc.new msc.new
         ≡ read_of state memory.old
         (read_call faccells.now sdccells.now msccells.now fac.old sdc.old msc.old) }
 {
@@ -91,7 +82,7 @@ fn read_whole(
     let n = memory.len();
     let b = sdc.len();
     let m = msc.len();
-    copy_bytes(memory, &mut work[0..n]);
+    work[0..n].copy_from_slice(memory);
     let blocks = read_blocks(
         state,
         faccells,
@@ -102,25 +93,24 @@ fn read_whole(
         &mut sdcwork[0..b],
         &mut mscwork[0..m],
     );
-    let given = blocks.given;
-    let fault = lost_fault(given);
-    if let Fault::At(block) = fault {
-        let answer = Answer::Refused(14, block);
-        return Reading { answer, state };
+    if let Some(block) = lost_fault(blocks.given) {
+        return Err(ReadRefusal {
+            refusal: Refusal::Block,
+            block,
+        });
     }
-    copy_bytes(&work[0..n], memory);
-    copy_bytes(&facwork, fac);
-    copy_bytes(&sdcwork[0..b], sdc);
-    copy_bytes(&mscwork[0..m], msc);
-    let answer = Answer::Finished(blocks.finished);
-    let after = blocks.after;
-    Reading {
-        answer,
-        state: after,
-    }
+    memory.copy_from_slice(&work[0..n]);
+    fac.copy_from_slice(&facwork);
+    sdc.copy_from_slice(&sdcwork[0..b]);
+    msc.copy_from_slice(&mscwork[0..m]);
+    Ok(Finished {
+        frames: blocks.finished,
+        state: blocks.after,
+    })
 }
 
 // The cells of a super frame to three FAC blocks, an SDC block and the multiplex frames that it finishes; a refusal leaves everything as it was.
+#[tactic(auto, using(crate::proofs::ReadParts::refused_order))]
 pub fn read(
     state: State,
     faccells: &[i16],
@@ -130,28 +120,19 @@ pub fn read(
     fac: &mut [u8],
     sdc: &mut [u8],
     msc: &mut [u8],
-) -> Reading
-    ensures { read_yield result memory.new fac.new sdc.new msc.new
+) -> Result<Finished, ReadRefusal>
+    ensures { read_yield (reading state result) memory.new fac.new sdc.new msc.new
         ≡ read_of state memory.old
         (read_call faccells.now sdccells.now msccells.now fac.old sdc.old msc.old) }
 {
-    let number = order_refusal(state, faccells, sdccells, msccells, memory, fac, sdc, msc);
-    if number != 0 {
-        return Reading {
-            answer: Answer::Refused(number, 0),
-            state,
-        };
-    }
-    let fault = point_fault(
-        state.scheme,
-        state.count as usize,
-        faccells,
-        sdccells,
-        msccells,
-    );
-    if let Fault::At(block) = fault {
-        let answer = Answer::Refused(13, block);
-        return Reading { answer, state };
+    check_order(state, faccells, sdccells, msccells, memory, fac, sdc, msc)?;
+    let s = state.scheme;
+    let fault = point_fault(s, state.count as usize, faccells, sdccells, msccells);
+    if let Some(block) = fault {
+        return Err(ReadRefusal {
+            refusal: Refusal::Cell,
+            block,
+        });
     }
     read_whole(state, faccells, sdccells, msccells, memory, fac, sdc, msc)
 }

@@ -1,8 +1,8 @@
 -- What the functions of this crate require and promise, and the records of the call from their parts: nothing of 02 is stated here.
-use Rattle.std.specs.Prelude.{ℕ, true, not, List, length, ℤ, eqb, ltb}
+use Rattle.std.specs.Prelude.{ℕ, true, not, List, length, ℤ, eqb}
 use Rattle.settings.specs.Refusal.{first}
 use Rattle.superframe.specs.declared.State.{State}
-use Rattle.superframe.specs.declared.Reading.{Reading}
+use Rattle.superframe.specs.Answers.{Reading}
 use Rattle.superframe.specs.Call.{in_order}
 use Rattle.keptcells.specs.ReadOn.{lost_bytes, ReadOnCall, ReadOnYield}
 use Rattle.superframe.specs.Clauses.{read_call, read_yield}
@@ -15,7 +15,6 @@ read_on_call faccells sdccells msccells fac sdc msc lost =
 abbrev pub read_on_yield : Reading → List ℕ → List ℕ → List ℕ → List ℕ → List ℕ → ReadOnYield
 read_on_yield reading memory fac sdc msc lost = record { yield = read_yield reading memory fac sdc msc; lost = lost }
 
--- The number that the lengths give, and what follows it: 10 for the bytes that tell what is lost, and 12.
-unfoldable pub refusal_after : ℕ → State → List ℕ → List ℕ → ℕ
-refusal_after lengths state memory lost =
-    first (ltb 0 lengths) lengths (first (not (eqb (length lost) lost_bytes)) 10 (first (not (in_order true state memory)) 12 0))
+-- What follows the lengths of the buffers: 10 for the bytes that tell what is lost, and 12.
+unfoldable pub refusal_after : State → List ℕ → List ℕ → ℕ
+refusal_after state memory lost = first (not (eqb (length lost) lost_bytes)) 10 (first (not (in_order true state memory)) 12 0)

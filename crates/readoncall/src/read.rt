@@ -1,5 +1,7 @@
 // The call that reads on. 02, S-13.
 ghost use Rattle.std.specs.Prelude.{◌≡◌};
+ghost use Rattle.refusal.specs.Numbers.{answer};
+ghost use Rattle.superframe.specs.Answers.{reading};
 ghost use Rattle.lists.specs.Buffers.{Long};
 ghost use Rattle.keptcells.specs.ReadOn.{kept_cells, read_on_of};
 ghost use Rattle.superframe.specs.Clauses.{Fits, read_call};
@@ -7,12 +9,13 @@ ghost use Rattle.readblocks.specs.Clauses.{BlocksLent, BlocksRead};
 ghost use Rattle.readoncall.specs.Clauses.{read_on_call, read_on_yield, refusal_after};
 
 use block::buffers::MOST_NUMBERS;
-use callrefusals::refusal::in_order;
+use callrefusals::refusals::in_order;
 use keptcells::kept::{keep_cells, mark_lost};
 use readblocks::Blocks;
-use readblocks::lengths::read_lengths;
+use readblocks::lengths::check_buffers;
 use readblocks::places::read_blocks;
-use superframe::{Answer, Reading, State};
+use refusal::Refusal;
+use superframe::{Finished, ReadRefusal, State};
 
 // A byte for each of three FAC blocks, the SDC block and three frames.
 const LOST_BYTES: usize = 7;
@@ -20,21 +23,19 @@ const LOST_BYTES: usize = 7;
 // The most MSC cells of a super frame: three frames and two fillers.
 const MOST_MSC_NUMBERS: usize = 3 * MOST_NUMBERS + 4;
 
-// After the number of the lengths: 10 for the bytes that tell what is lost, and 12, which lets (0, 0) pass.
-fn read_on_refusal(lengths: u8, state: State, memory: &[u8], lost: &[u8]) -> u8
-    requires { lengths ≡ 0 → Fits state.scheme memory.now }
-    ensures { result ≡ refusal_after lengths state memory.now lost.now }
+// After the lengths of the buffers: 10 for the bytes that tell what is lost, and 12, which lets (0, 0) pass.
+#[tactic(auto, unfolding(crate::specs::Clauses::refusal_after, settings::specs::Refusal::first))]
+fn check_order(state: State, memory: &[u8], lost: &[u8]) -> Result<(), Refusal>
+    requires { Fits state.scheme memory.now }
+    ensures { answer result ≡ refusal_after state memory.now lost.now }
 {
-    if lengths != 0 {
-        return lengths;
-    }
     if lost.len() != LOST_BYTES {
-        return 10;
+        return Err(Refusal::OutputLength);
     }
     if !in_order(state, true, memory) {
-        return 12;
+        return Err(Refusal::Order);
     }
-    0
+    Ok(())
 }
 
 // Room for the MSC cells of the largest settings, from a function of its own: proofs then take its length and do not write it out.
@@ -77,6 +78,7 @@ fn read_kept(
 }
 
 // The cells of a super frame to its blocks and the multiplex frames that it finishes, each with its bits or lost; a refusal leaves everything as it was.
+#[tactic(auto, using(crate::proofs::OnParts::refused_early, crate::proofs::OnParts::refused_late))]
 pub fn read_on(
     state: State,
     faccells: &[i16],
@@ -87,28 +89,19 @@ pub fn read_on(
     sdc: &mut [u8],
     msc: &mut [u8],
     lost: &mut [u8],
-) -> Reading
-    ensures { read_on_yield result memory.new fac.new sdc.new msc.new lost.new
+) -> Result<Finished, ReadRefusal>
+    ensures { read_on_yield (reading state result) memory.new fac.new sdc.new msc.new lost.new
         ≡ read_on_of state memory.old
         (read_on_call faccells.now sdccells.now msccells.now
         fac.old sdc.old msc.old lost.old) }
 {
     let s = state.scheme;
-    let lengths = read_lengths(s, faccells, sdccells, msccells, memory, fac, sdc, msc);
-    let number = read_on_refusal(lengths, state, memory, lost);
-    if number != 0 {
-        return Reading {
-            answer: Answer::Refused(number, 0),
-            state,
-        };
-    }
+    check_buffers(s, faccells, sdccells, msccells, memory, fac, sdc, msc)?;
+    check_order(state, memory, lost)?;
     let blocks = read_kept(state, faccells, sdccells, msccells, memory, fac, sdc, msc);
-    let given = blocks.given;
-    mark_lost(given, lost);
-    let answer = Answer::Finished(blocks.finished);
-    let after = blocks.after;
-    Reading {
-        answer,
-        state: after,
-    }
+    mark_lost(blocks.given, lost);
+    Ok(Finished {
+        frames: blocks.finished,
+        state: blocks.after,
+    })
 }

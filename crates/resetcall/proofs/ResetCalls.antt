@@ -2,8 +2,12 @@
 use mathlib.Core.Path.{◌≡◌, sym, ◌∙◌}
 use mathlib.Core.List.{List}
 use Prim.Native.Nat.{ℕ}
-use native.Mathlib.Omega.{arith}
 use lib.ListN.{length}
+use Rattle.std.proofs.Common.{Err}
+use Rattle.refusal.specs.declared.Refusal.{Refusal}
+use Rattle.refusal.specs.Numbers.{number}
+use Rattle.refusal.proofs.Positive.{number_positive}
+use Rattle.superframe.specs.Answers.{done}
 use Rattle.patterns.proofs.Loaded.{long}
 use Rattle.channels.specs.declared.Scheme.{Scheme}
 use Rattle.channels.proofs.Schemes.{scheme-accepted}
@@ -18,9 +22,6 @@ module _ (old : State) (s : Scheme) (memory : List ℕ) (r : ℕ) (g : r ≡ res
   is_zero : r ≡ 0 → reset_refusal s memory ≡ 0
   is_zero h = sym g ∙ h
 
-  pub refused_reset : (r ≡ 0 → ⊥) → reset_yield (record { refusal = r; state = old }) memory ≡ reset_of old s memory
-  refused_reset h = sym (reset_refuses old s memory r (sym g) (omega arith))
-
   -- An accepted table has 196 numbers.
   pub table_long : r ≡ 0 → length s.table ≡ 196
   table_long h = long (scheme-accepted s (reset_fits old s memory (is_zero h)).scheme).table
@@ -33,3 +34,8 @@ module _ (old : State) (s : Scheme) (memory : List ℕ) (r : ℕ) (g : r ≡ res
       → reset_yield (record { refusal = 0; state = record { scheme = t; position = 0; count = 0 } }) m ≡ reset_of old s memory
   unfolding start_state
   accepted_reset t m h j k = sym (reset_accepts old s memory (is_zero h) ∙ rw (k, j))
+
+-- A refusal leaves memory.
+pub refused_reset : (old : State) (s : Scheme) (memory : List ℕ) (r : Refusal) → number r ≡ reset_refusal s memory
+    → reset_yield (done old (Err r)) memory ≡ reset_of old s memory
+refused_reset old s memory r e = sym (reset_refuses old s memory (number r) (sym e) (number_positive r))

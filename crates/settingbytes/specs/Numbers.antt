@@ -1,9 +1,7 @@
 -- What drm_lengths and drm_sizes yield.
 use Rattle.std.specs.Prelude.{ℕ, cond, ◌&&◌, List, [], ◌∷◌, length, eqb}
-use Rattle.settings.specs.declared.Lengths.{Lengths}
-use Rattle.settings.specs.declared.Sizes.{Sizes}
-use Rattle.settings.specs.Lengths.{lengths_of}
-use Rattle.settings.specs.Sizes.{sizes_of}
+use Rattle.settings.specs.Lengths.{LengthsYield, lengths_of}
+use Rattle.settings.specs.Sizes.{SizesYield, sizes_of}
 use Rattle.settingbytes.specs.Bytes.{settings_of}
 
 -- The answer, and the caller's numbers as the call leaves them.
@@ -15,7 +13,7 @@ abbrev pub yielded : ℕ → List ℕ → Numbers
 yielded answer numbers = record { answer = answer; numbers = numbers }
 
 -- N1, N2, L1, L2 and L_VSPP; a refusal leaves the numbers as they were.
-unfoldable pub lengths_into : Lengths → List ℕ → Numbers
+unfoldable pub lengths_into : LengthsYield → List ℕ → Numbers
 lengths_into l numbers =
     cond (eqb l.refusal 0) (yielded 0 (l.n1 ∷ l.n2 ∷ l.l1 ∷ l.l2 ∷ l.vspp ∷ []))
     (yielded l.refusal numbers)
@@ -28,7 +26,7 @@ lengths_bytes settings numbers =
     (yielded 255 numbers)
 
 -- SDC bytes, MSC bytes, FAC numbers, SDC numbers, MSC numbers, memory numbers; a refusal leaves the numbers as they were.
-unfoldable pub sizes_into : Sizes → List ℕ → Numbers
+unfoldable pub sizes_into : SizesYield → List ℕ → Numbers
 sizes_into z numbers =
     cond (eqb z.refusal 0)
     (yielded 0 (z.sdcbytes ∷ z.mscbytes ∷ z.facnumbers ∷ z.sdcnumbers ∷ z.mscnumbers ∷ z.memory ∷ []))

@@ -1,37 +1,38 @@
 // Answers of the lengths and sizes as the numbers that a caller lends.
 ghost use Rattle.std.specs.Prelude.{◌≡◌, length};
+ghost use Rattle.refusal.specs.Numbers.{answer};
+ghost use Rattle.settings.specs.Lengths.{lengths_yield};
+ghost use Rattle.settings.specs.Sizes.{sizes_yield};
 ghost use Rattle.settingbytes.specs.Numbers.{yielded, lengths_into, sizes_into};
 
+use refusal::Refusal;
 use settings::{Lengths, Sizes};
 
 // Answers into the caller's numbers, which a refusal leaves as they were.
-pub fn put_lengths(l: Lengths, numbers: &mut [u16]) -> u8
+#[tactic(auto, using(crate::proofs::Stores::lengths_refused), unfolding(crate::specs::Numbers::lengths_into))]
+pub fn put_lengths(lengths: Result<Lengths, Refusal>, numbers: &mut [u16]) -> Result<(), Refusal>
     requires { length numbers.old ≡ 5 }
-    ensures { yielded result numbers.new ≡ lengths_into l numbers.old }
+    ensures { yielded (answer result) numbers.new ≡ lengths_into (lengths_yield lengths) numbers.old }
 {
-    if l.refusal != 0 {
-        return l.refusal;
-    }
-    numbers[0] = l.n1;
-    numbers[1] = l.n2;
-    numbers[2] = l.l1;
-    numbers[3] = l.l2;
-    numbers[4] = l.vspp;
-    0
+    let l = lengths?;
+    numbers.copy_from_slice(&[l.n1, l.n2, l.l1, l.l2, l.vspp]);
+    Ok(())
 }
 
-pub fn put_sizes(z: Sizes, numbers: &mut [u32]) -> u8
+#[tactic(auto, using(crate::proofs::Stores::sizes_refused), unfolding(crate::specs::Numbers::sizes_into))]
+pub fn put_sizes(sizes: Result<Sizes, Refusal>, numbers: &mut [u32]) -> Result<(), Refusal>
     requires { length numbers.old ≡ 6 }
-    ensures { yielded result numbers.new ≡ sizes_into z numbers.old }
+    ensures { yielded (answer result) numbers.new ≡ sizes_into (sizes_yield sizes) numbers.old }
 {
-    if z.refusal != 0 {
-        return z.refusal;
-    }
-    numbers[0] = z.sdcbytes;
-    numbers[1] = z.mscbytes;
-    numbers[2] = z.facnumbers;
-    numbers[3] = z.sdcnumbers;
-    numbers[4] = z.mscnumbers;
-    numbers[5] = z.memory;
-    0
+    let z = sizes?;
+    let all = [
+        z.sdcbytes,
+        z.mscbytes,
+        z.facnumbers,
+        z.sdcnumbers,
+        z.mscnumbers,
+        z.memory,
+    ];
+    numbers.copy_from_slice(&all);
+    Ok(())
 }

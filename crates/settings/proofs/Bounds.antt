@@ -1,5 +1,6 @@
 -- Bounds of the lengths of accepted settings.
-use mathlib.Core.Path.{◌≡◌, ◌∙◌, ap, ap₂}
+use mathlib.Core.Path.{◌≡◌, sym, ◌∙◌, ap, ap₂}
+use Rattle.std.proofs.Common.{Ok, Err}
 use Prim.Native.Nat.{ℕ, ◌+◌, ◌-◌, ◌*◌, ◌≤◌}
 use native.Mathlib.Omega.{arith}
 use borrow.Author.Tests.{eq-eqb, ne_eqb}
@@ -8,9 +9,12 @@ use Rattle.partlengths.specs.Formulas.{part_a, part_b, part_vspp, cells_a}
 use Rattle.partlengths.specs.Cells.{entry, mux_table}
 use Rattle.partlengths.proofs.PartA.{cells_a_multiple}
 use Rattle.partlengths.proofs.Bounds.{part_b-some, cells_a-some, sdc_most_lem, sdc-some, frame_most_lem}
+use Rattle.refusal.specs.declared.Refusal.{Refusal}
+use Rattle.refusal.specs.Numbers.{number}
+use Rattle.refusal.proofs.Positive.{number_positive}
 use Rattle.settings.specs.declared.Settings.{Settings}
 use Rattle.settings.specs.Refusal.{refusal}
-use Rattle.settings.specs.Lengths.{n_mux, n_sdc, n1, n2, l1, l2, l_vspp, l_sdc, accepted, refused, lengths_of}
+use Rattle.settings.specs.Lengths.{n_mux, n_sdc, n1, n2, l1, l2, l_vspp, l_sdc, accepted, lengths_of, LengthsYield, lengths_yield}
 use Rattle.settings.specs.Sizes.{frame_bits}
 use Rattle.settings.specs.Accepted.{Ranges, Accepted}
 use Rattle.settings.proofs.Chain.{ranges_of, range_passes, n1-passes}
@@ -79,7 +83,7 @@ found s mux a la lb v e f g h i =
     }
 
 pub is_accepted : (s : Settings) (mux a b la lb v : ℕ) → Found s mux a b la lb v
-    → record { refusal = 0; n1 = a; n2 = b; l1 = la; l2 = lb; vspp = v } ≡ accepted s
+    → lengths_yield (Ok (record { n1 = a; n2 = b; l1 = la; l2 = lb; vspp = v })) ≡ accepted s
 unfolding accepted
 is_accepted s mux a b la lb v f = rw (f.is_n1, f.is_n2, f.is_l1, f.is_l2, f.is_vspp)
 
@@ -87,6 +91,10 @@ pub lengths_accepts : (s : Settings) → refusal s ≡ 0 → lengths_of s ≡ ac
 unfolding lengths_of
 lengths_accepts s e = rw (eq-eqb (refusal s) 0 e)
 
-pub lengths_refuses : (s : Settings) → (refusal s ≡ 0 → ⊥) → lengths_of s ≡ refused (refusal s)
+-- What the call yields where the settings are refused, and where they are not.
+pub lengths_refuse : (s : Settings) (r : Refusal) → number r ≡ refusal s → lengths_yield (Err r) ≡ lengths_of s
 unfolding lengths_of
-lengths_refuses s n = rw (ne_eqb (refusal s) 0 n)
+lengths_refuse s r e = rw (← e, ne_eqb (number r) 0 (omega (arith, number_positive r)))
+
+pub lengths_accept : (s : Settings) (y : LengthsYield) → 0 ≡ refusal s → y ≡ accepted s → y ≡ lengths_of s
+lengths_accept s y e f = f ∙ sym (lengths_accepts s (sym e))

@@ -1,5 +1,6 @@
 -- The sizes of buffers.
-use mathlib.Core.Path.{◌≡◌, sym, ap}
+use mathlib.Core.Path.{◌≡◌, sym, ◌∙◌, ap}
+use Rattle.std.proofs.Common.{Ok, Err}
 use mathlib.Core.Bool.{Bool, true, false, cond}
 use Prim.Native.Nat.{ℕ, ◌+◌, ◌*◌, ◌≤◌}
 use native.Mathlib.Nat.{one-mul}
@@ -9,11 +10,14 @@ use borrow.Author.Tests.{eq-eqb, ne_eqb}
 use Rattle.lists.specs.Bytes.{bytes_for}
 use Rattle.partlengths.specs.Cells.{fac_cells}
 use Rattle.partlengths.specs.Formulas.{round_up}
+use Rattle.refusal.specs.declared.Refusal.{Refusal}
+use Rattle.refusal.specs.Numbers.{number}
+use Rattle.refusal.proofs.Positive.{number_positive}
 use Rattle.settings.specs.declared.Settings.{Settings}
 use Rattle.settings.specs.declared.Lengths.{Lengths}
 use Rattle.settings.specs.Refusal.{refusal}
-use Rattle.settings.specs.Lengths.{n_mux, n_sfa, n_sdc, l_sdc, accepted}
-use Rattle.settings.specs.Sizes.{depth, frame_bits, frame_bytes, sdc_bytes, no_sizes, all_sizes, sizes_of}
+use Rattle.settings.specs.Lengths.{n_mux, n_sfa, n_sdc, l_sdc, accepted, LengthsYield, lengths_yield}
+use Rattle.settings.specs.Sizes.{depth, frame_bits, frame_bytes, sdc_bytes, all_sizes, sizes_of, SizesYield, sizes_yield}
 use Rattle.settings.specs.Accepted.{Accepted}
 
 -- Numbers of bytes, and of all buffers.
@@ -50,7 +54,7 @@ pub record Sized (s : Settings) (sdc bytes frame sfa memory : ℕ) : Type 0 wher
   pub is_memory : memory ≡ depth s * n_mux s
 
 pub is_all_sizes : (s : Settings) (sdc bytes frame sfa memory : ℕ) → Sized s sdc bytes frame sfa memory
-    → record { refusal = 0; sdcbytes = bytes; mscbytes = 3 * frame; facnumbers = 390; sdcnumbers = 2 * sdc; mscnumbers = 2 * sfa; memory = memory }
+    → sizes_yield (Ok (record { sdcbytes = bytes; mscbytes = 3 * frame; facnumbers = 390; sdcnumbers = 2 * sdc; mscnumbers = 2 * sfa; memory = memory }))
     ≡ all_sizes s
 unfolding all_sizes fac_cells
 is_all_sizes s sdc bytes frame sfa memory z = rw (z.is_sdc, z.is_bytes, z.is_frame, z.is_sfa, z.is_memory)
@@ -59,14 +63,18 @@ pub sizes_accepts : (s : Settings) → refusal s ≡ 0 → sizes_of s ≡ all_si
 unfolding sizes_of
 sizes_accepts s e = rw (eq-eqb (refusal s) 0 e)
 
-pub sizes_refuses : (s : Settings) → (refusal s ≡ 0 → ⊥) → sizes_of s ≡ no_sizes (refusal s)
+-- What the call yields where the settings are refused, and where they are not.
+pub sizes_refuse : (s : Settings) (r : Refusal) → number r ≡ refusal s → sizes_yield (Err r) ≡ sizes_of s
 unfolding sizes_of
-sizes_refuses s n = rw (ne_eqb (refusal s) 0 n)
+sizes_refuse s r e = rw (← e, ne_eqb (number r) 0 (omega (arith, number_positive r)))
+
+pub sizes_accept : (s : Settings) (y : SizesYield) → 0 ≡ refusal s → y ≡ all_sizes s → y ≡ sizes_of s
+sizes_accept s y e f = f ∙ sym (sizes_accepts s (sym e))
 
 -- A frame's bits from its three lengths.
-pub frame_of_lem : (s : Settings) (l : Lengths) → l ≡ accepted s → l.vspp + (l.l1 + l.l2) ≡ frame_bits s
+pub frame_of_lem : (s : Settings) (l : Lengths) → lengths_yield (Ok l) ≡ accepted s → l.vspp + (l.l1 + l.l2) ≡ frame_bits s
 unfolding accepted frame_bits
-frame_of_lem s l e = ap (λ (l : Lengths). l.vspp + (l.l1 + l.l2)) e
+frame_of_lem s l e = ap (λ (y : LengthsYield). y.vspp + (y.l1 + y.l2)) e
 
 -- Bounds of every size.
 pub record Few (s : Settings) : Type 0 where

@@ -15,21 +15,6 @@ use Rattle.settings.specs.Lengths.{n_mux, n_sfa, n_sdc, n1}
 use Rattle.settings.specs.Accepted.{Ranges}
 use Rattle.settings.specs.Refusal.{paired, first, range_refusal, refusal}
 
--- Each link gives its own number or what the next one gives.
-pub chain : (s : Settings) (top six five four three two one : ℕ) (h p : Bool)
-    → top ≡ top_level s.msc
-    → six ≡ first (ltb 1 s.sdc || ltb 1 s.interleaving) 6 0
-    → h ≡ hierarchical s.msc
-    → five ≡ first (ltb 3 s.vspp || (not h && not (eqb s.vspp 0))) 5 six
-    → four ≡ first (ltb top s.levela || ltb top s.levelb) 4 five
-    → three ≡ first (ltb 3 s.msc) 3 four
-    → p ≡ paired s.mode s.occupancy
-    → two ≡ first (not p) 2 three
-    → one ≡ first (ltb 3 s.mode) 1 two
-    → one ≡ range_refusal s
-unfolding range_refusal
-chain s top six five four three two one h p e₁ e₂ e₃ e₄ e₅ e₆ e₇ e₈ e₉ = rw (e₉, e₈, e₇, e₆, e₅, e₄, e₃, e₂, e₁)
-
 -- A link that gives 0 passes, and the next one gives 0.
 pub first_passes : (t : Bool) (n m : ℕ) → 1 ≤ n → first t n m ≡ 0 → t ≡ false
 unfolding first
@@ -121,10 +106,6 @@ ranges_of s e =
     }
 
 -- Refusal 7 is looked at only where 1 to 6 do not apply.
-pub refused_early : (s : Settings) → (range_refusal s ≡ 0 → ⊥) → refusal s ≡ range_refusal s
-unfolding refusal first
-refused_early s n = rw (lt-ltb 0 (range_refusal s) (omega (arith, n)))
-
 pub refused_late : (s : Settings) → range_refusal s ≡ 0
     → refusal s ≡ first (ltb (n_mux s - 20) (n1 s)) 7 0
 unfolding refusal first n_mux n1

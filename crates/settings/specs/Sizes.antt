@@ -1,7 +1,9 @@
 -- What the call `sizes` yields: the length of every buffer that a caller lends. 01 "Buffers and state".
-use Rattle.std.specs.Prelude.{ℕ, ◌+◌, ◌*◌, cond, eqb}
+use Rattle.std.specs.Prelude.{ℕ, ◌+◌, ◌*◌, cond, eqb, Result, Ok, Err}
 use Rattle.lists.specs.Bytes.{bytes_for}
 use Rattle.partlengths.specs.Cells.{fac_cells}
+use Rattle.refusal.specs.declared.Refusal.{Refusal}
+use Rattle.refusal.specs.Numbers.{number}
 use Rattle.settings.specs.declared.Settings.{Settings}
 use Rattle.settings.specs.declared.Sizes.{Sizes}
 use Rattle.settings.specs.Refusal.{refusal}
@@ -23,11 +25,20 @@ unfoldable pub sdc_bytes : Settings → ℕ
 sdc_bytes s = bytes_for (l_sdc s)
 
 -- One call carries three FAC blocks (390 numbers), one SDC block and three multiplex frames; memory has a slot of N_MUX cells for each frame of the depth, a byte for each (02 S-7).
-unfoldable pub no_sizes : ℕ → Sizes
+pub record SizesYield : Type 0 where
+  pub refusal : ℕ
+  pub sdcbytes : ℕ
+  pub mscbytes : ℕ
+  pub facnumbers : ℕ
+  pub sdcnumbers : ℕ
+  pub mscnumbers : ℕ
+  pub memory : ℕ
+
+unfoldable pub no_sizes : ℕ → SizesYield
 no_sizes r =
     record { refusal = r; sdcbytes = 0; mscbytes = 0; facnumbers = 0; sdcnumbers = 0; mscnumbers = 0; memory = 0 }
 
-unfoldable pub all_sizes : Settings → Sizes
+unfoldable pub all_sizes : Settings → SizesYield
 all_sizes s =
     record {
       refusal = 0;
@@ -39,5 +50,19 @@ all_sizes s =
       memory = depth s * n_mux s;
     }
 
-unfoldable pub sizes_of : Settings → Sizes
+unfoldable pub sizes_of : Settings → SizesYield
 sizes_of s = cond (eqb (refusal s) 0) (all_sizes s) (no_sizes (refusal s))
+
+-- What a result of the call answers.
+abbrev pub sizes_yield : Result Sizes Refusal → SizesYield
+sizes_yield (Ok z) =
+    record {
+      refusal = 0;
+      sdcbytes = z.sdcbytes;
+      mscbytes = z.mscbytes;
+      facnumbers = z.facnumbers;
+      sdcnumbers = z.sdcnumbers;
+      mscnumbers = z.mscnumbers;
+      memory = z.memory;
+    }
+sizes_yield (Err r) = no_sizes (number r)

@@ -1,27 +1,28 @@
 // The calls `lengths` and `sizes`.
-ghost use Rattle.std.specs.Prelude.{◌≡◌, ◌*◌, ◌≤◌};
+ghost use Rattle.std.specs.Prelude.{◌≡◌, ◌*◌, ◌≤◌, Ok};
 ghost use Rattle.settings.specs.Accepted.{Accepted};
-ghost use Rattle.settings.specs.Lengths.{lengths_of, accepted, refused, n_mux};
-ghost use Rattle.settings.specs.Sizes.{sizes_of, all_sizes, no_sizes, depth, frame_bits, frame_bytes};
+ghost use Rattle.settings.specs.Lengths.{lengths_of, lengths_yield, accepted, n_mux};
+ghost use Rattle.settings.specs.Sizes.{sizes_of, sizes_yield, all_sizes, depth, frame_bits, frame_bytes};
 ghost use Rattle.lists.specs.Bytes.{bytes_for};
 
-use crate::{Lengths, Settings, Sizes, refusals};
+use crate::refusals::check;
+use crate::{Lengths, Settings, Sizes};
 use partlengths::{formulas, tables};
+use refusal::Refusal;
 
-// The five lengths, 0 where the settings are refused.
-pub fn lengths(s: Settings) -> Lengths
-    ensures { result ≡ lengths_of s }
+// The five lengths.
+#[tactic(auto, using(crate::proofs::Bounds::lengths_refuse))]
+pub fn lengths(s: Settings) -> Result<Lengths, Refusal>
+    ensures { lengths_yield result ≡ lengths_of s }
 {
-    let number = refusals::refusal(s);
-    if number != 0 {
-        return no_lengths(number);
-    }
-    all_lengths(s)
+    check(s)?;
+    Ok(all_lengths(s))
 }
 
-fn all_lengths(s: Settings) -> Lengths
+// The same of settings that are not refused.
+pub fn all_lengths(s: Settings) -> Lengths
     requires { Accepted s }
-    ensures { result ≡ accepted s }
+    ensures { lengths_yield (Ok result) ≡ accepted s }
 {
     let cells = tables::n_mux(s.mode, s.occupancy);
     let n1 = formulas::cells_a(s.msc, s.levela, s.x);
@@ -30,25 +31,11 @@ fn all_lengths(s: Settings) -> Lengths
     let l2 = formulas::part_b(s.msc, s.levelb, n2);
     let vspp = formulas::part_vspp(s.msc, s.vspp, cells);
     Lengths {
-        refusal: 0,
         n1: n1 as u16,
         n2: n2 as u16,
         l1: l1 as u16,
         l2: l2 as u16,
         vspp: vspp as u16,
-    }
-}
-
-fn no_lengths(number: u8) -> Lengths
-    ensures { result ≡ refused number }
-{
-    Lengths {
-        refusal: number,
-        n1: 0,
-        n2: 0,
-        l1: 0,
-        l2: 0,
-        vspp: 0,
     }
 }
 
@@ -59,15 +46,13 @@ pub fn depth(s: Settings) -> usize
     if s.interleaving == 0 { 5 } else { 1 }
 }
 
-// The length of every buffer that a caller lends, 0 where the settings are refused.
-pub fn sizes(s: Settings) -> Sizes
-    ensures { result ≡ sizes_of s }
+// The length of every buffer that a caller lends.
+#[tactic(auto, using(crate::proofs::Buffers::sizes_refuse))]
+pub fn sizes(s: Settings) -> Result<Sizes, Refusal>
+    ensures { sizes_yield result ≡ sizes_of s }
 {
-    let number = refusals::refusal(s);
-    if number != 0 {
-        return no_sizes(number);
-    }
-    all_sizes(s)
+    check(s)?;
+    Ok(all_sizes(s))
 }
 
 // The bytes of so many bits, each block and frame beginning a byte.
@@ -108,9 +93,10 @@ pub fn memory_bytes(s: Settings) -> usize
     }
 }
 
-fn all_sizes(s: Settings) -> Sizes
+// The same of settings that are not refused.
+pub fn all_sizes(s: Settings) -> Sizes
     requires { Accepted s }
-    ensures { result ≡ all_sizes s }
+    ensures { sizes_yield (Ok result) ≡ all_sizes s }
 {
     let sdc = tables::n_sdc(s.mode, s.occupancy);
     let sdc_bytes = bytes_for(formulas::sdc_bits(s.sdc, sdc));
@@ -118,26 +104,11 @@ fn all_sizes(s: Settings) -> Sizes
     let sfa = tables::n_sfa(s.mode, s.occupancy);
     let memory = memory_bytes(s);
     Sizes {
-        refusal: 0,
         sdcbytes: sdc_bytes as u32,
         mscbytes: (3 * frame) as u32,
         facnumbers: (3 * tables::FAC_NUMBERS) as u32,
         sdcnumbers: (2 * sdc) as u32,
         mscnumbers: (2 * sfa) as u32,
         memory: memory as u32,
-    }
-}
-
-fn no_sizes(number: u8) -> Sizes
-    ensures { result ≡ no_sizes number }
-{
-    Sizes {
-        refusal: number,
-        sdcbytes: 0,
-        mscbytes: 0,
-        facnumbers: 0,
-        sdcnumbers: 0,
-        mscnumbers: 0,
-        memory: 0,
     }
 }

@@ -26,10 +26,9 @@ pub struct Settings {
     pub interleaving: u8,
 }
 
-// The answer of `lengths`: the refusal, or 0 and the five lengths.
-#[derive(Clone, Copy)]
+// The answer of `lengths`.
+#[derive(Clone, Copy, Default)]
 pub struct Lengths {
-    pub refusal: u8,
     pub n1: u16,
     pub n2: u16,
     pub l1: u16,
@@ -37,10 +36,9 @@ pub struct Lengths {
     pub vspp: u16,
 }
 
-// The answer of `sizes`: the refusal, or 0 and the length of every buffer that a caller lends.
-#[derive(Clone, Copy)]
+// The answer of `sizes`: the length of every buffer that a caller lends.
+#[derive(Clone, Copy, Default)]
 pub struct Sizes {
-    pub refusal: u8,
     pub sdcbytes: u32,
     pub mscbytes: u32,
     pub facnumbers: u32,

@@ -38,10 +38,8 @@ fn lay_frame(frame: &[i16], slots: usize, memory: &mut [u8])
     ensures { memory.new ≡ joined (replicate slots (bytes frame.now)) }
 {
     let n = frame.len() / 2;
-    let mut i = 0;
-    while i < slots {
+    for i in 0..slots {
         to_bytes(frame, &mut memory[n * i..n * i + n]);
-        i += 1;
     }
 }
 

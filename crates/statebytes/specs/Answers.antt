@@ -1,9 +1,9 @@
 -- Answers in one number, and the bytes of a state after a call.
 use Rattle.std.specs.Prelude.{ℕ, ◌+◌, ◌*◌, cond, List, eqb}
 use Rattle.superframe.specs.declared.State.{State}
-use Rattle.superframe.specs.declared.Done.{Done}
-use Rattle.superframe.specs.declared.Answer.{Answer}
-use Rattle.superframe.specs.declared.Answer.TheVariants.{Finished, Refused}
+use Rattle.superframe.specs.Answers.{Done}
+use Rattle.superframe.specs.Answers.{Answer}
+use Rattle.superframe.specs.Answers.{Finished, Refused}
 use Rattle.superframe.specs.Reset.{ResetYield}
 use Rattle.superframe.specs.Read.{answer_number, answer_frames, answer_block}
 use Rattle.statebytes.specs.Bytes.{state_bytes}

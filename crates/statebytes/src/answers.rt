@@ -1,42 +1,45 @@
 // Answers of the calls as a C program gets them, and the state after them.
 ghost use Rattle.std.specs.Prelude.{◌≡◌, length, ◌+◌, ◌*◌};
+ghost use Rattle.refusal.specs.Numbers.{number, answer};
+ghost use Rattle.superframe.specs.declared.State.{State};
+ghost use Rattle.superframe.specs.Answers.{done, reading};
 ghost use Rattle.statebytes.specs.Answers.{state_after, state_read, answer_word};
 
 use crate::bytes::put_state;
-use superframe::{Answer, Done, Reading};
+use refusal::Refusal;
+use superframe::{Finished, ReadRefusal, State};
 
 // The answer of Reset, Code and preview, with the state written where the call is accepted.
-pub fn finish(done: Done, bytes: &mut [u8]) -> u8
+#[tactic(auto, using(refusal::proofs::Positive::number_positive), unfolding(crate::specs::Answers::state_after))]
+pub fn finish(outcome: Result<State, Refusal>, bytes: &mut [u8]) -> Result<(), Refusal>
     requires { length bytes.old ≡ 208 }
-    ensures value { result ≡ done.refusal }
-    ensures bytes_after { bytes.new ≡ state_after done bytes.old }
+    ensures value { (old : State) → answer result ≡ (done old outcome).refusal }
+    ensures bytes_after { (old : State) → bytes.new ≡ state_after (done old outcome) bytes.old }
 {
-    if done.refusal != 0 {
-        return done.refusal;
-    }
-    put_state(done.state, bytes);
-    0
+    put_state(outcome?, bytes);
+    Ok(())
 }
 
 // 256 times the refusal's number plus its block.
-fn refusal_word(number: u8, block: u8) -> u16
-    ensures { result ≡ 256 * number + block }
+pub fn refusal_word(refusal: Refusal, block: u8) -> u16
+    ensures { result ≡ 256 * number refusal + block }
 {
-    256 * number as u16 + block as u16
+    256 * refusal.number() as u16 + block as u16
 }
 
 // The answer of Read, with the state written where the call is accepted.
-pub fn finish_read(reading: Reading, bytes: &mut [u8]) -> u16
+#[tactic(auto, unfolding(crate::specs::Answers::answer_word, crate::specs::Answers::state_read, superframe::specs::Read::answer_number, superframe::specs::Read::answer_block, superframe::specs::Read::answer_frames))]
+pub fn finish_read(outcome: Result<Finished, ReadRefusal>, bytes: &mut [u8]) -> u16
     requires { length bytes.old ≡ 208 }
-    ensures value { result ≡ answer_word reading.answer }
-    ensures bytes_after { bytes.new ≡ state_read reading.answer reading.state bytes.old }
+    ensures value { (old : State) → result ≡ answer_word (reading old outcome).answer }
+    ensures bytes_after { (old : State) → bytes.new
+        ≡ state_read (reading old outcome).answer (reading old outcome).state bytes.old }
 {
-    let answer = reading.answer;
-    match answer {
-        Answer::Finished(n) => {
-            put_state(reading.state, bytes);
-            n as u16
+    match outcome {
+        Ok(read) => {
+            put_state(read.state, bytes);
+            read.frames as u16
         }
-        Answer::Refused(number, block) => refusal_word(number, block),
+        Err(refused) => refusal_word(refused.refusal, refused.block),
     }
 }

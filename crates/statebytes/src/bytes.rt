@@ -3,7 +3,6 @@ ghost use Rattle.std.specs.Prelude.{◌≡◌, length, ◌/◌, ◌%◌};
 ghost use Rattle.statebytes.specs.Bytes.{state_of, front_bytes, state_bytes};
 
 use channels::tables::scheme_of;
-use lists::bytes::copy;
 use settingbytes::bytes::settings_of;
 use superframe::State;
 
@@ -57,5 +56,5 @@ pub fn put_state(state: State, bytes: &mut [u8])
 {
     let table = state.scheme.table;
     put_front(state, &mut bytes[0..12]);
-    copy(&table, &mut bytes[12..]);
+    bytes[12..].copy_from_slice(&table);
 }

@@ -17,7 +17,7 @@ use Rattle.settings.specs.Lengths.{n_mux}
 use Rattle.settings.specs.Sizes.{depth}
 use Rattle.lists.specs.Bools.{every, first_fault}
 use Rattle.superframe.specs.declared.State.{State}
-use Rattle.superframe.specs.declared.Answer.TheVariants.{Finished, Refused}
+use Rattle.superframe.specs.Answers.{Finished, Refused}
 use Rattle.superframe.specs.Call.{memory_length, memory_cell, in_order}
 use Rattle.superframe.specs.Interleaving.{finished_frames}
 use Rattle.superframe.specs.Reset.{reset_refusal, reset_of, start_state, start_memory}

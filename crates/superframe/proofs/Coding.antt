@@ -19,7 +19,9 @@ use Rattle.lists.specs.Same.{same_number}
 use Rattle.cellbytes.specs.TwosComplement.{modulo, twos_complement}
 use Rattle.cellbytes.specs.CellBytes.{signed, four_bits}
 use Rattle.cellbytes.specs.Clauses.{Small}
-use Rattle.block.specs.Mapping.{Constellation, constellation, coordinate, qam4, qam16, standard64, symmetric64, mapped, axis}
+use Rattle.block.specs.declared.Constellation.{Constellation}
+use Rattle.block.specs.declared.Constellation.TheVariants.{Qam4, Qam16, Sm64, HmSym, HmMix}
+use Rattle.block.specs.Mapping.{Labellings, constellation, coordinate, qam4, qam16, standard64, symmetric64, mapped, axis}
 use Rattle.block.specs.declared.Block.{Block}
 use Rattle.block.specs.Block.{bit_count, cells_of, points_of}
 use Rattle.block.specs.Points.{on_axis, is_point, are_points}
@@ -95,16 +97,15 @@ small_in [] h n = small_pos 0 (omega arith)
 small_in (v ∷ l) h zero = record { back = same_number_true _ v (and_left (same_number (signed (four_bits v)) v) (every (map is_small l)) h) }
 small_in (v ∷ l) h (suc n) = small_in l (and_right (same_number (signed (four_bits v)) v) (every (map is_small l)) h) n
 
-coordinate_small : (c : ℕ) → (every (map is_small (constellation c).real) ≡ true) × (every (map is_small (constellation c).imaginary) ≡ true)
+coordinate_small : (c : Constellation) → (every (map is_small (constellation c).real) ≡ true) × (every (map is_small (constellation c).imaginary) ≡ true)
 unfolding constellation qam4 qam16 standard64 symmetric64 table coordinate is_small same_number signed four_bits twos_complement modulo every
-coordinate_small zero = (refl, refl)
-coordinate_small (suc zero) = (refl, refl)
-coordinate_small (suc (suc zero)) = (refl, refl)
-coordinate_small (suc (suc (suc zero))) = (refl, refl)
-coordinate_small (suc (suc (suc (suc zero)))) = (refl, refl)
-coordinate_small (suc (suc (suc (suc (suc c))))) = (refl, refl)
+coordinate_small Qam4 = (refl, refl)
+coordinate_small Qam16 = (refl, refl)
+coordinate_small Sm64 = (refl, refl)
+coordinate_small HmSym = (refl, refl)
+coordinate_small HmMix = (refl, refl)
 
-axis_small : (b : Bool) (c n : ℕ) → Small (get_or (cond b (constellation c).real (constellation c).imaginary) n (pos 0))
+axis_small : (b : Bool) (c : Constellation) (n : ℕ) → Small (get_or (cond b (constellation c).real (constellation c).imaginary) n (pos 0))
 axis_small true c n = small_in (constellation c).real (coordinate_small c).0 n
 axis_small false c n = small_in (constellation c).imaginary (coordinate_small c).1 n
 
@@ -134,19 +135,19 @@ depth_high s = go (eqb s.interleaving 0)
     go false = omega arith
 
 -- If all cells are points then each is.
-on_axis_lem : (k : Constellation) (cells : List ℤ) → are_points k cells ≡ true → (j : ℕ) → j < length cells → on_axis (axis k j) (get_or cells j (pos 0)) ≡ true
+on_axis_lem : (k : Labellings) (cells : List ℤ) → are_points k cells ≡ true → (j : ℕ) → j < length cells → on_axis (axis k j) (get_or cells j (pos 0)) ≡ true
 unfolding are_points
 on_axis_lem k cells h = table-every (λ j. on_axis (axis k j) (get_or cells j (pos 0))) (length cells) h
 
-axis_real : (k : Constellation) (j : ℕ) → axis k (2 * j) ≡ k.real
+axis_real : (k : Labellings) (j : ℕ) → axis k (2 * j) ≡ k.real
 unfolding axis
 axis_real k j = let e : 2 * j % 2 ≡ 0 = omega arith in rw e
 
-axis_imaginary : (k : Constellation) (j : ℕ) → axis k (2 * j + 1) ≡ k.imaginary
+axis_imaginary : (k : Labellings) (j : ℕ) → axis k (2 * j + 1) ≡ k.imaginary
 unfolding axis
 axis_imaginary k j = let e : (2 * j + 1) % 2 ≡ 1 = omega arith in rw e
 
-pub point_at_lem : (k : Constellation) (cells : List ℤ) → are_points k cells ≡ true → (j : ℕ) → 2 * j + 1 < length cells
+pub point_at_lem : (k : Labellings) (cells : List ℤ) → are_points k cells ≡ true → (j : ℕ) → 2 * j + 1 < length cells
     → is_point k (get_or cells (2 * j) (pos 0)) (get_or cells (2 * j + 1) (pos 0)) ≡ true
 unfolding is_point
 point_at_lem k cells h j b =

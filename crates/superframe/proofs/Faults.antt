@@ -19,7 +19,7 @@ use Rattle.channels.specs.declared.Scheme.{Scheme}
 use Rattle.partlengths.specs.Cells.{fac_cells}
 use Rattle.settings.specs.Lengths.{n_mux, n_sdc}
 use Rattle.settings.specs.Sizes.{depth}
-use Rattle.block.specs.Mapping.{Constellation, axis}
+use Rattle.block.specs.Mapping.{Labellings, axis}
 use Rattle.block.specs.declared.Block.{Block}
 use Rattle.block.specs.Block.{cells_from, points_of}
 use Rattle.lists.specs.Bools.{every, first_fault}
@@ -57,7 +57,7 @@ module _ (fault : ℕ → Type 0) (l : List Bool) (means : (i : ℕ) → (get_or
   )
 
 -- All cells are points unless one is none.
-cell_holds : (k : Constellation) (cells : List ℤ) (i : ℕ) → cell_is_point k cells (i / 2) ≡ true → on_axis (axis k i) (get_or cells i (pos 0)) ≡ true
+cell_holds : (k : Labellings) (cells : List ℤ) (i : ℕ) → cell_is_point k cells (i / 2) ≡ true → on_axis (axis k i) (get_or cells i (pos 0)) ≡ true
 unfolding cell_is_point is_point axis
 cell_holds k cells i h =
     let re : on_axis k.real (get_or cells (2 * (i / 2)) (pos 0)) ≡ true = and_left _ (on_axis k.imaginary (get_or cells (2 * (i / 2) + 1) (pos 0))) h in
@@ -67,14 +67,14 @@ cell_holds k cells i h =
       | inr x ↦ let e : i % 2 ≡ 1 = omega arith in let g : 2 * (i / 2) + 1 ≡ i = omega arith in rw e (rw g at im)
     ]
 
-pub cells_fail : (k : Constellation) (cells : List ℤ) (n : ℕ) → length cells ≡ 2 * n → are_points k cells ≡ false → (j : ℕ) × (j < n) × (cell_is_point k cells j ≡ false)
+pub cells_fail : (k : Labellings) (cells : List ℤ) (n : ℕ) → length cells ≡ 2 * n → are_points k cells ≡ false → (j : ℕ) × (j < n) × (cell_is_point k cells j ≡ false)
 unfolding are_points
 cells_fail k cells n e h =
     let r = fails_at (λ j. on_axis (axis k j) (get_or cells j (pos 0))) 0 (length cells) h in
     let b = r.2 in
     (r.0 / 2, omega arith, unless_true _ (λ x. never_both _ (cell_holds k cells r.0 x) r.3))
 
-pub fail_cells : (k : Constellation) (cells : List ℤ) (n : ℕ) → length cells ≡ 2 * n → (j : ℕ) → j < n → cell_is_point k cells j ≡ false → are_points k cells ≡ false
+pub fail_cells : (k : Labellings) (cells : List ℤ) (n : ℕ) → length cells ≡ 2 * n → (j : ℕ) → j < n → cell_is_point k cells j ≡ false → are_points k cells ≡ false
 unfolding cell_is_point
 fail_cells k cells n e j h f = unless_true _ (λ x. never_both _ (point_at_lem k cells x j (omega arith)) f)
 

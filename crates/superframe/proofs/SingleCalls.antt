@@ -27,8 +27,8 @@ use Rattle.channels.specs.Fac.{fac_block}
 use Rattle.channels.specs.Sdc.{sdc_block}
 use Rattle.channels.specs.Msc.{msc_block}
 use Rattle.superframe.specs.declared.State.{State}
-use Rattle.superframe.specs.declared.Answer.{Answer}
-use Rattle.superframe.specs.declared.Answer.TheVariants.{Finished, Refused}
+use Rattle.superframe.specs.Answers.{Answer}
+use Rattle.superframe.specs.Answers.{Finished, Refused}
 use Rattle.superframe.specs.Memory.{slot_size, stored}
 use Rattle.superframe.specs.Interleaving.{Progress, advanced, sent_row, sent_rows, finished_frames, fillers}
 use Rattle.superframe.specs.Call.{part, joined, fac_bytes}

@@ -9,8 +9,8 @@ use Rattle.lists.specs.Bools.{every}
 use Rattle.channels.specs.declared.Scheme.{Scheme}
 use Rattle.channels.specs.Scheme.{scheme_refusal}
 use Rattle.superframe.specs.declared.State.{State}
-use Rattle.superframe.specs.declared.Done.{Done}
-use Rattle.superframe.specs.declared.Reading.{Reading}
+use Rattle.superframe.specs.Answers.{Done}
+use Rattle.superframe.specs.Answers.{Reading}
 use Rattle.superframe.specs.Call.{fac_bytes, memory_length, memory_cell}
 use Rattle.superframe.specs.Code.{CodeCall, CodeYield, spares_zero}
 use Rattle.superframe.specs.Read.{ReadCall, ReadYield}

@@ -14,7 +14,7 @@ use Rattle.channels.specs.Fac.{fac_block}
 use Rattle.channels.specs.Sdc.{sdc_block}
 use Rattle.channels.specs.Msc.{msc_block}
 use Rattle.superframe.specs.declared.State.{State}
-use Rattle.superframe.specs.declared.Done.{Done}
+use Rattle.superframe.specs.Answers.{Done}
 use Rattle.superframe.specs.Interleaving.{Progress, after_frames, sent_rows, fillers}
 use Rattle.superframe.specs.Call.{parts, joined, fac_bytes, memory_length, in_order}
 

@@ -1,4 +1,5 @@
 -- The calls and runs, in the paper's order.
+pub mod Answers
 pub mod Memory
 pub mod Interleaving
 pub mod Call

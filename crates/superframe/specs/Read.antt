@@ -18,9 +18,9 @@ use Rattle.channels.specs.Fac.{fac_block}
 use Rattle.channels.specs.Sdc.{sdc_block}
 use Rattle.channels.specs.Msc.{msc_block}
 use Rattle.superframe.specs.declared.State.{State}
-use Rattle.superframe.specs.declared.Answer.{Answer}
-use Rattle.superframe.specs.declared.Answer.TheVariants.{Finished, Refused}
-use Rattle.superframe.specs.declared.Reading.{Reading}
+use Rattle.superframe.specs.Answers.{Answer}
+use Rattle.superframe.specs.Answers.{Finished, Refused}
+use Rattle.superframe.specs.Answers.{Reading}
 use Rattle.superframe.specs.Memory.{slot_size}
 use Rattle.superframe.specs.Interleaving.{Progress, delay, after_rows, finished_frames, fillers}
 use Rattle.superframe.specs.Call.{part, parts, joined, memory_length, in_order}

@@ -6,7 +6,7 @@ use Rattle.settings.specs.Sizes.{depth}
 use Rattle.channels.specs.declared.Scheme.{Scheme}
 use Rattle.channels.specs.Scheme.{scheme_refusal}
 use Rattle.superframe.specs.declared.State.{State}
-use Rattle.superframe.specs.declared.Done.{Done}
+use Rattle.superframe.specs.Answers.{Done}
 use Rattle.superframe.specs.Memory.{start_frame}
 use Rattle.superframe.specs.Call.{memory_length, joined}
 

@@ -6,7 +6,7 @@ use Rattle.settings.specs.declared.Settings.{Settings}
 use Rattle.settings.specs.Lengths.{n_mux, n_sdc, l_sdc}
 use Rattle.settings.specs.Sizes.{depth, frame_bits, frame_bytes}
 use Rattle.block.specs.Packing.{spare_zero}
-use Rattle.block.specs.Mapping.{Constellation}
+use Rattle.block.specs.Mapping.{Labellings}
 use Rattle.block.specs.Block.{cells_from, points_of}
 use Rattle.block.specs.Points.{is_point}
 use Rattle.block.specs.Reads.{NoBits, ReadsBytes}
@@ -16,7 +16,7 @@ use Rattle.channels.specs.Fac.{fac_block}
 use Rattle.channels.specs.Sdc.{sdc_block}
 use Rattle.channels.specs.Msc.{msc_block}
 use Rattle.superframe.specs.declared.State.{State}
-use Rattle.superframe.specs.declared.Answer.{Answer}
+use Rattle.superframe.specs.Answers.{Answer}
 use Rattle.superframe.specs.Memory.{slot_size}
 use Rattle.superframe.specs.Interleaving.{delay, finished_frames, fillers}
 use Rattle.superframe.specs.Call.{part, fac_bytes}
@@ -25,7 +25,7 @@ use Rattle.superframe.specs.Read.{ReadCall, ReadYield, rows_of, fillers_of, coun
 use Rattle.superframe.specs.Runs.{SuperFrame, Run, cells}
 
 -- Cell j of a flat list is a point.
-unfoldable pub cell_is_point : Constellation → List ℤ → ℕ → Bool
+unfoldable pub cell_is_point : Labellings → List ℤ → ℕ → Bool
 cell_is_point k cells j = is_point k (get_or cells (2 * j) (pos 0)) (get_or cells (2 * j + 1) (pos 0))
 
 -- 13 of block b: a cell not ignored is no point of its constellation, or a filler is wrong. 0 to 2 FAC, 3 SDC, 4 to 6 the sent rows, 7 the fillers.

@@ -1,7 +1,10 @@
 // Super frames: the calls Reset, Code and Read on a state and an interleaving memory.
 #![tactic(auto)]
 
+ghost use Rattle.std.specs.Prelude.{◌≡◌};
+
 use channels::Scheme;
+use refusal::Refusal;
 
 pub mod theorems;
 
@@ -13,23 +16,24 @@ pub struct State {
     pub count: u8,
 }
 
-// What Reset and Code answer: the refusal, 0 for acceptance, and the state.
+// What an accepted Read answers: the number of finished frames, and the state after it.
 #[derive(Clone, Copy)]
-pub struct Done {
-    pub refusal: u8,
+pub struct Finished {
+    pub frames: u8,
     pub state: State,
 }
 
-// An answer of the reader: a number of finished frames, or a refusal with its block.
-#[derive(Clone, Copy)]
-pub enum Answer {
-    Finished(u8),
-    Refused(u8, u8),
+// Why Read is refused, and the block at fault, which is 0 but for blocks and cells.
+#[derive(Clone, Copy, Debug, PartialEq, Eq)]
+pub struct ReadRefusal {
+    pub refusal: Refusal,
+    pub block: u8,
 }
 
-// What Read answers.
-#[derive(Clone, Copy)]
-pub struct Reading {
-    pub answer: Answer,
-    pub state: State,
+impl From<Refusal> for ReadRefusal {
+    ghost from_gives = { λ refusal e. e ≡ record { refusal = refusal; block = 0 } };
+
+    fn from(refusal: Refusal) -> ReadRefusal {
+        ReadRefusal { refusal, block: 0 }
+    }
 }

@@ -7,8 +7,7 @@ use native.Mathlib.Nat.{zero-add}
 use native.Mathlib.Omega.{arith}
 use lib.ListN.{length, take, drop, replicate, length-replicate}
 use lib.IntN.{ℤ}
-use Rattle.settings.specs.declared.Sizes.{Sizes}
-use Rattle.settings.specs.Sizes.{sizes_of}
+use Rattle.settings.specs.Sizes.{SizesYield, sizes_of}
 use Rattle.superframe.specs.declared.State.{State}
 use Rattle.superframe.specs.Read.{ReadCall, read_of}
 use Rattle.keptcells.specs.ReadOn.{read_on_of}
@@ -22,25 +21,25 @@ use Rattle.deskcells.proofs.Turns.{bytes-cells_long}
 use Rattle.jobs.proofs.Rooms.{enough}
 use Rattle.jobs.proofs.Fronts.{front_blank, front_long, past}
 
-read-call : (z : Sizes) (cells : List ℤ) (fac sdc msc : List ℕ) → Enough z → fac ≡ replicate 27 0 → sdc ≡ replicate 210 0 → msc ≡ replicate 13767 0
+read-call : (z : SizesYield) (cells : List ℤ) (fac sdc msc : List ℕ) → Enough z → fac ≡ replicate 27 0 → sdc ≡ replicate 210 0 → msc ≡ replicate 13767 0
     → read_call (take 390 cells) (take (390 + z.sdcnumbers - 390) (drop 390 cells)) (drop (390 + z.sdcnumbers) cells) fac (take (z.sdcbytes - 0) sdc) (take (z.mscbytes - 0) msc)
     ≡ read_lent z cells
 unfolding read_lent
 read-call z cells fac sdc msc h ef es em =
     rw (past 390 z.sdcnumbers, ef, front_blank 0 z.sdcbytes 210 sdc es h.sdcbytes, front_blank 0 z.mscbytes 13767 msc em h.mscbytes)
 
-read_called : (state : State) (z : Sizes) (memory : List ℕ) (cells : List ℤ) (bytes out : List ℕ) (c : ReadCall) (y : JobYield) → z ≡ sizes_of state.scheme.settings → cells ≡ bytes_cells bytes
+read_called : (state : State) (z : SizesYield) (memory : List ℕ) (cells : List ℤ) (bytes out : List ℕ) (c : ReadCall) (y : JobYield) → z ≡ sizes_of state.scheme.settings → cells ≡ bytes_cells bytes
     → c ≡ read_lent z cells → y ≡ read_answered (read_of state memory c) out → y ≡ job_call Read state memory bytes out
 unfolding job_call
 read_called state z memory cells bytes out c y e f g h = h ∙ rw (g, f, e)
 
-read_on_called : (state : State) (z : Sizes) (memory : List ℕ) (cells : List ℤ) (bytes out : List ℕ) (c : ReadCall) (y : JobYield) → z ≡ sizes_of state.scheme.settings → cells ≡ bytes_cells bytes
+read_on_called : (state : State) (z : SizesYield) (memory : List ℕ) (cells : List ℤ) (bytes out : List ℕ) (c : ReadCall) (y : JobYield) → z ≡ sizes_of state.scheme.settings → cells ≡ bytes_cells bytes
     → c ≡ read_lent z cells → y ≡ read_on_answered (read_on_of state memory (record { call = c; lost = replicate 7 0 })) out → y ≡ job_call ReadOn state memory bytes out
 unfolding job_call read_on_lent
 read_on_called state z memory cells bytes out c y e f g h = h ∙ rw (g, f, e)
 
 -- The same for either job that reads, as it is asked.
-pub either_called : (on b : Bool) → on ≡ b → (state : State) (z : Sizes) (memory : List ℕ) (cells : List ℤ) (bytes out : List ℕ) (fac sdc msc : List ℕ) (y : JobYield)
+pub either_called : (on b : Bool) → on ≡ b → (state : State) (z : SizesYield) (memory : List ℕ) (cells : List ℤ) (bytes out : List ℕ) (fac sdc msc : List ℕ) (y : JobYield)
     → z ≡ sizes_of state.scheme.settings → cells ≡ bytes_cells bytes → Enough z → fac ≡ replicate 27 0 → sdc ≡ replicate 210 0 → msc ≡ replicate 13767 0
     → y ≡ read_by b state memory (read_at (fac_cells_length + z.sdcnumbers) cells fac (take (z.sdcbytes - 0) sdc) (take (z.mscbytes - 0) msc)) out
     → y ≡ job_call (read_job on) state memory bytes out
@@ -56,8 +55,8 @@ either_called on b eb state z memory cells bytes out fac sdc msc y e f h ef es e
 
 -- What the calls require of the buffers: the jobs that read, with so many bytes that tell what is lost.
 pub record Reads (job : Job) (lost : ℕ) : Type 0 where
-  pub input : (z : Sizes) (g : ℕ) → input_length job z g ≡ cells_length z
-  pub output : (z : Sizes) (g : ℕ) → output_length job z g ≡ lost + (blocks_length z + 1)
+  pub input : (z : SizesYield) (g : ℕ) → input_length job z g ≡ cells_length z
+  pub output : (z : SizesYield) (g : ℕ) → output_length job z g ≡ lost + (blocks_length z + 1)
 
 pub reads : (on : Bool) → on ≡ false → Reads (read_job on) 0
 unfolding input_length output_length
@@ -67,7 +66,7 @@ pub reads_on_lem : (on : Bool) → on ≡ true → Reads (read_job on) 7
 unfolding input_length output_length
 reads_on_lem on e = rw e (record { input = λ z g. refl; output = λ z g. refl })
 
-pub read_room : {job : Job} {lost : ℕ} → Reads job lost → (state : State) (z : Sizes) (bytes : List ℕ) (cells : List ℤ) (out fac sdc msc : List ℕ) → Lent job state z bytes out → cells ≡ bytes_cells bytes
+pub read_room : {job : Job} {lost : ℕ} → Reads job lost → (state : State) (z : SizesYield) (bytes : List ℕ) (cells : List ℤ) (out fac sdc msc : List ℕ) → Lent job state z bytes out → cells ≡ bytes_cells bytes
     → fac ≡ replicate 27 0 → sdc ≡ replicate 210 0 → msc ≡ replicate 13767 0
     → ReadRoom lost (fac_cells_length + z.sdcnumbers) cells fac (take (z.sdcbytes - 0) sdc) (take (z.mscbytes - 0) msc) out
 unfolding blocks_length cells_length

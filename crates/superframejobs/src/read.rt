@@ -1,5 +1,5 @@
 // The calls Read and, 02 S-13, `read_on` on a super frame's cells.
-ghost use Rattle.std.specs.Prelude.{◌≡◌, true, false, ◌≤◌, length};
+ghost use Rattle.std.specs.Prelude.{◌≡◌, true, false, ◌≤◌, length, IfOk};
 ghost use Rattle.superframe.specs.Read.{read_of};
 ghost use Rattle.jobs.specs.Clauses.{ReadRoom, read_at, BytesLeft, read_on_by, read_by};
 ghost use Rattle.jobs.specs.SuperFrame.{job_yield};
@@ -26,7 +26,7 @@ pub fn read_with(
     ensures out_after { job_yield result memory.new out.new
         ≡ read_by false state memory.old
         (read_at at cells.now fac.old sdc.old msc.old) out.old }
-    ensures length_in_bounds { result.length ≤ length out.old }
+    ensures length_in_bounds { IfOk result.made (λ n. n ≤ length out.old) }
     ensures bytes_left { BytesLeft
         (read_of state memory.old
         (read_at at cells.now fac.old sdc.old msc.old))
@@ -42,9 +42,10 @@ pub fn read_with(
         sdc,
         msc,
     );
-    write_read(reading, b"", fac, sdc, msc, out)
+    write_read(reading, state, b"", fac, sdc, msc, out)
 }
 
+// Stays: the two calls are lent different buffers (lost), so that one function for both would take a closure over all of them.
 // Reading on over a super frame's cells, of which those of the MSC start at a place, with buffers for the bytes.
 pub fn read_on_with(
     state: State,
@@ -60,7 +61,7 @@ pub fn read_on_with(
     ensures out_after { job_yield result memory.new out.new
         ≡ read_by true state memory.old
         (read_at at cells.now fac.old sdc.old msc.old) out.old }
-    ensures length_in_bounds { result.length ≤ length out.old }
+    ensures length_in_bounds { IfOk result.made (λ n. n ≤ length out.old) }
     ensures bytes_left { BytesLeft
         (read_on_by state memory.old
         (read_at at cells.now fac.old sdc.old msc.old)).yield
@@ -78,5 +79,5 @@ pub fn read_on_with(
         msc,
         &mut lost,
     );
-    write_read(reading, &lost, fac, sdc, msc, out)
+    write_read(reading, state, &lost, fac, sdc, msc, out)
 }

@@ -1,31 +1,28 @@
 // A super frame of a job: bytes in, bytes out.
-ghost use Rattle.std.specs.Prelude.{◌≡◌, ◌≤◌, length};
+ghost use Rattle.std.specs.Prelude.{◌≡◌, ◌≤◌, length, IfOk, Ok};
+ghost use Rattle.settings.specs.Sizes.{sizes_yield};
 ghost use Rattle.jobs.specs.Clauses.{Lent, read_job};
 ghost use Rattle.jobs.specs.SuperFrame.{job_yield, job_call, job_of, reads_on};
 
 use crate::read::{read_on_with, read_with};
+use block::buffers::{MOST_MSC_BYTES, MOST_SDC_BYTES};
 use codejobs::code::code_bytes;
 use console::Job;
 use gridjobs::grids::{place_bytes, take_bytes};
 use jobs::buffers::numbers_in;
-use jobs::refusal::job_refusal;
-use jobs::sizes::FAC_CELLS_LENGTH;
+use jobs::refusals::check_job;
+use jobs::sizes::{FAC_CELLS_LENGTH, FAC_LENGTH};
 use jobs::written::refused;
 use jobs::{Step, buffers};
-use settings::{Sizes, answers};
+use settings::Sizes;
 use superframe::State;
 
 // Whether a job counts what is lost.
+#[tactic(auto, unfolding(jobs::specs::SuperFrame::reads_on))]
 pub fn reads_on(job: Job) -> bool
     ensures { result ≡ reads_on job }
 {
-    match job {
-        Job::Code => false,
-        Job::Read => false,
-        Job::ReadOn => true,
-        Job::Grid => false,
-        Job::Ungrid => false,
-    }
+    matches!(job, Job::ReadOn)
 }
 
 // The jobs `read` and `read-on` on buffers of the right lengths.
@@ -37,16 +34,16 @@ fn read_bytes(
     memory: &mut [u8],
     out: &mut [u8],
 ) -> Step
-    requires { Lent (read_job on) state z bytes.now out.old }
+    requires { Lent (read_job on) state (sizes_yield (Ok z)) bytes.now out.old }
     ensures out_after { job_yield result memory.new out.new
         ≡ job_call (read_job on) state memory.old bytes.now out.old }
-    ensures length_in_bounds { result.length ≤ length out.old }
+    ensures length_in_bounds { IfOk result.made (λ n. n ≤ length out.old) }
 {
     let numbers = numbers_in(bytes);
     let cells = &numbers[0..bytes.len() / 2];
-    let mut fac = buffers::fac_bytes();
-    let mut most_sdc = buffers::sdc_bytes();
-    let mut most_msc = buffers::msc_bytes();
+    let mut fac = buffers::bytes::<FAC_LENGTH>();
+    let mut most_sdc = buffers::bytes::<MOST_SDC_BYTES>();
+    let mut most_msc = buffers::bytes::<MOST_MSC_BYTES>();
     let sdc = &mut most_sdc[0..z.sdcbytes as usize];
     let msc = &mut most_msc[0..z.mscbytes as usize];
     let at = FAC_CELLS_LENGTH + z.sdcnumbers as usize;
@@ -59,13 +56,12 @@ fn read_bytes(
 // A super frame of a job: its bytes come in, and what is to be written stands first in the output; a refusal leaves everything as it was.
 pub fn step(job: Job, state: State, bytes: &[u8], memory: &mut [u8], out: &mut [u8]) -> Step
     ensures out_after { job_yield result memory.new out.new ≡ job_of job state memory.old bytes.now out.old }
-    ensures length_in_bounds { result.length ≤ length out.old }
+    ensures length_in_bounds { IfOk result.made (λ n. n ≤ length out.old) }
 {
-    let number = job_refusal(job, state, bytes, memory, out);
-    if number != 0 {
-        return refused(number, state);
-    }
-    let z = answers::sizes(state.scheme.settings);
+    let z = match check_job(job, state, bytes, memory, out) {
+        Ok(z) => z,
+        Err(refusal) => return refused(refusal.number(), state),
+    };
     match job {
         Job::Code => code_bytes(state, z, bytes, memory, out),
         Job::Read => read_bytes(false, state, z, bytes, memory, out),

@@ -1,6 +1,8 @@
 -- The loops of the search from the end: costs after every register, and the choices. Assumes nothing.
 use Prim.Native.Nat.{ℕ, suc, ◌+◌, ◌-◌, ◌*◌, ◌/◌, ◌%◌, ◌^◌, ◌≤◌, ◌<◌, min}
-use mathlib.Core.Path.{◌≡◌, sym, ap, ◌∙◌}
+use mathlib.Core.Path.{◌≡◌, refl, sym, ap, ◌∙◌}
+use mir.Val.{bool_byte}
+use borrow.Author.Tests.{ltb-true}
 use mathlib.Core.Logic.{◌⊎◌, inl, inr}
 use mathlib.Core.Bool.{Bool, true, false, cond}
 use mathlib.Core.List.{List, [], ◌∷◌}
@@ -175,8 +177,19 @@ pick_low a b = go (ltb a b) (ltb b a)
     go false true = omega arith
     go false false = omega arith
 
-pub pick-one : (a b : ℕ) {n : ℕ} → n ≡ pick 0 a b → n ≤ 1
-pick-one a b e = rw e (omega (arith, pick_low a b))
+-- whether the way of a one costs less, as a number, is the choice
+pub chosen : (a b : ℕ) → bool_byte (ltb b a) ≡ pick 0 a b
+unfolding pick
+chosen a b = go (ltb a b) (ltb b a) refl refl
+  where
+    go : (t u : Bool) → ltb a b ≡ t → ltb b a ≡ u → bool_byte u ≡ cond t 0 (cond u 1 0)
+    go true true e f = absurd (omega (arith, ltb-true a b e, ltb-true b a f))
+    go true false e f = refl
+    go false true e f = refl
+    go false false e f = refl
+
+pub chosen_low : (a b : ℕ) → bool_byte (ltb b a) ≤ 1
+chosen_low a b = omega (arith, chosen a b, pick_low a b)
 
 module _ {flips values : List ℕ} {j : ℕ} {costs : List ℕ} (S : Steps flips values j costs)
     {least : List ℕ} {word s : ℕ} (L : Layering flips values j least word (suc s)) where

@@ -1,9 +1,9 @@
 // One layer of the trellis: the least disagreement after every register, and the choice for each. 02, S-9.
-ghost use Rattle.std.specs.Prelude.{◌≡◌, ◌+◌, ◌/◌, ◌≤◌, min, [], length, get_or, drop};
+ghost use Rattle.std.specs.Prelude.{◌≡◌, ◌+◌, ◌/◌, ◌≤◌, [], length, get_or, drop};
 ghost use Rattle.component.specs.Register.{parities};
 ghost use Rattle.component.specs.Codeword.{tail_bits};
 ghost use Rattle.trellis.specs.Nearest.{differs, disagreement};
-ghost use Rattle.trellis.specs.Clauses.{along, pick, Costs, Weighs, Steps, Stepped};
+ghost use Rattle.trellis.specs.Clauses.{along, Costs, Weighs, Steps, Stepped};
 
 use component::code::parity;
 
@@ -11,16 +11,11 @@ use component::code::parity;
 pub const STATES: usize = 64;
 
 // Whether a value is known and is not the bit.
+#[tactic(auto, unfolding(crate::specs::Nearest::differs))]
 fn differs(value: u8, bit: u8) -> u16
     ensures { result ≡ differs value bit }
 {
-    if value == 2 {
-        return 0;
-    }
-    if value == bit {
-        return 0;
-    }
-    1
+    (value != 2 && value != bit) as u16
 }
 
 // How many of the four values from `at` on disagree with the parities of a register.
@@ -42,11 +37,9 @@ fn tail_cost(values: &[u8], at: usize, register: u32) -> u16
 {
     let mut register = register;
     let mut sum: u16 = 0;
-    let mut i = 0;
-    while i < 6 {
-        register = register / 2;
+    for i in 0..6 {
+        register /= 2;
         sum += column_cost(values, at + 4 * i, register);
-        i += 1;
     }
     sum
 }
@@ -64,10 +57,8 @@ pub fn tail_costs(values: &[u8], at: usize) -> [u16; STATES]
     ensures { Costs [] (drop at values.now) result }
 {
     let mut costs = no_costs();
-    let mut s = 0;
-    while s < STATES {
+    for s in 0..STATES {
         costs[s] = tail_cost(values, at, 2 * s as u32);
-        s += 1;
     }
     costs
 }
@@ -79,28 +70,6 @@ fn way_cost(values: &[u8], at: usize, costs: &[u16; STATES], register: u32) -> u
 {
     let rest = costs[(register / 2) as usize];
     column_cost(values, at, register) + rest
-}
-
-// The bit whose way disagrees less, and `tie` of equals.
-fn pick(zero: u16, one: u16, tie: u32) -> u32
-    ensures { result ≡ pick tie zero one }
-{
-    if zero < one {
-        return 0;
-    }
-    if one < zero {
-        return 1;
-    }
-    tie
-}
-
-fn lower(x: u16, y: u16) -> u16
-    ensures { result ≡ min x y }
-{
-    if x <= y {
-        return x;
-    }
-    y
 }
 
 // The least disagreement after every register, and the choices that lead there, one binary digit for each two registers.
@@ -118,13 +87,11 @@ pub fn step(flips: &[u8], values: &[u8], j: usize, costs: &[u16; STATES]) -> Lay
     let flip = flips[j] as u32;
     let mut least = no_costs();
     let mut choices: u64 = 0;
-    let mut s = STATES;
-    while 0 < s {
-        s -= 1;
+    for s in (0..STATES).rev() {
         let zero = way_cost(values, 4 * j, costs, s as u32 + 64 * flip);
         let one = way_cost(values, 4 * j, costs, s as u32 + 64 * ((1 + flip) % 2));
-        least[s] = lower(zero, one);
-        choices = 2 * choices + pick(zero, one, 0) as u64;
+        least[s] = zero.min(one);
+        choices = 2 * choices + (one < zero) as u64;
     }
     Layer {
         costs: least,

@@ -1,9 +1,7 @@
 -- Lines: read byte by byte, and what follows from one.
-use Rattle.std.specs.Prelude.{ℕ, ◌+◌, Bool, true, false, cond, eqb, ltb}
+use Rattle.std.specs.Prelude.{ℕ, ◌+◌, Bool, true, false, cond, eqb, ltb, ⊤, Result, Ok, Err}
 use Rattle.turns.specs.declared.End.{End}
 use Rattle.turns.specs.declared.End.TheVariants.{Whole, Inside, Unread, Unwritten, Stopped, BadLine}
-use Rattle.turns.specs.declared.Next.{Next}
-use Rattle.turns.specs.declared.Next.TheVariants.{On, Over}
 use Rattle.turns.specs.declared.Seen.{Seen}
 use Rattle.turns.specs.declared.Seen.TheVariants.{Byte, Feed, Ended, Failed}
 
@@ -19,11 +17,11 @@ unfoldable pub gathered : ℕ → ℕ
 gathered count = cond (ltb count 256) (count + 1) 256
 
 -- A line with its feed goes on; the input may end before a line and not inside one.
-unfoldable pub after_line : ℕ → Seen → Next
-after_line count Byte = On
-after_line count Feed = On
-after_line count Failed = Over Unread
-after_line count Ended = cond (eqb count 0) (Over Whole) (Over Inside)
+unfoldable pub after_line : ℕ → Seen → Result ⊤ End
+after_line count Byte = Ok tt
+after_line count Feed = Ok tt
+after_line count Failed = Err Unread
+after_line count Ended = cond (eqb count 0) (Err Whole) (Err Inside)
 
 -- A line that is none of the job, or that is refused, is said and the run goes on; anything else ends it.
 unfoldable pub line_over : End → Bool

@@ -1,26 +1,28 @@
--- What follows from a read, and from a super frame and the write of its bytes.
-use Rattle.std.specs.Prelude.{ℕ, Bool, cond, eqb}
+-- What follows from a read, and from a super frame and the write of its bytes: the run goes on, or its end.
+use Rattle.std.specs.Prelude.{ℕ, Bool, cond, eqb, ⊤, Result, Ok, Err}
+use Rattle.turns.specs.declared.End.{End}
 use Rattle.turns.specs.declared.End.TheVariants.{Whole, Inside, Unread, Unwritten, Stopped, BadLine}
-use Rattle.turns.specs.declared.Next.{Next}
-use Rattle.turns.specs.declared.Next.TheVariants.{On, Over}
-use Rattle.turns.specs.declared.Outcome.{Outcome}
-use Rattle.turns.specs.declared.Outcome.TheVariants.{Through, Refused, Bad}
+use Rattle.turns.specs.declared.Failure.{Failure}
+use Rattle.turns.specs.declared.Failure.TheVariants.{Refused, Bad}
 
 -- A whole super frame goes on; fewer bytes end the run: a read that failed, the end of the input, or its end inside a super frame.
-unfoldable pub after_read : ℕ → ℕ → Bool → Next
+unfoldable pub after_read : ℕ → ℕ → Bool → Result ⊤ End
 after_read got wanted ended =
-    cond (eqb got wanted) On (cond ended (cond (eqb got 0) (Over Whole) (Over Inside)) (Over Unread))
+    cond (eqb got wanted) (Ok tt) (cond ended (cond (eqb got 0) (Err Whole) (Err Inside)) (Err Unread))
 
--- A whole input goes on, if it ended or filled all the room there is for one; a read that failed does not.
-unfoldable pub after_all : ℕ → ℕ → Bool → Next
-after_all got most ended = cond (eqb got most) On (cond ended On (Over Unread))
+-- A whole input goes on with so many bytes, if it ended or filled all the room there is for one; a read that failed does not.
+unfoldable pub after_all : ℕ → ℕ → Bool → Result ℕ End
+after_all got most ended = cond (eqb got most) (Ok got) (cond ended (Ok got) (Err Unread))
 
 -- By the number of a refusal, 0 for acceptance.
-unfoldable pub after_call : ℕ → Next
-after_call number = cond (eqb number 0) On (Over (Stopped number 0))
+unfoldable pub after_call : ℕ → Result ⊤ End
+after_call number = cond (eqb number 0) (Ok tt) (Err (Stopped number 0))
 
--- A refusal ends the run, and so does a write that came short; of lines, only the line.
-unfoldable pub after_write : Outcome → Bool → Next
-after_write Through written = cond written On (Over Unwritten)
-after_write (Refused number block) written = Over (Stopped number block)
-after_write Bad written = Over BadLine
+-- A refusal ends the run; of lines, only the line.
+unfoldable pub after_failure : Failure → End
+after_failure (Refused number block) = Stopped number block
+after_failure Bad = BadLine
+
+-- A write that came short ends it too.
+unfoldable pub after_write : Bool → Result ⊤ End
+after_write written = cond written (Ok tt) (Err Unwritten)

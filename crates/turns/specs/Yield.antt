@@ -1,26 +1,32 @@
 -- What a job yields for a line or a multiplex frame.
-use Rattle.std.specs.Prelude.{ℕ, cond, List, length, eqb}
+use Rattle.std.specs.Prelude.{ℕ, cond, List, length, eqb, Result, Ok, Err}
 use Rattle.std.proofs.lemmas.List.Edits.{sets}
-use Rattle.turns.specs.declared.Outcome.TheVariants.{Through, Refused, Bad}
-use Rattle.turns.specs.declared.Made.{Made}
+use Rattle.refusal.specs.declared.Refusal.{Refusal}
+use Rattle.refusal.specs.Numbers.{number}
+use Rattle.turns.specs.declared.Failure.{Failure}
+use Rattle.turns.specs.declared.Failure.TheVariants.{Refused, Bad}
 
--- All that it yields: its answer, and the output buffer as it leaves it.
+-- All that it yields: how many bytes are to be written or why none are, and the output buffer as it leaves it.
 pub record MadeYield : Type 0 where
-  pub made : Made
+  pub made : Result ℕ Failure
   pub out : List ℕ
 
-abbrev pub made_yield : Made → List ℕ → MadeYield
+abbrev pub made_yield : Result ℕ Failure → List ℕ → MadeYield
 made_yield made out = record { made = made; out = out }
 
+-- A refusal that names no block.
+abbrev pub failure_of : Refusal → Failure
+failure_of refusal = Refused (number refusal) 0
+
 -- So many bytes are to be written, or none where it is refused, which names no block, or is no line of the job.
-abbrev pub made_through : ℕ → Made
-made_through n = record { outcome = Through; length = n }
+abbrev pub made_through : ℕ → Result ℕ Failure
+made_through n = Ok n
 
-abbrev pub made_refused : ℕ → Made
-made_refused number = record { outcome = Refused number 0; length = 0 }
+abbrev pub made_refused : ℕ → Result ℕ Failure
+made_refused number = Err (Refused number 0)
 
-abbrev pub made_bad : Made
-made_bad = record { outcome = Bad; length = 0 }
+abbrev pub made_bad : Result ℕ Failure
+made_bad = Err Bad
 
 -- A line that went through: its answer from the start of the buffer on. One that did not leaves the buffer as it was.
 unfoldable pub through : List ℕ → List ℕ → MadeYield

@@ -5,19 +5,11 @@ pub mod answers;
 pub mod input;
 pub mod turn;
 
-// How a super frame or a line went: through, refused with the number and the block, or no line of the job.
+// Why a super frame, a multiplex frame or a line did not go through: refused with the number and the block, or no line of the job.
 #[derive(Clone, Copy)]
-pub enum Outcome {
-    Through,
+pub enum Failure {
     Refused(u8, u8),
     Bad,
-}
-
-// What a job makes of a line or a multiplex frame: how it went, and how many bytes are to be written.
-#[derive(Clone, Copy)]
-pub struct Made {
-    pub outcome: Outcome,
-    pub length: usize,
 }
 
 // How a run of super frames or a line ends.
@@ -38,17 +30,10 @@ pub enum End {
 }
 
 // What a read of one byte found: a byte of the line, its line feed, the end of the input, or a failure.
-#[derive(Clone, Copy)]
+#[derive(Clone, Copy, PartialEq, Eq)]
 pub enum Seen {
     Byte,
     Feed,
     Ended,
     Failed,
-}
-
-// What follows: the run goes on, or it is over.
-#[derive(Clone, Copy)]
-pub enum Next {
-    On,
-    Over(End),
 }

@@ -1,61 +1,69 @@
-// What follows from a read, and from a super frame and its write.
+// What follows from a read, and from a super frame and its write: the run goes on, or its end.
 ghost use Rattle.std.specs.Prelude.{◌≡◌};
-ghost use Rattle.turns.specs.Turn.{after_read, after_all, after_write, after_call};
+ghost use Rattle.turns.specs.Turn.{after_read, after_all, after_call, after_failure, after_write};
 
-use crate::{End, Next, Outcome};
+use crate::{End, Failure};
 
 // After a read of so many bytes of those wanted: `ended` says that a further read found the end of the input, and did not fail.
-pub fn after_read(got: usize, wanted: usize, ended: bool) -> Next
+#[tactic(auto, unfolding(crate::specs::Turn::after_read))]
+pub fn after_read(got: usize, wanted: usize, ended: bool) -> Result<(), End>
     ensures { result ≡ after_read got wanted ended }
 {
     if got == wanted {
-        return Next::On;
+        return Ok(());
     }
     if !ended {
-        return Next::Over(End::Unread);
+        return Err(End::Unread);
     }
     if got == 0 {
-        return Next::Over(End::Whole);
+        return Err(End::Whole);
     }
-    Next::Over(End::Inside)
+    Err(End::Inside)
 }
 
 // After a read of a whole input into so many bytes, more than any file of the job has: one that fills them is taken too, and refused for its length.
-pub fn after_all(got: usize, most: usize, ended: bool) -> Next
+#[tactic(auto, unfolding(crate::specs::Turn::after_all))]
+pub fn after_all(got: usize, most: usize, ended: bool) -> Result<usize, End>
     ensures { result ≡ after_all got most ended }
 {
-    if got == most {
-        return Next::On;
+    if got == most || ended {
+        Ok(got)
+    } else {
+        Err(End::Unread)
     }
-    if ended {
-        return Next::On;
-    }
-    Next::Over(End::Unread)
 }
 
 // After a call that answered with the number of a refusal, 0 for acceptance.
-pub fn after_call(number: u8) -> Next
+#[tactic(auto, unfolding(crate::specs::Turn::after_call))]
+pub fn after_call(number: u8) -> Result<(), End>
     ensures { result ≡ after_call number }
 {
-    if number == 0 {
-        return Next::On;
+    if number != 0 {
+        return Err(End::Stopped(number, 0));
     }
-    Next::Over(End::Stopped(number, 0))
+    Ok(())
 }
 
-// After a super frame or a line, and a write of what it gave.
-pub fn after_write(outcome: Outcome, written: bool) -> Next
-    ensures { result ≡ after_write outcome written }
-{
-    match outcome {
-        Outcome::Refused(number, block) => Next::Over(End::Stopped(number, block)),
-        Outcome::Bad => Next::Over(End::BadLine),
-        Outcome::Through => {
-            if written {
-                Next::On
-            } else {
-                Next::Over(End::Unwritten)
-            }
+// After a super frame or a line that did not go through.
+impl From<Failure> for End {
+    ghost from_gives = { λ failure end. end ≡ after_failure failure };
+
+    #[tactic(auto, unfolding(crate::specs::Turn::after_failure))]
+    fn from(failure: Failure) -> End {
+        match failure {
+            Failure::Refused(number, block) => End::Stopped(number, block),
+            Failure::Bad => End::BadLine,
         }
     }
+}
+
+// After a write of what a super frame or a line gave.
+#[tactic(auto, unfolding(crate::specs::Turn::after_write))]
+pub fn after_write(written: bool) -> Result<(), End>
+    ensures { result ≡ after_write written }
+{
+    if !written {
+        return Err(End::Unwritten);
+    }
+    Ok(())
 }

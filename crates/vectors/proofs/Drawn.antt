@@ -1,21 +1,21 @@
 -- Drawn bytes, as the code works them out. Assumes nothing.
 use Prim.Native.Nat.{ℕ, suc, ◌+◌, ◌-◌, ◌*◌, ◌/◌, ◌%◌, ◌^◌, ◌≤◌, ◌<◌}
-use mathlib.Core.Path.{◌≡◌, refl, sym, ap, ◌∙◌}
+use mathlib.Core.Path.{◌≡◌, refl, ap, ◌∙◌}
 use mathlib.Core.List.{List, [], ◌∷◌}
 use native.Mathlib.Numerals.{add-one}
-use native.Mathlib.Nat.{div-mul-le_self, add-mul-mod_self_left, mod-eq_of_lt}
+use native.Mathlib.Nat.{div-mul-le_self, mod-eq_of_lt}
 use native.Mathlib.Omega.{arith}
 use lib.ListN.{length, get_or, set}
 use Rattle.lists.proofs.Tables.{Filled, filled-start, filled_turn, filled_end}
 use Rattle.vectors.specs.Draws.{next, byte_of, state, bytes_from, spare_bits, cleared, drawn_block}
 
--- the remainder may be taken first
-pub next_is : (x : ℕ) → (x % 2147483648 * 1103515245 + 12345) % 2147483648 ≡ next x
+-- sum and product may wrap at 64 bits
+pub next_is : (x : ℕ) → (x * 1103515245 % 18446744073709551616 + 12345) % 18446744073709551616 % 2147483648 ≡ next x
 unfolding next
-next_is x = sym (rw e (add-mul-mod_self_left (x % 2147483648 * 1103515245 + 12345) 2147483648 (x / 2147483648 * 1103515245)))
+next_is x = go (x * 1103515245)
   where
-    e : x * 1103515245 + 12345 ≡ (x % 2147483648 * 1103515245 + 12345) + 2147483648 * (x / 2147483648 * 1103515245)
-    e = omega arith
+    go : (y : ℕ) → (y % 18446744073709551616 + 12345) % 18446744073709551616 % 2147483648 ≡ (y + 12345) % 2147483648
+    go y = omega arith
 
 -- no bytes have no spare bits
 pub cleared_none : (bits : ℕ) (l : List ℕ) → length l ≡ 0 → l ≡ cleared bits l

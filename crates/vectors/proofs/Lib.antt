@@ -1,3 +1,3 @@
 pub mod Taken
 pub mod Drawn
-pub mod Greatest
+pub mod Paired

@@ -2,11 +2,15 @@
 ghost use Rattle.std.specs.Prelude.{◌≡◌};
 ghost use Rattle.vectors.specs.Digest.{taken, shifted, cells_taken};
 
-// The digest with a number taken.
+// A digest is below this prime.
+const MODULUS: u64 = 4294967291;
+
+// The digest with a number taken. The remainders come first, so that the sum fits.
+#[tactic(auto, using(crate::proofs::Taken::taken_is))]
 pub fn taken(d: u64, v: u64) -> u64
     ensures { result ≡ taken d v }
 {
-    (d % 4294967291 * 31 + v % 4294967291) % 4294967291
+    (d % MODULUS * 31 + v % MODULUS) % MODULUS
 }
 
 // What a cell's number -7 to 7 enters as: v + 8.
@@ -17,14 +21,11 @@ fn shifted(v: i16) -> u64
 }
 
 // The digest with all numbers of some cells taken.
-pub fn of_cells(d: u64, cells: &[i16]) -> u64
+pub fn of_cells(mut d: u64, cells: &[i16]) -> u64
     ensures { result ≡ cells_taken d cells.now }
 {
-    let mut d = d;
-    let mut i = 0;
-    while i < cells.len() {
-        d = taken(d, shifted(cells[i]));
-        i += 1;
+    for v in cells {
+        d = taken(d, shifted(*v));
     }
     d
 }

@@ -2,23 +2,21 @@
 ghost use Rattle.std.specs.Prelude.{◌≡◌, length};
 ghost use Rattle.vectors.specs.Draws.{next, state, cleared, drawn_block};
 
-// The state after a state x.
+// The state after a state x. The state's modulus divides 2^64, so the sum may wrap.
+#[tactic(auto, using(crate::proofs::Drawn::next_is))]
 fn next(x: u64) -> u64
     ensures { result ≡ next x }
 {
-    (x % 2147483648 * 1103515245 + 12345) % 2147483648
+    x.wrapping_mul(1103515245).wrapping_add(12345) % 2147483648
 }
 
 // A block of so many bits is drawn byte by byte from the state, and then the spare bits of its last byte are cleared. The state after it is returned.
-pub fn block(x: u64, bits: usize, bytes: &mut [u8]) -> u64
+pub fn block(mut x: u64, bits: usize, bytes: &mut [u8]) -> u64
     ensures { (result ≡ state x (length bytes.old)) × (bytes.new ≡ drawn_block x bits (length bytes.old)) }
 {
-    let mut x = x;
-    let mut i = 0;
-    while i < bytes.len() {
+    for byte in bytes.iter_mut() {
         x = next(x);
-        bytes[i] = (x / 65536 % 256) as u8;
-        i += 1;
+        *byte = (x / 65536 % 256) as u8;
     }
     clear(bits, bytes);
     x
@@ -28,10 +26,8 @@ pub fn block(x: u64, bits: usize, bytes: &mut [u8]) -> u64
 fn clear(bits: usize, bytes: &mut [u8])
     ensures { bytes.new ≡ cleared bits bytes.old }
 {
-    let n = bytes.len();
-    if n == 0 {
-        return;
-    }
     let spare = (8 - bits % 8) % 8;
-    bytes[n - 1] = bytes[n - 1] >> spare << spare;
+    if let Some(last) = bytes.last_mut() {
+        *last = *last >> spare << spare;
+    }
 }

@@ -1,40 +1,47 @@
 // Lines of text on standard output. The functions promise nothing: what they print is compared by the gate with the stored text.
 use settings::Settings;
+use std::fmt::{self, Write};
 
 // The descriptor of standard output.
 const STDOUT_FILENO: i32 = 1;
 
-const DIGITS: [u8; 16] = [
-    48, 49, 50, 51, 52, 53, 54, 55, 56, 57, 65, 66, 67, 68, 69, 70,
-];
+// Standard output itself.
+#[derive(Drop)]
+struct Output;
 
-// A byte in two hexadecimal digits, 0 to 9 and A to F.
-fn byte(b: u8) {
-    let text = [DIGITS[(b / 16) as usize], DIGITS[(b % 16) as usize]];
-    io::write_all(STDOUT_FILENO, &text);
+impl fmt::Write for Output {
+    fn write_str(&mut self, text: &str) -> fmt::Result {
+        if io::write_all(STDOUT_FILENO, text.as_bytes()) {
+            Ok(())
+        } else {
+            Err(fmt::Error)
+        }
+    }
+}
+
+// Prints a text. What cannot be written is passed over: the comparison misses it.
+pub fn print<D: fmt::Display + Drop>(text: D) {
+    let _ = Output.write(text);
 }
 
 // Settings in twenty digits.
 pub fn settings(s: Settings) {
-    byte(s.mode);
-    byte(s.occupancy);
-    byte(s.msc);
-    byte(s.levela);
-    byte(s.levelb);
-    byte(s.vspp);
-    byte((s.x / 256) as u8);
-    byte((s.x % 256) as u8);
-    byte(s.sdc);
-    byte(s.interleaving);
+    print(format_args!(
+        "{:02X}{:02X}{:02X}{:02X}",
+        s.mode, s.occupancy, s.msc, s.levela
+    ));
+    print(format_args!(
+        "{:02X}{:02X}{:04X}{:02X}{:02X}",
+        s.levelb, s.vspp, s.x, s.sdc, s.interleaving
+    ));
 }
 
 // A space and a number in decimal.
 pub fn number(n: u64) {
-    io::write_all(STDOUT_FILENO, b" ");
-    io::print_decimal(STDOUT_FILENO, n);
+    print(format_args!(" {n}"));
 }
 
 // The end of a line.
 pub fn end() {
-    io::write_all(STDOUT_FILENO, b"\n");
+    print("\n");
 }

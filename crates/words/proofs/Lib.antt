@@ -1,3 +1,3 @@
 pub mod Lines
-pub mod Said
 pub mod Answers
+pub mod Behind

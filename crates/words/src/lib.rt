@@ -2,6 +2,7 @@
 #![tactic(auto)]
 
 pub mod report;
+pub mod text;
 pub mod texts;
 
 // What a run is counted by.

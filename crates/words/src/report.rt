@@ -1,18 +1,17 @@
 // What is said on standard error, written into a buffer.
-ghost use Rattle.std.specs.Prelude.{◌≡◌, ◌+◌, ◌≤◌, length};
+ghost use Rattle.std.specs.Prelude.{◌≡◌, ◌+◌, ◌≤◌, ◌++◌, length};
 ghost use Rattle.line.specs.Written.{decimal};
 ghost use Rattle.words.specs.Clauses.{Put};
 ghost use Rattle.words.specs.Report.{block_part, refused_part, why, failed, unit_word, end_line, report_of, settings_line, usage};
 
 use crate::Counted;
+use crate::text::Text;
 use crate::texts::{block_words, refusal_words};
 use console::bytes::put_bytes;
 use turns::End;
 
-// Room for the usage.
-pub const USAGE_BYTES: usize = 2048;
-
 // A text from a place of a buffer on, and where it ends.
+// Stays: the jobs on lines write into a lent buffer, and turns Yield.through, refused and answered say what it holds, so they put texts at a place.
 pub fn put(text: &[u8], out: &mut [u8], at: usize) -> usize
     requires { at + length text.now ≤ length out.old }
     ensures { Put (length text.now) text.now out.old at result out.new }
@@ -32,121 +31,130 @@ pub fn put_decimal(n: u64, out: &mut [u8], at: usize) -> usize
 }
 
 // The block of a refusal; refusals other than 13 and 14 name none.
-fn put_block(number: u8, block: u8, out: &mut [u8], at: usize) -> usize
-    requires { at + 100 ≤ length out.old }
-    ensures { Put 100 (block_part number block) out.old at result out.new }
+#[tactic(auto, using(std::proofs::Common::append_assoc), unfolding(crate::specs::Report::block_part, console::specs::Text::bytes_in, lists::specs::Lists::table))]
+fn say_block(text: &mut Text, number: u8, block: u8)
+    requires { length text.old + 100 ≤ 1024 }
+    ensures said { text.new ≡ text.old ++ block_part number block }
+    ensures room { length text.new ≤ length text.old + 100 }
 {
-    if !((number == 13) | (number == 14)) {
-        return at;
+    if number == 13 || number == 14 {
+        text.put(b", block ");
+        text.put_decimal(block as u64);
+        text.put(b", ");
+        text.put(block_words(number, block));
     }
-    let a = put(b", block ", out, at);
-    let b = put_decimal(block as u64, out, a);
-    let c = put(b", ", out, b);
-    block_words(number, block, out, c)
 }
 
 // A refusal: its number, its words, and its block.
-pub fn put_refused(number: u8, block: u8, out: &mut [u8], at: usize) -> usize
-    requires { at + 200 ≤ length out.old }
-    ensures { Put 200 (refused_part number block) out.old at result out.new }
+#[tactic(auto, using(std::proofs::Common::append_assoc), unfolding(crate::specs::Report::refused_part, console::specs::Text::bytes_in, lists::specs::Lists::table))]
+pub fn say_refused(text: &mut Text, number: u8, block: u8)
+    requires { length text.old + 200 ≤ 1024 }
+    ensures said { text.new ≡ text.old ++ refused_part number block }
+    ensures room { length text.new ≤ length text.old + 200 }
 {
-    let a = put(b"refused: ", out, at);
-    let b = put_decimal(number as u64, out, a);
-    let c = put(b", ", out, b);
-    let d = refusal_words(number, out, c);
-    put_block(number, block, out, d)
+    text.put(b"refused: ");
+    text.put_decimal(number as u64);
+    text.put(b", ");
+    text.put(refusal_words(number));
+    say_block(text, number, block);
 }
 
 // Why a super frame did not go through.
-pub fn put_why(end: End, out: &mut [u8], at: usize) -> usize
-    requires { at + 200 ≤ length out.old }
-    ensures { Put 200 (why end) out.old at result out.new }
+#[tactic(auto, using(std::proofs::Common::append_assoc), unfolding(crate::specs::Report::why, console::specs::Text::bytes_in, lists::specs::Lists::table))]
+pub fn say_why(text: &mut Text, end: End)
+    requires { length text.old + 200 ≤ 1024 }
+    ensures said { text.new ≡ text.old ++ why end }
+    ensures room { length text.new ≤ length text.old + 200 }
 {
     match end {
-        End::Whole => at,
-        End::Inside => put(b"the input ends inside it", out, at),
-        End::Unread => put(b"not read: the input failed", out, at),
-        End::Unwritten => put(b"not written: the output failed", out, at),
-        End::Stopped(number, block) => put_refused(number, block, out, at),
-        End::BadLine => put(b"bad line", out, at),
+        End::Whole => {}
+        End::Inside => text.put(b"the input ends inside it"),
+        End::Unread => text.put(b"not read: the input failed"),
+        End::Unwritten => text.put(b"not written: the output failed"),
+        End::Stopped(number, block) => say_refused(text, number, block),
+        End::BadLine => text.put(b"bad line"),
     }
 }
 
 // Whether a run ended otherwise than after a whole super frame.
+#[tactic(auto, using(std::proofs::Common::append_assoc), unfolding(crate::specs::Report::failed, console::specs::Text::bytes_in, lists::specs::Lists::table))]
 pub fn failed(end: End) -> bool
     ensures { result ≡ failed end }
 {
-    match end {
-        End::Whole => false,
-        End::Inside => true,
-        End::Unread => true,
-        End::Unwritten => true,
-        End::Stopped(_, _) => true,
-        End::BadLine => true,
-    }
+    !matches!(end, End::Whole)
 }
 
 // What a run is counted by.
-fn put_unit(unit: Counted, out: &mut [u8], at: usize) -> usize
-    requires { at + 16 ≤ length out.old }
-    ensures { Put 16 (unit_word unit) out.old at result out.new }
+#[tactic(auto, using(std::proofs::Common::append_assoc), unfolding(crate::specs::Report::unit_word, console::specs::Text::bytes_in, lists::specs::Lists::table))]
+fn unit_word(unit: Counted) -> &'static [u8]
+    ensures value { result.now ≡ unit_word unit }
+    ensures short { length result.now ≤ 16 }
 {
     match unit {
-        Counted::SuperFrame => put(b"super frame", out, at),
-        Counted::MultiplexFrame => put(b"multiplex frame", out, at),
-        Counted::Line => put(b"line", out, at),
+        Counted::SuperFrame => b"super frame",
+        Counted::MultiplexFrame => b"multiplex frame",
+        Counted::Line => b"line",
     }
 }
 
 // The line of what ended a run at a super frame, if anything did but the end of the input.
-fn put_end(unit: Counted, end: End, index: u64, out: &mut [u8]) -> usize
-    requires { 256 ≤ length out.old }
-    ensures { Put 256 (end_line unit end index) out.old 0 result out.new }
+#[tactic(auto, using(std::proofs::Common::append_assoc), unfolding(crate::specs::Report::end_line, console::specs::Text::bytes_in, lists::specs::Lists::table))]
+fn say_end(text: &mut Text, unit: Counted, end: End, index: u64)
+    requires { length text.old + 256 ≤ 1024 }
+    ensures said { text.new ≡ text.old ++ end_line unit end index }
+    ensures room { length text.new ≤ length text.old + 256 }
 {
-    if !failed(end) {
-        return 0;
+    if failed(end) {
+        text.put(unit_word(unit));
+        text.put(b" ");
+        text.put_decimal(index);
+        text.put(b": ");
+        say_why(text, end);
+        text.put(b"\n");
     }
-    let a = put_unit(unit, out, 0);
-    let b = put(b" ", out, a);
-    let c = put_decimal(index, out, b);
-    let d = put(b": ", out, c);
-    let e = put_why(end, out, d);
-    put(b"\n", out, e)
 }
 
 // What is said at the end of a run.
-pub fn report(unit: Counted, end: End, count: u64, out: &mut [u8; 1024]) -> usize
-    ensures { Put 1024 (report_of unit end count) out.old 0 result out.new }
+#[tactic(auto, using(std::proofs::Common::append_assoc), unfolding(crate::specs::Report::report_of, console::specs::Text::bytes_in, lists::specs::Lists::table))]
+pub fn report(unit: Counted, end: End, count: u64) -> Text
+    ensures { result ≡ report_of unit end count }
 {
-    let a = put_end(unit, end, count, out);
-    let b = put_unit(unit, out, a);
-    let c = put(b"s: ", out, b);
-    let d = put_decimal(count, out, c);
-    put(b"\n", out, d)
+    let mut text = Text::new();
+    say_end(&mut text, unit, end, count);
+    text.put(unit_word(unit));
+    text.put(b"s: ");
+    text.put_decimal(count);
+    text.put(b"\n");
+    text
 }
 
 // What is said of a line.
-pub fn line_said(end: End, index: u64, out: &mut [u8; 1024]) -> usize
-    ensures { Put 1024 (end_line Counted.Line end index) out.old 0 result out.new }
+pub fn line_said(end: End, index: u64) -> Text
+    ensures { result ≡ end_line Counted.Line end index }
 {
-    put_end(Counted::Line, end, index, out)
+    let mut text = Text::new();
+    say_end(&mut text, Counted::Line, end, index);
+    text
 }
 
 // What is said of settings that are refused.
-pub fn settings_refused(number: u8, out: &mut [u8; 1024]) -> usize
-    ensures { Put 1024 (settings_line number) out.old 0 result out.new }
+#[tactic(auto, using(std::proofs::Common::append_assoc), unfolding(crate::specs::Report::settings_line, console::specs::Text::bytes_in, lists::specs::Lists::table))]
+pub fn settings_refused(number: u8) -> Text
+    ensures { result ≡ settings_line number }
 {
-    let a = put(b"settings: ", out, 0);
-    let b = put_refused(number, 0, out, a);
-    put(b"\n", out, b)
+    let mut text = Text::new();
+    text.put(b"settings: ");
+    say_refused(&mut text, number, 0);
+    text.put(b"\n");
+    text
 }
 
 // What is said where the arguments are no job.
-pub fn put_usage(out: &mut [u8; USAGE_BYTES]) -> usize
-    ensures { Put 2048 usage out.old 0 result out.new }
+#[tactic(auto, using(std::proofs::Common::append_assoc), unfolding(crate::specs::Report::usage, console::specs::Text::bytes_in, lists::specs::Lists::table))]
+pub fn usage() -> &'static [u8]
+    ensures { result.now ≡ usage }
 {
-    put(
-        b"usage: desk JOB ARGUMENTS\n\
+    b"usage: desk JOB ARGUMENTS\n\
         \x20 code SETTINGS [FROM [TO]]   super frames of bytes to super frames of cells\n\
         \x20 read SETTINGS               super frames of cells to super frames of bytes\n\
         \x20 read-on SETTINGS            the same past spoiled cells, with marks of what is lost\n\
@@ -166,8 +174,5 @@ pub fn put_usage(out: &mut [u8; USAGE_BYTES]) -> usize
         FROM, HOLDFILE: a new hold file to begin from, for FROM also - for a reset; TO: one to store at the end\n\
         DESCRIPTION: decimal numbers joined by commas, for each stream its bytes in part A and in part B\n\
         FILE: a plan, one rule a line: FIRST AFTER SETTINGS, in minutes of the week; SUPERFRAME: 0 to 503999\n\
-        BYTES: a decimal number below 4294967296\n",
-        out,
-        0,
-    )
+        BYTES: a decimal number below 4294967296\n"
 }

@@ -61,9 +61,6 @@ code_lent-requires c =
     let i = c.loop-i.invariant in
     record { block_lent = (block_lent c.requires.blocks_lent.0 (bytes_are _ c.bit_count.ensures) i.0 c.loop-i-test.true, work_same c.requires.blocks_lent.1 i.1 i.2 i.3); block_order = c.requires.block_order }
 
-pub overflow_add-i : goal.overflow_add-i
-overflow_add-i c = omega (arith, c.loop-i-test.true, c.requires.blocks_lent.0.few)
-
 pub loop-i-preserved : goal.loop-i-preserved
 loop-i-preserved c =
     let i = c.loop-i.invariant in

@@ -1,5 +1,4 @@
 -- `code_each` meets its contract. The loop's invariant: the cells of the blocks before i are there. Assumes nothing.
-use Prim.Native.Nat.{◌-◌}
 use mathlib.Core.Path.{◌≡◌}
 use lib.ListN.{length}
 use Rattle.blockcoder.proofs.Each.{Coded}
@@ -7,6 +6,3 @@ use Rattle.blockcoder.proofs.code.code_each.Given as goal
 
 abbrev pub invariant-loop-i : goal.invariant-loop-i
 invariant-loop-i l = Coded l.k l.many l.bytes l.initial.out l.out l.i × (length l.bits ≡ length l.initial.bits) × (length l.labels ≡ length l.initial.labels) × (length l.coded ≡ length l.initial.coded)
-
-abbrev pub decreases-loop-i : goal.decreases-loop-i
-decreases-loop-i l = l.many - l.i

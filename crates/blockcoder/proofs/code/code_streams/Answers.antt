@@ -1,5 +1,5 @@
 -- `code_streams` meets its contract. Assumes nothing.
-use borrow.Author.Tests.{eq-eqb, ne_eqb}
+use mathlib.Core.Path.{sym, ◌∙◌}
 use Rattle.block.specs.Block.{one_axis}
 use Rattle.multilevel.proofs.Totals.{sums-front}
 use Rattle.blockcoder.proofs.Coding.{part-a, codes-parts, both_cells, axis-cells, bits_left}
@@ -11,19 +11,19 @@ bits_before-at-requires c = sums-front c.requires.codes_bits.0.fits
 pub slice_bounds-code_axes-end : goal.slice_bounds-code_axes-end
 slice_bounds-code_axes-end c = part-a c.requires.codes_bits.0 c.bits_before-at.ensures
 
-pub slice_bounds-code_axes-count-then-k-eq-HMMIX : goal.slice_bounds-code_axes-count-then-k-eq-HMMIX
-slice_bounds-code_axes-count-then-k-eq-HMMIX c = part-a c.requires.codes_bits.0 c.bits_before-at.ensures
+pub slice_bounds-code_axes-count-then-one_axis : goal.slice_bounds-code_axes-count-then-one_axis
+slice_bounds-code_axes-count-then-one_axis c = part-a c.requires.codes_bits.0 c.bits_before-at.ensures
 
-pub slice_bounds-code_axes-start-then-k-eq-HMMIX : goal.slice_bounds-code_axes-start-then-k-eq-HMMIX
-slice_bounds-code_axes-start-then-k-eq-HMMIX c = part-a c.requires.codes_bits.0 c.bits_before-at.ensures
+pub slice_bounds-code_axes-start-then-one_axis : goal.slice_bounds-code_axes-start-then-one_axis
+slice_bounds-code_axes-start-then-one_axis c = part-a c.requires.codes_bits.0 c.bits_before-at.ensures
 
 pub code_axes-requires : goal.code_axes-requires
 unfolding one_axis
-code_axes-requires c = record { codes_parts = (codes-parts c.requires.codes_bits.0 c.bits_before-at.ensures c.requires.codes_bits.1, eq-eqb _ _ c.if-k-eq-HMMIX.true); block_order = c.requires.block_order }
+code_axes-requires c = record { codes_parts = (codes-parts c.requires.codes_bits.0 c.bits_before-at.ensures c.requires.codes_bits.1, sym c.one_axis.ensures ∙ c.if-one_axis.true); block_order = c.requires.block_order }
 
-pub returns-then-k-eq-HMMIX : goal.returns-then-k-eq-HMMIX
+pub returns-then-one_axis : goal.returns-then-one_axis
 unfolding one_axis
-returns-then-k-eq-HMMIX c = record { out_after = axis-cells c.requires.codes_bits.0 c.bits_before-at.ensures (eq-eqb _ _ c.if-k-eq-HMMIX.true) c.code_axes.ensures.out_after; bits_left = bits_left c.requires.codes_bits.0 c.bits_before-at.ensures c.code_axes.ensures.parts_left }
+returns-then-one_axis c = record { out_after = axis-cells c.requires.codes_bits.0 c.bits_before-at.ensures (sym c.one_axis.ensures ∙ c.if-one_axis.true) c.code_axes.ensures.out_after; bits_left = bits_left c.requires.codes_bits.0 c.bits_before-at.ensures c.code_axes.ensures.parts_left }
 
 pub slice_bounds-code_both-end : goal.slice_bounds-code_both-end
 slice_bounds-code_both-end c = part-a c.requires.codes_bits.0 c.bits_before-at.ensures
@@ -36,8 +36,8 @@ slice_bounds-code_both-start-2 c = part-a c.requires.codes_bits.0 c.bits_before-
 
 pub code_both-requires : goal.code_both-requires
 unfolding one_axis
-code_both-requires c = record { codes_parts = (codes-parts c.requires.codes_bits.0 c.bits_before-at.ensures c.requires.codes_bits.1, ne_eqb _ _ c.if-k-eq-HMMIX.false); block_order = c.requires.block_order }
+code_both-requires c = record { codes_parts = (codes-parts c.requires.codes_bits.0 c.bits_before-at.ensures c.requires.codes_bits.1, sym c.one_axis.ensures ∙ c.if-one_axis.false); block_order = c.requires.block_order }
 
 pub returns : goal.returns
 unfolding one_axis
-returns c = record { out_after = both_cells c.requires.codes_bits.0 c.bits_before-at.ensures (ne_eqb _ _ c.if-k-eq-HMMIX.false) c.code_both.ensures.out_after; bits_left = bits_left c.requires.codes_bits.0 c.bits_before-at.ensures c.code_both.ensures.parts_left }
+returns c = record { out_after = both_cells c.requires.codes_bits.0 c.bits_before-at.ensures (sym c.one_axis.ensures ∙ c.if-one_axis.false) c.code_both.ensures.out_after; bits_left = bits_left c.requires.codes_bits.0 c.bits_before-at.ensures c.code_both.ensures.parts_left }

@@ -2,7 +2,7 @@
 use native.Mathlib.Omega.{arith}
 use borrow.Author.Rules.{rules}
 use Rattle.blockplaces.specs.Clauses.{level_at}
-use Rattle.blockplaces.proofs.Orders.{some_share, turns_low, level_low_lem, places_low, tabled_start, tabled_turn, next_room, level_places, block_ordered, block_over_lem}
+use Rattle.blockplaces.proofs.Orders.{some_share, level_low_lem, places_low, tabled_start, tabled_turn, next_room, level_places, block_ordered, block_over_lem}
 use Rattle.blockplaces.proofs.tables.block_places.Goals as goal
 
 pub level_bits-n-requires : goal.level_bits-n-requires
@@ -12,7 +12,7 @@ pub nonzero_div-count : goal.nonzero_div-count
 nonzero_div-count c = omega (arith, some_share c.requires c.level_bits-n.ensures c.sharing-step.ensures)
 
 pub loop-i-init : goal.loop-i-init
-loop-i-init c = (omega arith, tabled_start _ _ _)
+loop-i-init c = tabled_start _ _ _
 
 pub overflow_mul-step : goal.overflow_mul-step
 overflow_mul-step c = omega (arith, level_low_lem c.requires c.level_bits-n.ensures c.sharing-step.ensures c.loop-i.i c.loop-i-test.true, c.requires.fits.few)
@@ -39,21 +39,18 @@ pub offset_bounds-out-i : goal.offset_bounds-out-i
 offset_bounds-out-i c = omega (arith, places_low c.requires c.level_bits-n.ensures c.sharing-step.ensures c.loop-i.i c.loop-i-test.true)
 
 pub slice_bounds-level_places-end : goal.slice_bounds-level_places-end
-slice_bounds-level_places-end c = omega (arith, next_room c.requires c.level_bits-n.ensures c.sharing-step.ensures c.loop-i.invariant.1 c.loop-i-test.true)
+slice_bounds-level_places-end c = omega (arith, next_room c.requires c.level_bits-n.ensures c.sharing-step.ensures c.loop-i.invariant c.loop-i-test.true)
 
 pub level_places-requires : goal.level_places-requires
 unfolding level_at
-level_places-requires c = level_places c.requires c.level_bits-n.ensures c.sharing-step.ensures c.loop-i.invariant.1 c.loop-i-test.true
-
-pub overflow_add-i-in-loop-i-2 : goal.overflow_add-i-in-loop-i-2
-overflow_add-i-in-loop-i-2 c = omega (arith, turns_low c.requires c.level_bits-n.ensures c.sharing-step.ensures c.loop-i.i c.loop-i-test.true)
+level_places-requires c = level_places c.requires c.level_bits-n.ensures c.sharing-step.ensures c.loop-i.invariant c.loop-i-test.true
 
 pub loop-i-preserved : goal.loop-i-preserved
 unfolding level_at
-loop-i-preserved c = (omega arith, tabled_turn c.loop-i.invariant.1 (next_room c.requires c.level_bits-n.ensures c.sharing-step.ensures c.loop-i.invariant.1 c.loop-i-test.true) c.level_places.new.out c.level_places.auto.out c.level_places.ensures.level_order c.level_places.ensures.out_after)
+loop-i-preserved c = tabled_turn c.loop-i.invariant (next_room c.requires c.level_bits-n.ensures c.sharing-step.ensures c.loop-i.invariant c.loop-i-test.true) c.level_places.new.out c.level_places.auto.out c.level_places.ensures.level_order c.level_places.ensures.out_after
 
 pub shape_of-out : goal.shape_of-out
-shape_of-out c = c.loop-i.invariant.1.long
+shape_of-out c = c.loop-i.invariant.long
 
 pub returns : goal.returns
-returns c = record { block_order = block_ordered c.requires c.level_bits-n.ensures c.sharing-step.ensures c.loop-i.invariant.1 (search rules); out_after = block_over_lem c.requires c.level_bits-n.ensures c.sharing-step.ensures c.loop-i.invariant.1 (search rules) c.loop-i.invariant.0 }
+returns c = record { block_order = block_ordered c.requires c.level_bits-n.ensures c.sharing-step.ensures c.loop-i.invariant (search rules); out_after = block_over_lem c.requires c.level_bits-n.ensures c.sharing-step.ensures c.loop-i.invariant (search rules) (search rules) }

@@ -1,12 +1,12 @@
 -- `tables::sharing` meets its contract. Assumes nothing.
-use borrow.Author.Tests.{eq-eqb, ne_eqb}
+use mathlib.Core.Path.{sym, ◌∙◌}
 use Rattle.block.specs.Block.{one_axis}
 use Rattle.blockplaces.proofs.tables.sharing.Goals as goal
 
-pub returns-then-k-eq-HMMIX : goal.returns-then-k-eq-HMMIX
+pub returns-then-one_axis : goal.returns-then-one_axis
 unfolding one_axis
-returns-then-k-eq-HMMIX c = rw (eq-eqb _ _ c.if-k-eq-HMMIX.true)
+returns-then-one_axis c = rw (sym c.one_axis.ensures ∙ c.if-one_axis.true)
 
 pub returns : goal.returns
 unfolding one_axis
-returns c = rw (ne_eqb _ _ c.if-k-eq-HMMIX.false)
+returns c = rw (sym c.one_axis.ensures ∙ c.if-one_axis.false)

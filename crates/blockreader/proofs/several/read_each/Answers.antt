@@ -31,7 +31,7 @@ pub slice_bounds-read_lent-end : goal.slice_bounds-read_lent-end
 slice_bounds-read_lent-end c = cells-within c.requires.several_lent.0 refl c.loop-i-test.true
 
 pub slice_bounds-again-end : goal.slice_bounds-again-end
-slice_bounds-again-end c = omega (arith, c.loop-i.invariant.4, c.coordinate_buffer-again.ensures.long, c.requires.several_lent.0.fits.most)
+slice_bounds-again-end c = omega (arith, c.loop-i.invariant.4, c.buffer-again.ensures.long, c.requires.several_lent.0.fits.most)
 
 pub overflow_add-to : goal.overflow_add-to
 overflow_add-to c = let h = bytes-within c.requires.several_lent.0 (bytes_are _ c.bit_count.ensures) c.loop-i-test.true in search rules
@@ -46,16 +46,13 @@ read_lent-requires c =
       block_lent = (
         block_lent p.several_lent.0 v.0 c.loop-i-test.true refl (bytes_are _ c.bit_count.ensures),
         work_same p.several_lent.1 v.1 v.2 v.3,
-        length-start _ _ (omega (arith, v.4, c.coordinate_buffer-again.ensures.long, p.several_lent.0.fits.most)),
+        length-start _ _ (omega (arith, v.4, c.buffer-again.ensures.long, p.several_lent.0.fits.most)),
       );
       block_order = p.block_order;
     }
 
 pub bounds-given-i : goal.bounds-given-i
 bounds-given-i c = omega (arith, c.loop-i-test.true, c.requires.several_lent.0.few)
-
-pub overflow_add-i : goal.overflow_add-i
-overflow_add-i c = omega (arith, c.loop-i-test.true, c.requires.several_lent.0.few)
 
 pub loop-i-preserved : goal.loop-i-preserved
 loop-i-preserved c =
@@ -77,9 +74,6 @@ overflow_mul-n c = omega (arith, c.requires.several_lent.0.fits.most)
 
 pub bit_count-requires : goal.bit_count-requires
 bit_count-requires c = c.requires.several_lent.0.fits
-
-pub loop-i-smaller : goal.loop-i-smaller
-loop-i-smaller c = omega (arith, c.loop-i-test.true)
 
 pub shape_of-bits : goal.shape_of-bits
 shape_of-bits c = c.loop-i.invariant.1

@@ -1,6 +1,6 @@
 -- `level_labels` meets its contract. Assumes nothing.
 use native.Mathlib.Omega.{arith}
-use borrow.Author.Tests.{eq-eqb, ne_eqb}
+use mathlib.Core.Path.{sym, ◌∙◌}
 use Rattle.lists.proofs.Parts.{length-start}
 use Rattle.block.specs.Block.{one_axis}
 use Rattle.candidate.proofs.CellsRead.{cells_low, unmaps_axis, axis-made, unmaps, both_made}
@@ -8,19 +8,19 @@ use Rattle.candidate.proofs.read.level_labels.Goals as goal
 
 pub unmap_axis-requires : goal.unmap_axis-requires
 unfolding one_axis
-unmap_axis-requires c = let p = c.requires in unmaps_axis p (eq-eqb _ _ c.if-k-eq-HMMIX.true) (length-start _ _ (omega (arith, cells_low p)))
+unmap_axis-requires c = let p = c.requires in unmaps_axis p (sym c.one_axis.ensures ∙ c.if-one_axis.true) (length-start _ _ (omega (arith, cells_low p)))
 
-pub returns-then-k-eq-HMMIX : goal.returns-then-k-eq-HMMIX
+pub returns-then-one_axis : goal.returns-then-one_axis
 unfolding one_axis
-returns-then-k-eq-HMMIX c = axis-made c.requires (eq-eqb _ _ c.if-k-eq-HMMIX.true) c.unmap_axis.auto.out c.unmap_axis.ensures
+returns-then-one_axis c = axis-made c.requires (sym c.one_axis.ensures ∙ c.if-one_axis.true) c.unmap_axis.auto.out c.unmap_axis.ensures
 
 pub unmap_cells-requires : goal.unmap_cells-requires
 unfolding one_axis
-unmap_cells-requires c = let p = c.requires in unmaps p (ne_eqb _ _ c.if-k-eq-HMMIX.false) (length-start _ _ (cells_low p))
+unmap_cells-requires c = let p = c.requires in unmaps p (sym c.one_axis.ensures ∙ c.if-one_axis.false) (length-start _ _ (cells_low p))
 
 pub returns : goal.returns
 unfolding one_axis
-returns c = both_made c.requires (ne_eqb _ _ c.if-k-eq-HMMIX.false) c.unmap_cells.auto.out c.unmap_cells.ensures
+returns c = both_made c.requires (sym c.one_axis.ensures ∙ c.if-one_axis.false) c.unmap_cells.auto.out c.unmap_cells.ensures
 
 pub slice_bounds-unmap_axis-end : goal.slice_bounds-unmap_axis-end
 slice_bounds-unmap_axis-end c = let h = cells_low c.requires in omega arith

@@ -1,5 +1,5 @@
 -- `read_cells` meets its contract. Assumes nothing.
-use borrow.Author.Tests.{eq-eqb, ne_eqb}
+use mathlib.Core.Path.{sym, ◌∙◌}
 use Rattle.block.specs.Block.{one_axis}
 use Rattle.candidate.proofs.CellsRead.{some-axis, second_axis, same_room, both_bits, both_left, axes-bits, axes-left}
 use Rattle.candidate.proofs.read.read_cells.Goals as goal
@@ -7,13 +7,13 @@ use Rattle.candidate.proofs.read.read_cells.Goals as goal
 pub read_axis-requires : goal.read_axis-requires
 read_axis-requires c = let p = c.requires in record { reads_candidate = (p.reads_candidate, some-axis _); block_order = p.block_order }
 
-pub returns-then-k-ne-HMMIX : goal.returns-then-k-ne-HMMIX
+pub returns-then-not-one_axis : goal.returns-then-not-one_axis
 unfolding one_axis
-returns-then-k-ne-HMMIX c =
+returns-then-not-one_axis c =
     let b = c in
     let p = b.requires.reads_candidate in
     let r = b.read_axis.ensures in
-    let one = ne_eqb _ _ c.if-k-ne-HMMIX.true in
+    let one = sym c.one_axis.ensures ∙ c.if-not-one_axis.true in
     record { bits_after = both_bits p one r.levels_read; levels_taken = both_left p one r.labels_after r.coded_after }
 
 pub read_axis-requires-2 : goal.read_axis-requires-2
@@ -21,7 +21,7 @@ unfolding one_axis
 read_axis-requires-2 c =
     let p = c.requires in
     let r = c.read_axis.auto in
-    record { reads_candidate = (same_room p.reads_candidate r.labels r.coded r.bits, second_axis p.reads_candidate (eq-eqb _ _ c.if-k-ne-HMMIX.false)); block_order = p.block_order }
+    record { reads_candidate = (same_room p.reads_candidate r.labels r.coded r.bits, second_axis p.reads_candidate (sym c.one_axis.ensures ∙ c.if-not-one_axis.false)); block_order = p.block_order }
 
 pub returns : goal.returns
 unfolding one_axis
@@ -30,5 +30,5 @@ returns c =
     let p = b.requires.reads_candidate in
     let r = b.read_axis.ensures in
     let s = c.read_axis-2.ensures in
-    let one = eq-eqb _ _ c.if-k-ne-HMMIX.false in
+    let one = sym c.one_axis.ensures ∙ c.if-not-one_axis.false in
     record { bits_after = axes-bits p one r.levels_read s.levels_read; levels_taken = axes-left p one r.labels_after s.labels_after r.coded_after s.coded_after }

@@ -8,7 +8,7 @@ use Rattle.cellbytes.proofs.cells.to_bytes.Goals as goal
 pub loop-i-preserved : goal.loop-i-preserved
 loop-i-preserved c =
     let l = c.loop-i in
-    (omega arith, filled_turn _ _ _ _ _ _ (search rules) (byte_made _ _ _ c.cell_byte-arg-1.given c.cell_byte-arg-in-loop-i-1.given c.cell_byte.ensures) l.invariant.1)
+    (omega arith, filled_turn _ _ _ _ _ _ (search rules) (byte_made _ _ _ (search rules) (search rules) c.cell_byte.ensures) l.invariant.1)
 
 pub returns : goal.returns
 returns c =

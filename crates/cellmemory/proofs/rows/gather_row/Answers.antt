@@ -43,6 +43,3 @@ bounds-memory-at c = (cell_there c.loop-i.invariant.0 c.loop-i-test.true).cell_i
 
 pub bounds-out-i : goal.bounds-out-i
 bounds-out-i c = omega (arith, c.loop-i-test.true, c.loop-i.invariant.1.long)
-
-pub overflow_add-i : goal.overflow_add-i
-overflow_add-i c = (cell_there c.loop-i.invariant.0 c.loop-i-test.true).next_fits

@@ -62,6 +62,3 @@ overflow_add-at c = (cell_there c.loop-i.invariant.0 c.loop-i-test.true).sum_fit
 
 pub next_modulo-delay-requires : goal.next_modulo-delay-requires
 next_modulo-delay-requires c = c.loop-i.invariant.1.1.delayed.delay_low
-
-pub overflow_add-i : goal.overflow_add-i
-overflow_add-i c = let l = c in (cell_there l.loop-i.invariant.0 l.loop-i-test.true).next_fits

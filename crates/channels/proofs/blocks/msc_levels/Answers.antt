@@ -13,17 +13,17 @@ pub loop-i-preserved : goal.loop-i-preserved
 loop-i-preserved c =
     let l = c in
     let long = ap length l.no_levels-levels.ensures ∙ length-replicate 6 no_level in
-    (filled_turn no_level _ _ _ _ _ (omega (arith, long, c.loop-i-test.true)) c.msc_level.ensures l.loop-i.invariant.0, omega (arith, c.loop-i-test.true))
+    filled_turn no_level _ _ _ _ _ (omega (arith, long)) c.msc_level.ensures l.loop-i.invariant
 
 pub returns : goal.returns
 returns c =
     let l = c in
     let s = l in
-    let e : l.loop-i.i ≡ 6 = omega (arith, l.loop-i.invariant.1, c.loop-i-test.false) in
-    filled_end no_level _ _ _ 6 (ap length l.no_levels-levels.ensures ∙ length-replicate 6 no_level) (rw e at l.loop-i.invariant.0) ∙ six-table (msc_levels s.args.s) (few_of s.requires)
+    let e : l.loop-i.i ≡ 6 = omega arith in
+    filled_end no_level _ _ _ 6 (ap length l.no_levels-levels.ensures ∙ length-replicate 6 no_level) (rw e at l.loop-i.invariant) ∙ six-table (msc_levels s.args.s) (few_of s.requires)
 
 pub loop-i-init : goal.loop-i-init
-loop-i-init c = (filled-start no_level _ _, omega arith)
+loop-i-init c = filled-start no_level _ _
 
 pub msc_level-requires : goal.msc_level-requires
 msc_level-requires c = record { accepted = c.requires; low = c.loop-i-test.true }

@@ -15,9 +15,9 @@ code_block-requires c =
     let p = c.requires in
     rw c.sdc_block.ensures (sdc-lent (scheme-accepted _ p.fits.scheme) p.bytes.sdclong p.cells.sdclong)
 
-pub code_msc-after-requires : goal.code_msc-after-requires
+pub code_msc-requires : goal.code_msc-requires
 unfolding memory_length
-code_msc-after-requires c =
+code_msc-requires c =
     let p = c.requires in
     record {
       fits = record { allowed = scheme-accepted _ p.fits.scheme; position = p.order.position; count = p.order.count; slots = p.fits.long };
@@ -27,7 +27,7 @@ code_msc-after-requires c =
 
 pub returns : goal.returns
 returns c =
-    accepted-call _ _ _ _ _ _ _ _ _ _ _ _ _ c.code_msc-after.ensures c.code_fac.ensures
+    accepted-call _ _ _ _ _ _ _ _ _ _ _ _ _ c.code_msc.ensures c.code_fac.ensures
     (rw c.sdc_block.ensures at c.code_block.ensures)
 
 pub sdc_block-requires : goal.sdc_block-requires

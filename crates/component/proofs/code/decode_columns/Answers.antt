@@ -10,7 +10,7 @@ use Rattle.component.proofs.code.decode_columns.Goals as goal
 pub bounds-coded-at : goal.bounds-coded-at
 bounds-coded-at c =
     let l = c in
-    omega (arith, room l.requires.0 l.loop-j.invariant.0 (search rules))
+    omega (arith, room l.requires.0 l.loop-place.invariant.0 (search rules))
 
 pub next-register-requires : goal.next-register-requires
 next-register-requires c = (search rules, rw c.newest-bit.ensures (omega arith))
@@ -18,40 +18,40 @@ next-register-requires c = (search rules, rw c.newest-bit.ensures (omega arith))
 pub offset_bounds-widths-i : goal.offset_bounds-widths-i
 offset_bounds-widths-i c =
     let l = c in
-    omega (arith, l.loop-j.invariant.0.column, l.requires.1.few)
+    omega (arith, l.loop-place.invariant.0.column, l.requires.1.few)
 
 pub bounds-widths-i : goal.bounds-widths-i
 bounds-widths-i c =
     let l = c in
-    omega (arith, l.loop-j.invariant.0.column, l.requires.1.there)
+    omega (arith, l.loop-place.invariant.0.column, l.requires.1.there)
 
 pub overflow_add-at : goal.overflow_add-at
 overflow_add-at c =
     let l = c in
     let s = l in
-    omega (arith, s.requires.1.known l.loop-j.i l.loop-j.invariant.0.column, room s.requires.0 l.loop-j.invariant.0 (search rules))
+    omega (arith, s.requires.1.known l.loop-place.i l.loop-place.invariant.0.column, room s.requires.0 l.loop-place.invariant.0 (search rules))
 
-pub loop-j-preserved : goal.loop-j-preserved
+pub loop-place-preserved : goal.loop-place-preserved
 unfolding following
-loop-j-preserved c =
+loop-place-preserved c =
     let l = c in
     let s = l in
     let e = c.newest-bit.ensures in
     let n = c.next-register.ensures in (
       turn
           s.requires.0
-          l.loop-j.invariant.0
+          l.loop-place.invariant.0
           (search rules)
-          (newest_older _ _ _ _ e l.loop-j.invariant.1)
+          (newest_older _ _ _ _ e l.loop-place.invariant.1)
           refl
           n
-          (omega (arith, s.requires.1.known l.loop-j.i l.loop-j.invariant.0.column))
+          (omega (arith, s.requires.1.known l.loop-place.i l.loop-place.invariant.0.column))
           c.following-i.ensures,
-      older_turn _ _ _ _ _ l.loop-j.invariant.0.seven e n,
+      older_turn _ _ _ _ _ l.loop-place.invariant.0.seven e n,
     )
 
 pub returns : goal.returns
-returns c = done c.requires.0 c.loop-j.invariant.0 (search rules)
+returns c = done c.requires.0 c.loop-place.invariant.0 (search rules)
 
-pub loop-j-init : goal.loop-j-init
-loop-j-init c = (start c.requires.0, parity-first _)
+pub loop-place-init : goal.loop-place-init
+loop-place-init c = (start c.requires.0, parity-first _)

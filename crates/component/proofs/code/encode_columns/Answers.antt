@@ -6,20 +6,20 @@ use Rattle.component.proofs.code.encode_columns.Goals as goal
 
 pub next-register-requires : goal.next-register-requires
 next-register-requires c =
-    (search rules, c.requires.input.bit c.loop-j.j)
+    (search rules, c.requires.input.bit c.loop-bit.bit-index)
 
 pub keep_column-at-requires : goal.keep_column-at-requires
 keep_column-at-requires c =
     let l = c in
-    room l.requires l.loop-j.invariant (search rules) c.next-register.result
+    room l.requires l.loop-bit.invariant (search rules) c.next-register.result
 
-pub loop-j-preserved : goal.loop-j-preserved
+pub loop-bit-preserved : goal.loop-bit-preserved
 unfolding following
-loop-j-preserved c =
+loop-bit-preserved c =
     let l = c in
     turn
     l.requires
-    l.loop-j.invariant
+    l.loop-bit.invariant
     (search rules)
     c.next-register.ensures
     c.keep_column-at.ensures.0
@@ -27,7 +27,7 @@ loop-j-preserved c =
     c.following-i.ensures
 
 pub returns : goal.returns
-returns c = done c.requires c.loop-j.invariant (search rules)
+returns c = done c.requires c.loop-bit.invariant (search rules)
 
-pub loop-j-init : goal.loop-j-init
-loop-j-init c = start c.requires
+pub loop-bit-init : goal.loop-bit-init
+loop-bit-init c = start c.requires

@@ -5,5 +5,5 @@ use Rattle.component.proofs.code.following.Goals as goal
 pub returns-then-i-columns : goal.returns-then-i-columns
 returns-then-i-columns c = rw (lt-ltb _ _ c.if-i-columns.true)
 
-pub returns : goal.returns
-returns c = rw (le-ltb _ _ c.if-i-columns.false)
+pub returns-else-i-columns : goal.returns-else-i-columns
+returns-else-i-columns c = rw (le-ltb _ _ c.if-i-columns.false)

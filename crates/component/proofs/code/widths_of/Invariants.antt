@@ -1,5 +1,5 @@
 -- `widths_of` meets its contract. Assumes nothing.
-use Prim.Native.Nat.{◌-◌, ◌≤◌}
+use Prim.Native.Nat.{◌≤◌}
 use lib.ListN.{get_or, replicate}
 use lib.Count.{ones}
 use Rattle.lists.proofs.Tables.{Filled}
@@ -7,6 +7,3 @@ use Rattle.component.proofs.code.widths_of.Given as goal
 
 abbrev pub invariant-loop-i : goal.invariant-loop-i
 invariant-loop-i l = Filled 0 (λ k. ones (get_or l.columns k 0)) (replicate 8 0) l.widths l.i × (l.i ≤ 8)
-
-abbrev pub decreases-loop-i : goal.decreases-loop-i
-decreases-loop-i l = 8 - l.i

@@ -1,5 +1,5 @@
 use mathlib.Core.Path.{refl}
-use Rattle.console.proofs.Asked.{word_parsed, word-bad}
+use Rattle.console.proofs.Words.{word_parsed, word-bad}
 use Rattle.console.proofs.arguments.settings_word.Goals as goal
 
 pub returns-then-digits-ne20 : goal.returns-then-digits-ne20

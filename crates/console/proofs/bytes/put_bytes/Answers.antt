@@ -1,23 +1,18 @@
-use borrow.Author.Rules.{rules}
-use mathlib.Core.Path.{◌≡◌, refl, ◌∙◌}
+use Prim.Native.Nat.{◌+◌, ◌-◌}
+use mathlib.Core.Path.{◌≡◌, refl, sym, ◌∙◌}
 use native.Mathlib.Omega.{arith}
-use lib.ListN.{length, length-set}
-use Rattle.console.proofs.Copied.{copied_more, copied_all}
+use lib.ListN.{length}
+use Rattle.std.proofs.Common.{append_assoc}
+use lib.Seq.{sets-eq}
+use Rattle.std.proofs.lemmas.List.Edits.{paste_all}
+use Rattle.std.proofs.lemmas.Slice.{put_mid-paste}
 use Rattle.console.proofs.bytes.put_bytes.Goals as goal
-
-pub loop-k-preserved : goal.loop-k-preserved
-loop-k-preserved c =
-    let l = c.loop-k in
-    let i = l.invariant in
-    let a = c.args in
-    (copied_more 0 _ a.bytes.now l.out a.at l.k _ c.loop-k-test.true refl i.0, search rules, length-set l.out _ _ ∙ i.2)
 
 pub returns : goal.returns
 returns c =
-    let l = c.loop-k in
-    let b = c.args.bytes.now in
-    let e : l.k ≡ length b = omega (arith, l.invariant.1) in
-    copied_all 0 _ b _ _ l.k e l.invariant.0
-
-pub loop-k-init : goal.loop-k-init
-loop-k-init c = (refl, search rules, refl)
+    let a = c.args in
+    let n = length a.bytes.now in
+    let k : n ≡ a.at + n - a.at = omega arith in
+    put_mid-paste a.at _ a.out.now _ a.bytes.now n c.copy_from_slice.ensures.after k refl
+    ∙ paste_all a.out.now a.at a.bytes.now n refl
+    ∙ sym (rw append_assoc at (sets-eq a.bytes.now a.out.now a.at c.requires))

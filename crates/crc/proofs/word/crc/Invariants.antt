@@ -4,6 +4,3 @@ use Rattle.crc.proofs.word.crc.Given as goal
 
 abbrev pub invariant-loop-n : goal.invariant-loop-n
 invariant-loop-n l = Turning l.word l.register l.n
-
-abbrev pub decreases-loop-n : goal.decreases-loop-n
-decreases-loop-n l = l.n

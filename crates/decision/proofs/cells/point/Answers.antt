@@ -11,7 +11,6 @@ pub decide_axis-requires : goal.decide_axis-requires
 decide_axis-requires c =
     let s = c in
     record {
-      known = s.requires.known;
       finite = rw c.value_on.ensures (pair_finite _ s.args.m (rw c.in-Pair.is at s.requires.passed));
     }
 

@@ -1,11 +1,6 @@
 -- `divide` meets its contract. Assumes nothing.
-use Prim.Native.Nat.{◌-◌}
-use lib.ListN.{length}
 use Rattle.decoder.proofs.Dividing.{Dividing}
 use Rattle.decoder.proofs.segment.divide.Given as goal
 
 abbrev pub invariant-loop-j : goal.invariant-loop-j
 invariant-loop-j l = Dividing l.initial.products l.products l.j
-
-abbrev pub decreases-loop-j : goal.decreases-loop-j
-decreases-loop-j l = length l.initial.products - l.j

@@ -4,6 +4,3 @@ use Rattle.decoder.proofs.segment.multiply.Given as goal
 
 abbrev pub invariant-loop-j : goal.invariant-loop-j
 invariant-loop-j l = Multiplying l.step l.initial.bits l.bits l.j
-
-abbrev pub decreases-loop-j : goal.decreases-loop-j
-decreases-loop-j l = l.j

@@ -1,28 +1,20 @@
-use borrow.Author.Rules.{rules}
-use mathlib.Core.Path.{◌≡◌, refl, ◌∙◌}
+use Prim.Native.Nat.{◌*◌}
+use mathlib.Core.Path.{◌≡◌}
 use native.Mathlib.Omega.{arith}
-use lib.ListN.{length, length-set}
+use lib.ListN.{length}
 use Rattle.deskcells.specs.Cells.{cell_bytes}
-use Rattle.console.proofs.Copied.{copied_more, copied_all}
-use Rattle.deskcells.proofs.Turns.{byte_made, byte_there, cell_bytes_long}
+use Rattle.console.proofs.Copied.{copied_all}
+use Rattle.deskcells.proofs.Turns.{pair_stored, cell_bytes_long}
 use Rattle.deskcells.proofs.numbers.put_cells.Goals as goal
 
-pub loop-k-init : goal.loop-k-init
-loop-k-init c = (refl, search rules, search rules)
-
-pub loop-k-preserved : goal.loop-k-preserved
-loop-k-preserved c =
-    let l = c.loop-k in
-    let i = l.invariant in
-    let a = c.args in
-    let x = a.cells.now in
-    let h = c.loop-k-test.true in
-    let e = byte_made x l.k _ _ c.unsigned-arg-1.given c.unsigned.ensures c.byte_of.ensures in
-    (copied_more 0 _ (cell_bytes x) l.out a.at l.k _ (omega (arith, h, cell_bytes_long x)) (byte_there x l.k _ h e) i.0, search rules, length-set l.out _ _ ∙ i.2)
+pub loop-i-preserved : goal.loop-i-preserved
+loop-i-preserved c =
+    let l = c.loop-i in
+    pair_stored c.args.cells.now l.i c.args.at c.args.out.now l.out _ c.loop-i-test.true c.to_le_bytes-arg-1.given c.to_le_bytes.ensures l.invariant
 
 pub returns : goal.returns
 returns c =
-    let l = c.loop-k in
+    let l = c.loop-i in
     let x = c.args.cells.now in
-    let e : l.k ≡ length (cell_bytes x) = omega (arith, l.invariant.1, cell_bytes_long x) in
-    copied_all 0 _ (cell_bytes x) _ _ l.k e l.invariant.0
+    let e : 2 * l.i ≡ length (cell_bytes x) = omega (arith, cell_bytes_long x) in
+    copied_all 0 _ (cell_bytes x) _ _ (2 * l.i) e l.invariant

@@ -1,32 +1,33 @@
-use borrow.Author.Rules.{rules, sfits_of}
-use mathlib.Core.Path.{refl, ◌∙◌}
+use Prim.Native.Nat.{◌+◌, ◌*◌}
+use mathlib.Core.Path.{◌≡◌, ◌∙◌}
 use native.Mathlib.Nat.{zero-add}
 use native.Mathlib.Omega.{arith}
-use lib.ListN.{length-set}
+use lib.ListN.{length, get_or}
 use lib.IntN.{pos}
+use borrow.Author.Rules.{sfits_of}
 use mir.Syntax.{w16}
+use mir.Val.{to_z, of_z}
 use mir.Facts.{to_z-of_z}
 use Rattle.deskcells.specs.Cells.{bytes_cells}
 use Rattle.console.proofs.Copied.{copied_more, copied_all}
-use Rattle.deskcells.proofs.Turns.{number-made, number_there, bytes-cells_long}
+use Rattle.deskcells.proofs.Turns.{cell_there, bytes-cells_long}
 use Rattle.deskcells.proofs.numbers.take_cells.Goals as goal
 
 pub loop-i-preserved : goal.loop-i-preserved
 loop-i-preserved c =
     let l = c.loop-i in
-    let i = l.invariant in
-    let a = c.args in
+    let x = c.args.bytes.now in
     let h = c.loop-i-test.true in
-    let x = a.bytes.now in
-    let e = to_z-of_z {w = w16} (sfits_of {w = w16} c.signed.type_inv) ∙ number-made x l.i _ _ c.number_of.ensures c.signed.ensures in
-    let m = copied_more (pos 0) a.cells.now (bytes_cells x) l.cells 0 l.i _ (omega (arith, h, bytes-cells_long x)) (number_there x l.i _ h e) i.0 in
-    (rw zero-add at m, search rules, length-set l.cells _ _ ∙ i.2)
+    let r = c.from_le_bytes in
+    let b = c.type_inv.bytes in
+    let v : to_z w16 (of_z w16 r.result) ≡ get_or (bytes_cells x) l.i (pos 0) =
+    to_z-of_z {w = w16} (sfits_of {w = w16} r.type_inv) ∙ cell_there x l.i r.result h ((b (2 * l.i)).fits) ((b (2 * l.i + 1)).fits) r.ensures in
+    let m = copied_more (pos 0) c.args.cells.now (bytes_cells x) l.cells 0 l.i _ (omega (arith, h, bytes-cells_long x)) v l.invariant in
+    rw zero-add at m
 
 pub returns : goal.returns
 returns c =
     let l = c.loop-i in
     let x = c.args.bytes.now in
-    copied_all (pos 0) _ (bytes_cells x) _ _ l.i (omega (arith, l.invariant.1, bytes-cells_long x)) l.invariant.0
-
-pub loop-i-init : goal.loop-i-init
-loop-i-init c = (refl, search rules, refl)
+    let e : l.i ≡ length (bytes_cells x) = omega (arith, bytes-cells_long x) in
+    copied_all (pos 0) _ (bytes_cells x) _ _ l.i e l.invariant

@@ -2,6 +2,4 @@ use mathlib.Core.Path.{◌∙◌}
 use Rattle.drmcoder.proofs.calls.drm_reset.Goals as goal
 
 pub returns : goal.returns
-returns c =
-    let b = c in
-    b.reset_bytes.ensures ∙ rw b.standard_table-table.ensures
+returns c = c.reset_bytes.ensures ∙ rw c.standard_table.ensures

@@ -1,11 +1,7 @@
 -- `lay_columns` meets its contract. Assumes nothing.
-use Prim.Native.Nat.{◌-◌, ◌*◌}
-use lib.ListN.{length}
+use Prim.Native.Nat.{◌*◌}
 use Rattle.encoder.proofs.Rounds.{LayingColumns}
 use Rattle.encoder.proofs.segment.lay_columns.Given as goal
 
 abbrev pub invariant-loop-i : goal.invariant-loop-i
 invariant-loop-i l = LayingColumns l.pattern l.registers (2 * l.pairs) l.initial.out l.at-2 l.stride l.out l.at l.i
-
-abbrev pub decreases-loop-i : goal.decreases-loop-i
-decreases-loop-i l = length l.pattern - l.i

@@ -1,5 +1,5 @@
 -- `registers_of` meets its contract. Assumes nothing.
-use Prim.Native.Nat.{◌+◌, ◌-◌, ◌≤◌}
+use Prim.Native.Nat.{◌+◌, ◌≤◌}
 use lib.ListN.{length}
 use Rattle.lists.proofs.Tables.{Filled}
 use Rattle.component.specs.Coding.{register_at}
@@ -7,6 +7,3 @@ use Rattle.encoder.proofs.segment.registers_of.Given as goal
 
 abbrev pub invariant-loop-k : goal.invariant-loop-k
 invariant-loop-k l = Filled 0 (λ q. register_at l.bits (l.from + q)) l.initial.registers l.registers l.k × (l.k ≤ length l.initial.registers)
-
-abbrev pub decreases-loop-k : goal.decreases-loop-k
-decreases-loop-k l = length l.initial.registers - l.k

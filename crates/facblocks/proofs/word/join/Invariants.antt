@@ -1,10 +1,6 @@
 -- `join` meets its contract. Assumes nothing.
-use Prim.Native.Nat.{◌-◌}
 use Rattle.facblocks.proofs.Parameters.{Joining}
 use Rattle.facblocks.proofs.word.join.Given as goal
 
 abbrev pub invariant-loop-k : goal.invariant-loop-k
 invariant-loop-k l = Joining l.parameters l.word l.k
-
-abbrev pub decreases-loop-k : goal.decreases-loop-k
-decreases-loop-k l = 16 - l.k

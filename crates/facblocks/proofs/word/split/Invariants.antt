@@ -4,6 +4,3 @@ use Rattle.facblocks.proofs.word.split.Given as goal
 
 abbrev pub invariant-loop-k : goal.invariant-loop-k
 invariant-loop-k l = Splitting l.word l.left l.parameters l.k
-
-abbrev pub decreases-loop-k : goal.decreases-loop-k
-decreases-loop-k l = l.k

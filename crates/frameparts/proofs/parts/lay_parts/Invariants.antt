@@ -1,5 +1,5 @@
 -- `lay_parts` meets its contract. Assumes nothing.
-use Prim.Native.Nat.{◌-◌}
+use Prim.Native.Nat.{◌*◌}
 use mathlib.Core.Path.{◌≡◌}
 use mathlib.Core.List.{◌++◌}
 use lib.ListN.{length, drop}
@@ -9,10 +9,7 @@ use Rattle.frameparts.proofs.Loops.{left, Gone}
 use Rattle.frameparts.proofs.parts.lay_parts.Given as goal
 
 abbrev pub invariant-loop-k : goal.invariant-loop-k
-invariant-loop-k l = Gone l.numbers (length l.streams) l.toa l.tob l.from l.k
-    × (sets (sets l.parts l.toa (parts_a (lent_in (left l.numbers l.k) (drop l.from l.streams)))) l.tob (parts_b (lent_in (left l.numbers l.k) (drop l.from l.streams)))
+invariant-loop-k l = Gone l.numbers (length l.streams) l.toa l.tob l.from (2 * l.k)
+    × (sets (sets l.parts l.toa (parts_a (lent_in (left l.numbers (2 * l.k)) (drop l.from l.streams)))) l.tob (parts_b (lent_in (left l.numbers (2 * l.k)) (drop l.from l.streams)))
     ≡ parts_a (lent_in (shares_in l.numbers) l.streams) ++ parts_b (lent_in (shares_in l.numbers) l.streams))
     × (length l.parts ≡ length l.initial.parts)
-
-abbrev pub decreases-loop-k : goal.decreases-loop-k
-decreases-loop-k l = length l.numbers - l.k

@@ -53,10 +53,10 @@ pub msc_block-k-requires : goal.msc_block-k-requires
 msc_block-k-requires c = c.requires.fits.allowed
 
 pub read_several-given-requires : goal.read_several-given-requires
-read_several-given-requires c = let b = c in frames-lent b.requires b.loop-i.invariant b.loop-i-test.false c.msc_block-k.ensures c.clear.auto.bytes
+read_several-given-requires c = let b = c in frames-lent b.requires b.loop-i.invariant b.loop-i-test.false c.msc_block-k.ensures c.fill.auto.self
 
 pub shape_of-memory : goal.shape_of-memory
 shape_of-memory c = c.loop-i.invariant.same
 
 pub returns : goal.returns
-returns c = let b = c in rows_end b.requires b.loop-i.invariant b.loop-i-test.false c.msc_block-k.ensures c.clear.ensures c.read_several-given.ensures
+returns c = let b = c in rows_end b.requires b.loop-i.invariant b.loop-i-test.false c.msc_block-k.ensures (c.fill.ensures.after (λ y e. e)) c.read_several-given.ensures

@@ -1,4 +1,6 @@
 use native.Mathlib.Omega.{arith}
+use Rattle.std.specs.Prelude.{Ok}
+use Rattle.settings.specs.Sizes.{sizes_yield}
 use Rattle.console.specs.declared.Job.TheVariants.{Grid}
 use Rattle.jobs.proofs.Lengths.{grid_most, bytes_most}
 use Rattle.gridjobs.proofs.Placed.{half_grid, place_room, place_called}
@@ -22,4 +24,4 @@ pub returns : goal.returns
 returns c =
     let a = c in
     let w = c.place_with.ensures in
-    record { by_index = (λ memory. place_called a.args.state a.args.z memory _ _ a.args.bytes.now a.args.out.now _ _ a.requires.sizes c.numbers_in-cells.ensures.front c.numbers-grid.ensures (half_grid _ _ c.grid_length-n.ensures) (w.by_index memory)); length_in_bounds = w.length_in_bounds }
+    record { by_index = (λ memory. place_called a.args.state (sizes_yield (Ok a.args.z)) memory _ _ a.args.bytes.now a.args.out.now _ _ a.requires.sizes c.numbers_in-cells.ensures.front c.numbers-grid.ensures (half_grid _ _ c.grid_length-n.ensures) (w.by_index memory)); length_in_bounds = w.length_in_bounds }

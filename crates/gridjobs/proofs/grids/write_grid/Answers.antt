@@ -1,5 +1,4 @@
 use mathlib.Core.Path.{sym, ◌∙◌}
-use native.Mathlib.Omega.{arith}
 use lib.ListN.{length}
 use Rattle.deskcells.specs.Cells.{cell_bytes}
 use Rattle.jobs.proofs.Joins.{joined-first}
@@ -8,7 +7,7 @@ use Rattle.jobs.proofs.Steps.{answered-refused, answered-through}
 use Rattle.gridjobs.proofs.grids.write_grid.Goals as goal
 
 pub returns-then-number-ne0 : goal.returns-then-number-ne0
-returns-then-number-ne0 c = let r = c.refused.ensures in record { by_index = (λ memory. r.by_index memory _ ∙ answered-refused _ _ memory _ _ c.if-number-ne0.true); length_in_bounds = omega (arith, r.length_value) }
+returns-then-number-ne0 c = let r = c.refused.ensures in record { by_index = (λ memory. r.by_index memory _ ∙ answered-refused _ _ memory _ _ c.if-number-ne0.true); length_in_bounds = rw r.nothing_written tt }
 
 pub returns : goal.returns
 returns c =

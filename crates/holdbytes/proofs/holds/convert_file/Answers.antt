@@ -1,5 +1,4 @@
 -- `convert_file` meets its contract. Assumes nothing.
-use borrow.Author.Rules.{rules}
 use borrow.Author.Tests.{ne_eqb}
 use Rattle.holdfile.specs.Convert.{convert_of}
 use Rattle.holdbytes.specs.Holds.{convert_bytes}
@@ -15,15 +14,3 @@ returns c =
 pub returns-then-settings-ne10 : goal.returns-then-settings-ne10
 unfolding convert_bytes
 returns-then-settings-ne10 c = rw (ne_eqb _ _ c.if-settings-ne10.true)
-
-pub settings_of-requires : goal.settings_of-requires
-unfolding convert_bytes
-settings_of-requires c = search rules
-
-pub convert-requires : goal.convert-requires
-unfolding convert_bytes
-convert-requires c = search rules
-
-pub shape_of-out : goal.shape_of-out
-unfolding convert_bytes
-shape_of-out c = search rules

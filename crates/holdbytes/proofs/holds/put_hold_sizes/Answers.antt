@@ -1,9 +1,7 @@
--- `put_hold_sizes` meets its contract. Assumes nothing.
-use Rattle.holdbytes.proofs.Sizes.{hold_sizes_stored, hold_sizes_refused}
+use Rattle.std.proofs.Common.{refl, Ok}
+use Rattle.holdfile.specs.Convert.{file_sizes_yield}
+use Rattle.holdbytes.proofs.Sizes.{hold_sizes_stored}
 use Rattle.holdbytes.proofs.holds.put_hold_sizes.Goals as goal
 
-pub returns-then-z-ne0 : goal.returns-then-z-ne0
-returns-then-z-ne0 c = hold_sizes_refused _ _ c.if-z-ne0.true
-
 pub returns : goal.returns
-returns c = hold_sizes_stored _ _ c.if-z-ne0.false c.requires
+returns c = rw c.in_ok-sizes.was (hold_sizes_stored (file_sizes_yield (Ok c.in_ok-sizes.sizes)) _ refl c.requires)

@@ -11,4 +11,4 @@ returns-then-not-take_file c = kept_memory _ _ _ _ _ _ c.take_file.ensures c.if-
 pub returns : goal.returns
 returns c =
     let b = c in
-    taken_memory _ _ _ _ _ _ b.take_file.ensures _ b.if-not-take_file.false c.copy.ensures
+    taken_memory _ _ _ _ _ _ b.take_file.ensures _ b.if-not-take_file.false c.copy_from_slice.ensures.after

@@ -2,26 +2,23 @@
 use mathlib.Core.Path.{◌∙◌, ap, sym}
 use Rattle.settings.proofs.Bounds.{accepted_of}
 use Rattle.holdlines.specs.Files.{file_length}
-use Rattle.holdfile.proofs.Turning.{refused_settings, refused_room, refused_file, file_turned}
+use Rattle.holdfile.proofs.Turning.{refused_room, refused_file, file_turned}
 use Rattle.holdfile.proofs.convert.convert.Goals as goal
-
-pub returns-then-number-ne0 : goal.returns-then-number-ne0
-returns-then-number-ne0 c = refused_settings _ _ _ _ _ c.refusal-number.ensures c.if-number-ne0.true
 
 pub returns-then-out-file_bytes : goal.returns-then-out-file_bytes
 returns-then-out-file_bytes c =
-    refused_room _ _ _ _ (sym c.refusal-number.ensures ∙ c.if-number-ne0.false) (λ e. c.if-out-file_bytes.true (e ∙ sym (c.file_bytes.ensures ∙ ap (λ k. file_length k c.args.s) c.other_form.ensures)))
+    refused_room _ _ _ _ (sym c.in_ok-check.ensures) (λ e. c.if-out-file_bytes.true (e ∙ sym (c.file_bytes.ensures ∙ ap (λ k. file_length k c.args.s) c.other_form.ensures)))
 
 pub returns-then-not-turn_file : goal.returns-then-not-turn_file
 returns-then-not-turn_file c =
-    refused_file _ _ _ _ (sym c.refusal-number.ensures ∙ c.if-number-ne0.false) (c.if-out-file_bytes.false ∙ c.file_bytes.ensures ∙ ap (λ k. file_length k c.args.s) c.other_form.ensures) _ _ c.turn_file.ensures c.if-not-turn_file.true
+    refused_file _ _ _ _ (sym c.in_ok-check.ensures) (c.if-out-file_bytes.false ∙ c.file_bytes.ensures ∙ ap (λ k. file_length k c.args.s) c.other_form.ensures) _ _ c.turn_file.ensures c.if-not-turn_file.true
 
 pub returns : goal.returns
 returns c =
-    file_turned _ _ _ _ (sym c.refusal-number.ensures ∙ c.if-number-ne0.false) (c.if-out-file_bytes.false ∙ c.file_bytes.ensures ∙ ap (λ k. file_length k c.args.s) c.other_form.ensures) _ _ c.turn_file.ensures c.if-not-turn_file.false
+    file_turned _ _ _ _ (sym c.in_ok-check.ensures) (c.if-out-file_bytes.false ∙ c.file_bytes.ensures ∙ ap (λ k. file_length k c.args.s) c.other_form.ensures) _ _ c.turn_file.ensures c.if-not-turn_file.false
 
 pub file_bytes-requires : goal.file_bytes-requires
-file_bytes-requires c = accepted_of _ (sym c.refusal-number.ensures ∙ c.if-number-ne0.false)
+file_bytes-requires c = accepted_of _ (sym c.in_ok-check.ensures)
 
 pub turn_file-requires : goal.turn_file-requires
-turn_file-requires c = (accepted_of _ (sym c.refusal-number.ensures ∙ c.if-number-ne0.false), c.if-out-file_bytes.false ∙ c.file_bytes.ensures ∙ ap (λ k. file_length k c.args.s) c.other_form.ensures)
+turn_file-requires c = (accepted_of _ (sym c.in_ok-check.ensures), c.if-out-file_bytes.false ∙ c.file_bytes.ensures ∙ ap (λ k. file_length k c.args.s) c.other_form.ensures)

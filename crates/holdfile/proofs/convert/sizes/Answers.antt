@@ -1,34 +1,28 @@
 -- `convert::sizes` meets its contract. Assumes nothing.
-use mathlib.Core.Path.{sym, ◌∙◌}
+use mathlib.Core.Path.{sym}
 use native.Mathlib.Omega.{arith}
 use Rattle.settings.proofs.Bounds.{accepted_of}
 use Rattle.holdlines.specs.declared.Form.TheVariants.{Old, New}
 use Rattle.holdlines.proofs.LineLengths.{file_few}
-use Rattle.holdfile.proofs.Turning.{sizes_refused, sizes_found}
+use Rattle.holdfile.proofs.Turning.{sizes_found}
 use Rattle.holdfile.proofs.convert.sizes.Goals as goal
-
-pub returns-then-number-ne0 : goal.returns-then-number-ne0
-returns-then-number-ne0 c = sizes_refused _ _ c.refusal-number.ensures c.if-number-ne0.true
 
 pub overflow_cast-result : goal.overflow_cast-result
 overflow_cast-result c =
-    let b = c in
-    let a = accepted_of _ (sym b.refusal-number.ensures ∙ b.if-number-ne0.false) in
-    omega (arith, c.file_bytes.ensures, file_few Old b.args.s a.ranges.mux_most)
+    let a = accepted_of _ (sym c.in_ok-check.ensures) in
+    omega (arith, c.file_bytes.ensures, file_few Old c.args.s a.ranges.mux_most)
 
 pub overflow_cast-result-2 : goal.overflow_cast-result-2
 overflow_cast-result-2 c =
-    let b = c in
-    let a = accepted_of _ (sym b.refusal-number.ensures ∙ b.if-number-ne0.false) in
-    omega (arith, c.file_bytes-2.ensures, file_few New b.args.s a.ranges.mux_most)
+    let a = accepted_of _ (sym c.in_ok-check.ensures) in
+    omega (arith, c.file_bytes-2.ensures, file_few New c.args.s a.ranges.mux_most)
 
 pub returns : goal.returns
 returns c =
-    let b = c in
-    sizes_found _ _ _ (sym b.refusal-number.ensures ∙ b.if-number-ne0.false) c.file_bytes.ensures c.file_bytes-2.ensures
+    sizes_found _ _ _ (sym c.in_ok-check.ensures) c.file_bytes.ensures c.file_bytes-2.ensures
 
 pub file_bytes-requires : goal.file_bytes-requires
-file_bytes-requires c = accepted_of _ (sym c.refusal-number.ensures ∙ c.if-number-ne0.false)
+file_bytes-requires c = accepted_of _ (sym c.in_ok-check.ensures)
 
 pub file_bytes-requires-2 : goal.file_bytes-requires-2
-file_bytes-requires-2 c = accepted_of _ (sym c.refusal-number.ensures ∙ c.if-number-ne0.false)
+file_bytes-requires-2 c = accepted_of _ (sym c.in_ok-check.ensures)

@@ -1,10 +1,6 @@
 -- `take_line` meets its contract. Assumes nothing.
-use Prim.Native.Nat.{◌-◌}
 use Rattle.holdreading.proofs.Taking.{Taking}
 use Rattle.holdreading.proofs.reading.take_line.Given as goal
 
 abbrev pub invariant-loop-i : goal.invariant-loop-i
 invariant-loop-i l = Taking l.form l.n l.line l.initial.memory l.from l.i l.memory
-
-abbrev pub decreases-loop-i : goal.decreases-loop-i
-decreases-loop-i l = l.n - l.i

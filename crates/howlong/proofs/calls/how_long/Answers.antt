@@ -4,40 +4,41 @@ use native.Mathlib.Omega.{arith}
 use borrow.Author.Rules.{rules}
 use lib.ListN.{length-set}
 use Rattle.howlong.specs.HowLong.{how_long_yield}
+use Rattle.settings.proofs.Bounds.{accepted_of}
 use Rattle.howlong.proofs.Counting.{counts, depth_few, mux_few, product-fits, product-fits_32, l2_is, numbers-made, three, third_there}
-use Rattle.howlong.proofs.Refusals.{taken, refused, yields}
+use Rattle.howlong.proofs.Refusals.{taken, yields}
 use Rattle.howlong.proofs.calls.how_long.Goals as goal
 
-pub returns-then-number-ne0 : goal.returns-then-number-ne0
-returns-then-number-ne0 c = refused _ _ _ _ c.how_long_refusal-number.ensures c.if-number-ne0.true
+pub all_lengths-l-requires : goal.all_lengths-l-requires
+all_lengths-l-requires c = let A = taken _ _ (sym c.in_ok-check_how_long.ensures) in accepted_of _ A.settings
 
 pub super_frames-requires : goal.super_frames-requires
-super_frames-requires c = let A = taken _ _ (sym c.how_long_refusal-number.ensures ∙ c.if-number-ne0.false) in counts _ A.settings A.no_a A.plain (l2_is _ A.settings c.lengths-l.ensures) (search rules)
+super_frames-requires c = let A = taken _ _ (sym c.in_ok-check_how_long.ensures) in counts _ A.settings A.no_a A.plain (l2_is _ A.settings c.all_lengths-l.ensures) (search rules)
 
 pub bounds-numbers-0 : goal.bounds-numbers-0
-bounds-numbers-0 c = let A = taken _ _ (sym c.how_long_refusal-number.ensures ∙ c.if-number-ne0.false) in omega (arith, A.three)
+bounds-numbers-0 c = let A = taken _ _ (sym c.in_ok-check_how_long.ensures) in omega (arith, A.three)
 
 pub overflow_mul-numbers : goal.overflow_mul-numbers
-overflow_mul-numbers c = let A = taken _ _ (sym c.how_long_refusal-number.ensures ∙ c.if-number-ne0.false) in product-fits _ _ (omega (arith, depth_few _ c.depth.ensures)) (mux_few _ A.settings c.n_mux.ensures)
+overflow_mul-numbers c = let A = taken _ _ (sym c.in_ok-check_how_long.ensures) in product-fits _ _ (omega (arith, depth_few _ c.depth.ensures)) (mux_few _ A.settings c.n_mux.ensures)
 
 pub overflow_cast-numbers-2 : goal.overflow_cast-numbers-2
-overflow_cast-numbers-2 c = let A = taken _ _ (sym c.how_long_refusal-number.ensures ∙ c.if-number-ne0.false) in product-fits_32 _ _ (omega (arith, depth_few _ c.depth.ensures)) (mux_few _ A.settings c.n_mux.ensures)
+overflow_cast-numbers-2 c = let A = taken _ _ (sym c.in_ok-check_how_long.ensures) in product-fits_32 _ _ (omega (arith, depth_few _ c.depth.ensures)) (mux_few _ A.settings c.n_mux.ensures)
 
 pub bounds-numbers-1 : goal.bounds-numbers-1
-bounds-numbers-1 c = let A = taken _ _ (sym c.how_long_refusal-number.ensures ∙ c.if-number-ne0.false) in omega (arith, A.three, length-set c.args.numbers.now 0 c.super_frames.result)
+bounds-numbers-1 c = let A = taken _ _ (sym c.in_ok-check_how_long.ensures) in omega (arith, A.three, length-set c.args.numbers.now 0 c.super_frames.result)
 
 pub zero_bits-requires : goal.zero_bits-requires
-zero_bits-requires c = let A = taken _ _ (sym c.how_long_refusal-number.ensures ∙ c.if-number-ne0.false) in counts _ A.settings A.no_a A.plain (l2_is _ A.settings c.lengths-l.ensures) (search rules)
+zero_bits-requires c = let A = taken _ _ (sym c.in_ok-check_how_long.ensures) in counts _ A.settings A.no_a A.plain (l2_is _ A.settings c.all_lengths-l.ensures) (search rules)
 
 pub bounds-numbers-2 : goal.bounds-numbers-2
 bounds-numbers-2 c =
-    let A = taken _ _ (sym c.how_long_refusal-number.ensures ∙ c.if-number-ne0.false) in
+    let A = taken _ _ (sym c.in_ok-check_how_long.ensures) in
     third_there c.args.numbers.now _ _ A.three
 
 pub returns : goal.returns
 returns c =
-    let A = taken _ _ (sym c.how_long_refusal-number.ensures ∙ c.if-number-ne0.false) in
+    let A = taken _ _ (sym c.in_ok-check_how_long.ensures) in
     ap (how_long_yield 0)
     (three c.args.numbers.now _ _ _ A.three
-    ∙ numbers-made _ _ (l2_is _ A.settings c.lengths-l.ensures) c.super_frames.ensures.0 c.depth.ensures c.n_mux.ensures c.zero_bits.ensures.0)
-    ∙ sym (yields _ _ c.args.numbers.now (sym c.how_long_refusal-number.ensures ∙ c.if-number-ne0.false))
+    ∙ numbers-made _ _ (l2_is _ A.settings c.all_lengths-l.ensures) c.super_frames.ensures.0 c.depth.ensures c.n_mux.ensures c.zero_bits.ensures.0)
+    ∙ sym (yields _ _ c.args.numbers.now (sym c.in_ok-check_how_long.ensures))

@@ -6,5 +6,5 @@ use Rattle.interleaver.proofs.table.keep.Goals as goal
 pub returns-then-x-n : goal.returns-then-x-n
 returns-then-x-n c = record { advanced = rw (lt-ltb _ _ c.if-x-n.true); written = refl }
 
-pub returns : goal.returns
-returns c = record { advanced = rw (le-ltb _ _ c.if-x-n.false); written = refl }
+pub returns-else-x-n : goal.returns-else-x-n
+returns-else-x-n c = record { advanced = rw (le-ltb _ _ c.if-x-n.false); written = refl }

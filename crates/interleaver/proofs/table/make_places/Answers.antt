@@ -1,7 +1,9 @@
 -- `table::make_places` meets its contract. Assumes nothing.
+use Prim.Native.Nat.{◌+◌, ◌*◌}
+use mathlib.Core.Path.{◌≡◌, refl}
 use native.Mathlib.Omega.{arith}
 use Rattle.interleaver.proofs.Places.{size-four}
-use Rattle.interleaver.proofs.Chains.{strides_fit, leads_second, leads_third, making_start, making_room, making_long, making_end, making_leads, making_small, making_first, making_second, making_third, making_fourth, making_turn}
+use Rattle.interleaver.proofs.Chains.{strides_fit, leads_second, leads_third, making_start, making_room, making_long, making_end, making_leads, making_first, making_second, making_third, making_fourth, making_turn, making_stop, turn_more}
 use Rattle.interleaver.proofs.table.make_places.Goals as goal
 
 pub overflow_mul-twice : goal.overflow_mul-twice
@@ -29,71 +31,67 @@ pub ahead-w-requires : goal.ahead-w-requires
 ahead-w-requires c =
     leads_third _ _ _ _ c.requires.fits c.size_of-s.ensures c.offset_of-q.ensures c.ahead-z.ensures
 
-pub loop-i-init : goal.loop-i-init
-loop-i-init c =
+pub loop-turn-init : goal.loop-turn-init
+loop-turn-init c =
     let m = c in
     making_start m.requires m.size_of-s.ensures m.offset_of-q.ensures c.ahead-z.ensures c.ahead-w.ensures
 
 pub keep-end-requires : goal.keep-end-requires
-keep-end-requires c = making_first c.loop-i.invariant c.loop-i-test.true
+keep-end-requires c = making_first c.loop-turn.invariant (turn_more c.loop-turn-test.true)
 
-pub keep-end-requires-in-loop-i : goal.keep-end-requires-in-loop-i
-keep-end-requires-in-loop-i c =
+pub keep-end-requires-in-loop-turn : goal.keep-end-requires-in-loop-turn
+keep-end-requires-in-loop-turn c =
     let one = c in
     let m = one in
-    making_second m.loop-i.invariant m.loop-i-test.true one.keep-end.ensures
+    making_second m.loop-turn.invariant (turn_more m.loop-turn-test.true) one.keep-end.ensures
 
-pub keep-end-requires-in-loop-i-2 : goal.keep-end-requires-in-loop-i-2
-keep-end-requires-in-loop-i-2 c =
+pub keep-end-requires-in-loop-turn-2 : goal.keep-end-requires-in-loop-turn-2
+keep-end-requires-in-loop-turn-2 c =
     let two = c in
     let one = two in
     let m = one in
-    making_third m.loop-i.invariant m.loop-i-test.true one.keep-end.ensures two.keep-end-in-loop-i.ensures
+    making_third m.loop-turn.invariant (turn_more m.loop-turn-test.true) one.keep-end.ensures two.keep-end-in-loop-turn.ensures
 
-pub keep-end-requires-in-loop-i-3 : goal.keep-end-requires-in-loop-i-3
-keep-end-requires-in-loop-i-3 c =
+pub keep-end-requires-in-loop-turn-3 : goal.keep-end-requires-in-loop-turn-3
+keep-end-requires-in-loop-turn-3 c =
     let three = c in
     let two = three in
     let one = two in
     let m = one in
-    making_fourth m.loop-i.invariant m.loop-i-test.true one.keep-end.ensures two.keep-end-in-loop-i.ensures three.keep-end-in-loop-i-2.ensures
+    making_fourth m.loop-turn.invariant (turn_more m.loop-turn-test.true) one.keep-end.ensures two.keep-end-in-loop-turn.ensures three.keep-end-in-loop-turn-2.ensures
 
 pub ahead-x-requires : goal.ahead-x-requires
-ahead-x-requires c = (making_leads c.loop-i.invariant).0
+ahead-x-requires c = (making_leads c.loop-turn.invariant).0
 
 pub ahead-y-requires : goal.ahead-y-requires
-ahead-y-requires c = (making_leads c.loop-i.invariant).1
+ahead-y-requires c = (making_leads c.loop-turn.invariant).1
 
-pub ahead-z-requires-in-loop-i : goal.ahead-z-requires-in-loop-i
-ahead-z-requires-in-loop-i c = (making_leads c.loop-i.invariant).2
+pub ahead-z-requires-in-loop-turn : goal.ahead-z-requires-in-loop-turn
+ahead-z-requires-in-loop-turn c = (making_leads c.loop-turn.invariant).2
 
-pub ahead-w-requires-in-loop-i : goal.ahead-w-requires-in-loop-i
-ahead-w-requires-in-loop-i c = (making_leads c.loop-i.invariant).3
+pub ahead-w-requires-in-loop-turn : goal.ahead-w-requires-in-loop-turn
+ahead-w-requires-in-loop-turn c = (making_leads c.loop-turn.invariant).3
 
-pub overflow_add-i : goal.overflow_add-i
-overflow_add-i c = omega (arith, making_small c.loop-i.invariant c.loop-i-test.true)
-
-pub loop-i-smaller : goal.loop-i-smaller
-loop-i-smaller c = omega (arith, c.loop-i-test.true)
-
-pub loop-i-preserved : goal.loop-i-preserved
-loop-i-preserved c =
+pub loop-turn-preserved : goal.loop-turn-preserved
+loop-turn-preserved c =
     let four = c in
     let three = four in
     let two = three in
     let one = two in
     let m = one in
-    making_turn m.loop-i.invariant m.loop-i-test.true one.keep-end.ensures two.keep-end-in-loop-i.ensures three.keep-end-in-loop-i-2.ensures four.keep-end-in-loop-i-3.ensures
-    c.ahead-x.ensures c.ahead-y.ensures c.ahead-z-in-loop-i.ensures c.ahead-w-in-loop-i.ensures
+    let e : 4 * (m.loop-turn._turn + 1) ≡ 4 * m.loop-turn._turn + 4 = omega arith in
+    rw e
+    (making_turn m.loop-turn.invariant (turn_more m.loop-turn-test.true) one.keep-end.ensures two.keep-end-in-loop-turn.ensures three.keep-end-in-loop-turn-2.ensures four.keep-end-in-loop-turn-3.ensures
+    c.ahead-x.ensures c.ahead-y.ensures c.ahead-z-in-loop-turn.ensures c.ahead-w-in-loop-turn.ensures)
 
 pub offset_of-q-requires : goal.offset_of-q-requires
 offset_of-q-requires c = omega (arith, c.size_of-s.ensures, size-four _ _ c.requires.fits.cycles)
 
 pub bounds-out-n : goal.bounds-out-n
-bounds-out-n c = making_room c.loop-i.invariant
+bounds-out-n c = making_room c.loop-turn.invariant
 
 pub shape_of-out : goal.shape_of-out
-shape_of-out c = making_long c.loop-i.invariant
+shape_of-out c = making_long c.loop-turn.invariant
 
 pub returns : goal.returns
-returns c = making_end c.loop-i.invariant c.loop-i-test.false
+returns c = making_end c.loop-turn.invariant (making_stop c.loop-turn.invariant refl c.loop-turn-test.false)

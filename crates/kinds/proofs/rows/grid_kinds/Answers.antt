@@ -7,9 +7,6 @@ use Rattle.kinds.proofs.rows.grid_kinds.Goals as goal
 pub loop-n-init : goal.loop-n-init
 loop-n-init c = walk_start _ _ _ _ _ c.requires c.frame_symbols-symbols.ensures c.carriers-carriers.ensures
 
-pub overflow_mul-symbols : goal.overflow_mul-symbols
-overflow_mul-symbols c = let w = c.loop-n.invariant in omega arith
-
 pub nonzero_div-n : goal.nonzero_div-n
 nonzero_div-n c = let h = here _ _ _ _ _ _ _ c.loop-n.invariant c.loop-n-test.true in omega arith
 
@@ -39,11 +36,6 @@ slice_bounds-symbol_kinds-end c =
 pub symbol_kinds-requires : goal.symbol_kinds-requires
 symbol_kinds-requires c = part-fits _ _ _ _ _ _ _ c.loop-n.invariant c.loop-n-test.true
 
-pub overflow_add-n-in-loop-n : goal.overflow_add-n-in-loop-n
-overflow_add-n-in-loop-n c =
-    let l = c in
-    omega (arith, c.loop-n-test.true, l.loop-n.invariant.most)
-
 pub loop-n-preserved : goal.loop-n-preserved
 loop-n-preserved c =
     let l = c in
@@ -54,3 +46,6 @@ shape_of-out c = c.loop-n.invariant.filled.long
 
 pub returns : goal.returns
 returns c = let l = c in walk_done _ _ _ _ _ _ l.loop-n.n l.loop-n.invariant c.loop-n-test.false
+
+pub overflow_mul-n-end : goal.overflow_mul-n-end
+overflow_mul-n-end c = let w = walk_start _ _ _ _ _ c.requires c.frame_symbols-symbols.ensures c.carriers-carriers.ensures in omega (arith, w.most)

@@ -1,10 +1,6 @@
 -- `kinds::grid_kinds` meets its contract. The loop's invariant: the kinds of the symbols before the nth are there. Assumes nothing.
-use Prim.Native.Nat.{◌-◌, ◌*◌}
 use Rattle.kinds.proofs.Symbols.{Walked}
 use Rattle.kinds.proofs.rows.grid_kinds.Given as goal
 
 abbrev pub invariant-loop-n : goal.invariant-loop-n
 invariant-loop-n l = Walked l.mode l.occupancy l.initial.out l.symbols l.carriers l.out l.n
-
-abbrev pub decreases-loop-n : goal.decreases-loop-n
-decreases-loop-n l = 3 * l.symbols - l.n

@@ -13,9 +13,9 @@ pub overflow_cast-end : goal.overflow_cast-end
 unfolding table list_number gathered carrier_list unused table84 frequency table86 table87 table88 table89 time table93 table94 table95 table96 fac_carriers
 overflow_cast-end c = starts_fit (c.args.mode * 27 + c.args.list + 1)
 
-pub overflow_cast-i : goal.overflow_cast-i
+pub overflow_cast-start : goal.overflow_cast-start
 unfolding table list_number gathered carrier_list unused table84 frequency table86 table87 table88 table89 time table93 table94 table95 table96 fac_carriers
-overflow_cast-i c = starts_fit (c.args.mode * 27 + c.args.list)
+overflow_cast-start c = starts_fit (c.args.mode * 27 + c.args.list)
 
 pub loop-i-init : goal.loop-i-init
 unfolding table list_number gathered carrier_list unused table84 frequency table86 table87 table88 table89 time table93 table94 table95 table96 fac_carriers

@@ -1,11 +1,7 @@
 -- `kinds::paint` meets its contract. The loop's invariant: what is left of the list leads to what the whole leads to. Assumes nothing.
-use Prim.Native.Nat.{◌-◌}
 use Rattle.kinds.specs.Clauses.{carrier_list}
 use Rattle.kinds.proofs.Paints.{Marking}
 use Rattle.kinds.proofs.rows.paint.Given as goal
 
 abbrev pub invariant-loop-i : goal.invariant-loop-i
 invariant-loop-i l = Marking (carrier_list l.mode l.list) l.kind l.initial.row l.carriers l.end l.row l.i
-
-abbrev pub decreases-loop-i : goal.decreases-loop-i
-decreases-loop-i l = l.end - l.i

@@ -1,30 +1,43 @@
 -- `kinds::paint_gain` meets its contract. The loop's invariant: the gain references before carrier k are painted. Assumes nothing.
+use Prim.Native.Nat.{ℕ, ◌+◌, ◌<◌}
+use mathlib.Core.Path.{◌≡◌}
+use mathlib.Core.List.{List}
 use native.Mathlib.Omega.{arith}
+use lib.ListN.{length, set}
+use Rattle.kinds.specs.References.{spacing}
 use Rattle.kinds.proofs.Bands.{spacing-some, spacing_most}
-use Rattle.kinds.proofs.Gains.{gains_start, gains_turn, gains_done}
+use Rattle.kinds.proofs.Gains.{Gains, gains_start, gains_turn, gains_done}
 use Rattle.kinds.proofs.rows.paint_gain.Goals as goal
 
 pub loop-k-init : goal.loop-k-init
-loop-k-init c = (c.spacing-spacing.ensures, rw c.offset-k.ensures (gains_start _ _ _ c.requires.mode_low))
+loop-k-init c = (c.spacing-k-step.ensures, rw c.offset-k.ensures (gains_start _ _ _ c.requires.mode_low))
 
 pub bounds-row-k : goal.bounds-row-k
 bounds-row-k c = let g = c.loop-k.invariant.1 in omega arith
 
-pub overflow_add-k : goal.overflow_add-k
-overflow_add-k c =
-    let b = c in
-    omega (arith, c.loop-k.invariant.0, spacing_most _ b.requires.mode_low, b.requires.long)
+pub nonzero_div-k-step : goal.nonzero_div-k-step
+nonzero_div-k-step c = omega (arith, c.spacing-k-step.ensures, spacing-some _ c.requires.mode_low)
+
+pub overflow_step-k : goal.overflow_step-k
+overflow_step-k c = omega (arith, c.loop-k.invariant.0, spacing_most _ c.requires.mode_low, c.requires.long)
 
 pub loop-k-smaller : goal.loop-k-smaller
 loop-k-smaller c =
     let b = c in
     omega (arith, c.loop-k.invariant.0, spacing-some _ b.requires.mode_low, c.loop-k-test.true, c.loop-k.invariant.1.filled.long)
 
+-- one gain reference more
+turn : {mode symbol k step : ℕ} {d row : List ℕ} → mode < 4 → length row ≡ length d → k < length d → (step ≡ spacing mode) × Gains mode symbol d row k
+    → (step ≡ spacing mode) × Gains mode symbol d (set row k 3) (k + step)
+turn {mode} {symbol} {k} {step} {d} {row} h l low I = (I.0, rw I.0 (gains_turn mode symbol d row k h low I.1))
+
 pub loop-k-preserved : goal.loop-k-preserved
-loop-k-preserved c =
-    let l = c.loop-k in
-    let b = c in
-    (l.invariant.0, rw l.invariant.0 (gains_turn _ _ _ _ l.k b.requires.mode_low (omega (arith, c.loop-k-test.true, l.invariant.1.filled.long)) l.invariant.1))
+loop-k-preserved c = turn c.requires.mode_low c.loop-k.auto.row c.loop-k-test.true c.loop-k.invariant
+
+pub returns-2 : goal.returns-2
+returns-2 c =
+    let t = turn c.requires.mode_low c.loop-k.auto.row c.loop-k-test.true c.loop-k.invariant in
+    gains_done _ _ _ _ (c.loop-k.k + c.spacing-k-step.result) (omega arith) t.1
 
 pub shape_of-row : goal.shape_of-row
 shape_of-row c = c.loop-k.invariant.1.filled.long

@@ -1,13 +1,8 @@
 -- `kinds::paint_gain` meets its contract. The loop's invariant: the gain references before carrier k are painted. Assumes nothing.
-use Prim.Native.Nat.{◌-◌}
 use mathlib.Core.Path.{◌≡◌}
-use lib.ListN.{length}
 use Rattle.kinds.specs.References.{spacing}
 use Rattle.kinds.proofs.Gains.{Gains}
 use Rattle.kinds.proofs.rows.paint_gain.Given as goal
 
 abbrev pub invariant-loop-k : goal.invariant-loop-k
-invariant-loop-k l = (l.spacing ≡ spacing l.mode) × Gains l.mode l.symbol l.initial.row l.row l.k
-
-abbrev pub decreases-loop-k : goal.decreases-loop-k
-decreases-loop-k l = length l.initial.row - l.k
+invariant-loop-k l = (l.k-step ≡ spacing l.mode) × Gains l.mode l.symbol l.initial.row l.row l.k

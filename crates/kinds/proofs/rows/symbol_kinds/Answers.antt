@@ -9,8 +9,8 @@ overflow_add-end c =
     let s = c in
     omega (arith, c.lower-first.ensures, s.requires.long, band_end _ _ s.requires.pairing)
 
-pub slice_bounds-copy-end : goal.slice_bounds-copy-end
-slice_bounds-copy-end c =
+pub slice_bounds-copy_from_slice-end : goal.slice_bounds-copy_from_slice-end
+slice_bounds-copy_from_slice-end c =
     let l = c in
     let p = l in
     let s = p in
@@ -25,4 +25,4 @@ returns c =
     let p = l in
     let d = p in
     let s = d in
-    symbol_copied _ _ _ _ _ _ _ _ _ _ s.requires.pairing d.data_kind.ensures d.data_row-row.ensures p.paint_symbol.ensures l.lower-first.ensures s.requires.long b.copy.ensures
+    symbol_copied _ _ _ _ _ _ _ _ _ _ s.requires.pairing d.data_kind.ensures d.data_row-row.ensures p.paint_symbol.ensures l.lower-first.ensures s.requires.long b.copy_from_slice.ensures.after

@@ -1,5 +1,6 @@
-use Rattle.kinds.proofs.Bands.{spacing_is}
+use Rattle.kinds.specs.References.{spacing}
 use Rattle.kinds.proofs.tables.spacing.Goals as goal
 
 pub returns : goal.returns
-returns c = spacing_is c.args.mode c.requires
+unfolding spacing
+returns c = c.gain_references.ensures.spacing

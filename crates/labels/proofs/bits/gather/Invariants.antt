@@ -1,12 +1,9 @@
 -- `bits::gather` meets its contract. The loop's invariant: the first i labels have their bits added. Assumes nothing.
-use Prim.Native.Nat.{ℕ, ◌+◌, ◌-◌, ◌*◌, ◌≤◌}
-use lib.ListN.{length, get_or}
+use Prim.Native.Nat.{ℕ, ◌+◌, ◌*◌}
+use lib.ListN.{get_or}
 use Rattle.lists.proofs.Tables.{Filled}
 use Rattle.labels.specs.Clauses.{gathered}
 use Rattle.labels.proofs.bits.gather.Given as goal
 
 abbrev pub invariant-loop-i : goal.invariant-loop-i
-invariant-loop-i l = (l.i ≤ length l.initial.labels) × Filled 0 (λ (k : ℕ). get_or l.initial.labels k 0 + l.weight * get_or (gathered l.places l.bits) k 0) l.initial.labels l.labels l.i
-
-abbrev pub decreases-loop-i : goal.decreases-loop-i
-decreases-loop-i l = length l.initial.labels - l.i
+invariant-loop-i l = Filled 0 (λ (k : ℕ). get_or l.initial.labels k 0 + l.weight * get_or (gathered l.places l.bits) k 0) l.initial.labels l.labels l.i

@@ -12,19 +12,17 @@ pub overflow_cast-p : goal.overflow_cast-p
 overflow_cast-p c = let R = c.requires in omega (arith, R.within.high, within_low R.within c.loop-i.i (omega arith))
 
 pub bounds-out-p : goal.bounds-out-p
-bounds-out-p c = let R = c.requires in omega (arith, R.same, within_low R.within c.loop-i.i (omega arith), c.loop-i.invariant.1.long)
+bounds-out-p c = let R = c.requires in omega (arith, R.same, within_low R.within c.loop-i.i (omega arith), c.loop-i.invariant.long)
 
 pub loop-i-preserved : goal.loop-i-preserved
 loop-i-preserved c =
     let l = c.loop-i in
-    let R = c.requires in (
-      omega arith,
-      scattering_turn _ (omega (arith, R.within.long)) (omega (arith, taken-length c.args.weight c.args.labels.now))
-          (c.weighed_bit.ensures ∙ sym (taken_at _ _ _ (omega arith))) l.invariant.1,
-    )
+    let R = c.requires in
+    scattering_turn _ (omega (arith, R.within.long)) (omega (arith, taken-length c.args.weight c.args.labels.now))
+    (c.weighed_bit.ensures ∙ sym (taken_at _ _ _ (omega arith))) l.invariant
 
 pub returns : goal.returns
-returns c = scattering_end (omega (arith, c.requires.within.long)) c.loop-i.invariant.1
+returns c = scattering_end (omega (arith, c.requires.within.long)) c.loop-i.invariant
 
 pub loop-i-init : goal.loop-i-init
-loop-i-init c = (omega arith, scattering_start _ _ _)
+loop-i-init c = scattering_start _ _ _

@@ -8,10 +8,10 @@ use Rattle.labels.proofs.bits.take_plain.Goals as goal
 pub loop-i-preserved : goal.loop-i-preserved
 loop-i-preserved c =
     let l = c.loop-i in
-    (omega arith, filled_turn _ _ _ _ _ _ (search rules) c.weighed_bit.ensures l.invariant.1)
+    filled_turn _ _ _ _ _ _ (search rules) c.weighed_bit.ensures l.invariant
 
 pub loop-i-init : goal.loop-i-init
-loop-i-init c = (omega arith, filled-start _ _ _)
+loop-i-init c = filled-start _ _ _
 
 pub returns : goal.returns
-returns c = taken-filled _ _ _ _ _ c.requires.same (omega arith) c.loop-i.invariant.1
+returns c = taken-filled _ _ _ _ _ c.requires.same (omega arith) c.loop-i.invariant

@@ -1,24 +1,29 @@
-use mathlib.Core.Path.{sym, ◌∙◌}
 use native.Mathlib.Omega.{arith}
-use Rattle.words.proofs.Answers.{answers}
-use Rattle.linejobs.proofs.Answered.{numbers_test, build_bad, build_refused, build_through}
+use Rattle.words.proofs.Answers.{answers, passed_on, no_refusal_zero}
+use mathlib.Core.Path.{refl}
+use Rattle.linejobs.proofs.Answered.{too_long, no_numbers, build_bad, build_refused, build_through}
 use Rattle.linejobs.proofs.fields.build_line.Goals as goal
 
-pub returns-then-not-line-whole : goal.returns-then-not-line-whole
-returns-then-not-line-whole c =
-    let b = c.bad.ensures in
-    let n = c.numbers-c in
-    let both = answers b (omega arith) (build_bad c.args.s _ _ (sym (numbers_test _ _ n.ensures) ∙ c.if-not-line-whole.true)) in record { out_after = both.0; length_bound = both.1 }
+pub returns-then-line-ge256 : goal.returns-then-line-ge256
+returns-then-line-ge256 c =
+    let both = answers c.bad.ensures tt (build_bad c.args.s _ _ (too_long _ c.if-line-ge256.true)) in
+    record { out_after = both.0; length_bound = both.1 }
 
-pub returns-then-number-ne0 : goal.returns-then-number-ne0
-returns-then-number-ne0 c =
-    let b = c.refused.ensures in
-    let n = c.numbers-c in
-    let both = answers b (omega arith) (build_refused c.args.s _ _ _ _ _ n.ensures (sym (numbers_test _ _ n.ensures) ∙ c.if-not-line-whole.false) c.build-number.ensures c.if-number-ne0.true) in record { out_after = both.0; length_bound = both.1 }
+pub returns-in_default : goal.returns-in_default
+returns-in_default c =
+    let both = answers c.bad-in_default.ensures tt (build_bad c.args.s _ _ (no_numbers _ c.if-line-ge256.false c.in_default.ensures)) in
+    record { out_after = both.0; length_bound = both.1 }
+
+pub returns-in_err-build : goal.returns-in_err-build
+returns-in_err-build c =
+    let q = c.in_err-build.field-0.0 in
+    let made = build_refused c.args.s _ _ _ _ _ c.if-line-ge256.false c.in-Some.ensures c.in_err-build.ensures (no_refusal_zero q) in
+    let both = passed_on q c.from_residual.ensures.1 made in
+    record { out_after = both.0; length_bound = both.1 }
 
 pub returns : goal.returns
 returns c =
-    let b = c.through.ensures in
-    let n = c.numbers-c in
     let p = c.put_block.ensures in
-    let both = answers b (omega (arith, p.within)) (build_through c.args.s _ _ _ _ _ n.ensures (sym (numbers_test _ _ n.ensures) ∙ c.if-not-line-whole.false) c.build-number.ensures c.if-number-ne0.false _ _ p) in record { out_after = both.0; length_bound = both.1 }
+    let made = build_through c.args.s _ _ _ _ _ c.if-line-ge256.false c.in-Some.ensures c.in_ok-build.ensures refl _ _ p in
+    let both = answers c.through.ensures (omega (arith, p.within)) made in
+    record { out_after = both.0; length_bound = both.1 }

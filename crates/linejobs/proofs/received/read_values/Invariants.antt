@@ -1,12 +1,7 @@
-use Prim.Native.Nat.{◌-◌, ◌≤◌}
-use mathlib.Core.Path.{◌≡◌}
-use lib.ListN.{length, take}
+use Rattle.std.proofs.Common.{◌≡◌, length, take}
 use lib.Seq.{sets}
 use Rattle.linejobs.specs.Nearest.{values_in}
 use Rattle.linejobs.proofs.received.read_values.Given as goal
 
 abbrev pub invariant-loop-i : goal.invariant-loop-i
-invariant-loop-i l = (l.values ≡ sets l.initial.values 0 (take l.i (values_in l.line))) × (l.i ≤ length l.line) × (length l.values ≡ length l.initial.values)
-
-abbrev pub decreases-loop-i : goal.decreases-loop-i
-decreases-loop-i l = length l.line - l.i
+invariant-loop-i l = (l.values ≡ sets l.initial.values 0 (take l.i (values_in l.line))) × (length l.values ≡ length l.initial.values)

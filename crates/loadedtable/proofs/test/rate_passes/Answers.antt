@@ -2,11 +2,11 @@
 use Rattle.patterns.specs.Loaded.{rate_passes}
 use Rattle.loadedtable.proofs.test.rate_passes.Goals as goal
 
-pub returns-then-not-first_row : goal.returns-then-not-first_row
+pub returns-then-first_row : goal.returns-then-first_row
 unfolding rate_passes
-returns-then-not-first_row c = rw (← c.first_row.ensures, c.if-not-first_row.true)
+returns-then-first_row c =
+    rw (← c.first_row.ensures, c.if-first_row.true, c.count.ensures, c.denominator.ensures)
 
-pub returns : goal.returns
+pub returns-else-first_row : goal.returns-else-first_row
 unfolding rate_passes
-returns c =
-    rw (← c.first_row.ensures, c.if-not-first_row.false, c.count.ensures, c.denominator.ensures)
+returns-else-first_row c = rw (← c.first_row.ensures, c.if-first_row.false)

@@ -1,21 +1,19 @@
 -- `rates_pass` meets its contract. Assumes nothing.
+use mathlib.Core.Path.{◌≡◌}
+use Prim.Native.Nat.{ℕ, ◌<◌}
 use borrow.Author.Rules.{rules}
-use Rattle.lists.proofs.Tests.{tested_start, tested_turn, tested_stop, tested_end}
+use Rattle.std.specs.Prelude.{IsTrue, ◌↔◌}
+use mathlib.Core.Bool.{true}
+use Rattle.std.proofs.iter.runs.Sources.{ranges}
+use Rattle.lists.specs.Bools.{every}
+use Rattle.lists.specs.Lists.{table}
+use Rattle.patterns.specs.Patterns.{RX}
 use Rattle.patterns.specs.Loaded.{rate_passes}
+use Rattle.lists.proofs.Bools.{table-is}
 use Rattle.loadedtable.proofs.test.rates_pass.Goals as goal
 
-pub returns-then-not-rate_passes : goal.returns-then-not-rate_passes
-returns-then-not-rate_passes c =
-    let l = c in
-    tested_stop (rate_passes _) 13 l.loop-rate.rate _ (search rules) c.rate_passes.ensures c.if-not-rate_passes.true l.loop-rate.invariant
-
-pub loop-rate-preserved : goal.loop-rate-preserved
-loop-rate-preserved c =
-    let l = c in
-    tested_turn (rate_passes _) 13 l.loop-rate.rate _ (search rules) c.rate_passes.ensures c.if-not-rate_passes.false l.loop-rate.invariant
-
-pub loop-rate-init : goal.loop-rate-init
-loop-rate-init c = tested_start _ _
-
 pub returns : goal.returns
-returns c = tested_end (rate_passes _) 13 c.loop-rate.rate (search rules) c.loop-rate.invariant
+unfolding rate_passes every table RX
+returns c =
+    let e : IsTrue c.all.result ↔ ((i : ℕ) → i < 13 → rate_passes c.args.kept.now i ≡ true) = search (rules, ranges) in
+    table-is (rate_passes c.args.kept.now) (λ i. rate_passes c.args.kept.now i ≡ true) 13 c.all.result (λ i h t. t) (λ i h t. t) e

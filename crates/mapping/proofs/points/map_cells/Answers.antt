@@ -18,24 +18,22 @@ loop-k-preserved c =
     let l = c.loop-k in
     let s = c in
     let K = constellation s.args.c in
-    let n = get_or s.args.labels.now l.k 0 in (
-      omega arith,
-      filled_turn _ _ _ _ _ _ (search rules)
-          (to_z-of_z {w = w16} (sfits_of {w = w16} c.coordinate_of.type_inv) ∙ c.coordinate_of.ensures
-          ∙ c.axis_labelling-l.ensures.each n (s.requires.low.low l.k)
-          ∙ ap (λ (m : List ℤ). get_or m n (pos 0)) (sym (alike s.args.c s.requires.known l.k))) l.invariant.1,
-    )
+    let n = get_or s.args.labels.now l.k 0 in
+    filled_turn _ _ _ _ _ _ (search rules)
+    (to_z-of_z {w = w16} (sfits_of {w = w16} c.coordinate_of.type_inv) ∙ c.coordinate_of.ensures
+    ∙ c.axis_labelling-l.ensures.each n (s.requires.low.low l.k)
+    ∙ ap (λ (m : List ℤ). get_or m n (pos 0)) (sym (alike s.args.c s.requires.one l.k))) l.invariant
 
 pub returns : goal.returns
 unfolding coordinates
 returns c =
     let l = c.loop-k in
     let s = c in
-    let e : l.k ≡ length s.args.labels.now = omega (arith, c.loop-k-test.false) in
-    filled_end _ _ _ _ _ s.requires.same (rw e at l.invariant.1)
+    let e : l.k ≡ length s.args.labels.now = omega arith in
+    filled_end _ _ _ _ _ s.requires.same (rw e at l.invariant)
 
 pub loop-k-init : goal.loop-k-init
-loop-k-init c = (search rules, filled-start _ _ _)
+loop-k-init c = filled-start _ _ _
 
 pub coordinate_of-requires : goal.coordinate_of-requires
 coordinate_of-requires c = (c.axis_labelling-l.ensures.fits, c.requires.low.low c.loop-k.k)

@@ -16,20 +16,18 @@ pub loop-k-preserved : goal.loop-k-preserved
 loop-k-preserved c =
     let l = c.loop-k in
     let s = c in
-    let v = get_or s.args.cells.now l.k (pos 0) in (
-      omega arith,
-      filled_turn _ _ _ _ _ _ (search rules)
-          (number_read s.args.c 0 (omega arith) v _ _ (sfits_of {w = w16} c.label_of-arg-1.given) c.axis_labels-labels.ensures c.label_of.ensures
-          ∙ ap (λ (m : List ℤ). place_of m v) (sym (alike s.args.c s.requires.known l.k))) l.invariant.1,
-    )
+    let v = get_or s.args.cells.now l.k (pos 0) in
+    filled_turn _ _ _ _ _ _ (search rules)
+    (number_read s.args.c 0 (omega arith) v _ _ (sfits_of {w = w16} c.label_of-arg-1.given) c.axis_labels-labels.ensures c.label_of.ensures
+    ∙ ap (λ (m : List ℤ). place_of m v) (sym (alike s.args.c s.requires.one l.k))) l.invariant
 
 pub returns : goal.returns
 unfolding labels_of
 returns c =
     let l = c.loop-k in
     let s = c in
-    let e : l.k ≡ length s.args.cells.now = omega (arith, c.loop-k-test.false, s.requires.same) in
-    filled_end _ _ _ _ _ s.requires.same (rw e at l.invariant.1)
+    let e : l.k ≡ length s.args.cells.now = omega (arith, s.requires.same) in
+    filled_end _ _ _ _ _ s.requires.same (rw e at l.invariant)
 
 pub loop-k-init : goal.loop-k-init
-loop-k-init c = (search rules, filled-start _ _ _)
+loop-k-init c = filled-start _ _ _

@@ -1,6 +1,6 @@
 -- `unmap_cells` meets its contract. Assumes nothing.
-use Prim.Native.Nat.{ℕ, ◌-◌, ◌≤◌}
-use lib.ListN.{length, get_or}
+use Prim.Native.Nat.{ℕ}
+use lib.ListN.{get_or}
 use lib.IntN.{pos}
 use Rattle.lists.proofs.Tables.{Filled}
 use Rattle.block.specs.Mapping.{constellation, axis}
@@ -8,7 +8,4 @@ use Rattle.block.specs.Reading.{place_of}
 use Rattle.mapping.proofs.points.unmap_cells.Given as goal
 
 abbrev pub invariant-loop-k : goal.invariant-loop-k
-invariant-loop-k l = (l.k ≤ length l.initial.out) × Filled 0 (λ (j : ℕ). place_of (axis (constellation l.c) j) (get_or l.cells j (pos 0))) l.initial.out l.out l.k
-
-abbrev pub decreases-loop-k : goal.decreases-loop-k
-decreases-loop-k l = length l.initial.out - l.k
+invariant-loop-k l = Filled 0 (λ (j : ℕ). place_of (axis (constellation l.fn.c) j) (get_or l.cells j (pos 0))) l.initial.out l.out l.k

@@ -1,5 +1,4 @@
 -- `all_pass` meets its contract. Assumes nothing.
-use Prim.Native.Nat.{◌-◌}
 use lib.ListN.{length}
 use Rattle.measured.specs.Calls.{pass_at}
 use Rattle.lists.proofs.Tests.{Tested}
@@ -7,6 +6,3 @@ use Rattle.measured.proofs.calls.all_pass.Given as goal
 
 abbrev pub invariant-loop-k : goal.invariant-loop-k
 invariant-loop-k l = Tested (pass_at l.kinds l.values) (length l.kinds) l.k
-
-abbrev pub decreases-loop-k : goal.decreases-loop-k
-decreases-loop-k l = length l.kinds - l.k

@@ -18,7 +18,6 @@ bit-requires c =
     let t = c in
     let p = t.requires in
     record {
-      known = p.known;
       low = p.low;
       is = rw (to_z-of_z {w = w16} (sfits_of {w = w16} c.bit-arg-1.given)) (point_is _ _ _ _ _ _ p.are p.number t.cell_at.ensures);
     }

@@ -20,7 +20,6 @@ pub point-requires : goal.point-requires
 point-requires c =
     let p = c.requires in
     record {
-      known = p.known;
       passed = cell_passed _ _ _ _ p.passed (omega (arith, p.room, c.loop-m-test.true, c.loop-m.invariant.0.long)) c.cell_at.ensures;
     }
 
@@ -36,7 +35,7 @@ loop-m-preserved c =
 pub returns : goal.returns
 returns c =
     let l = c in
-    points_done _ _ _ _ _ _ l.requires.room l.loop-m.invariant.1 c.loop-m-test.false l.loop-m.invariant.0
+    points_done _ _ _ _ _ _ l.requires.room l.loop-m.invariant.1 (omega (arith, l.loop-m.invariant.0.long, c.loop-m-test.false)) l.loop-m.invariant.0
 
 pub loop-m-init : goal.loop-m-init
 loop-m-init c = (filled-start (pos 0) _ _, search rules)

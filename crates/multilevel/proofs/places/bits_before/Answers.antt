@@ -9,22 +9,22 @@ use Rattle.multilevel.proofs.places.bits_before.Goals as goal
 
 pub loop-i-init : goal.loop-i-init
 unfolding bits_before
-loop-i-init c = (refl, search rules)
+loop-i-init c = refl
 
 pub overflow_add-sum : goal.overflow_add-sum
 unfolding level_at
 overflow_add-sum c =
     let l = c in
-    omega (arith, l.loop-i.invariant.0, before-fits c.requires l.loop-i.i (search rules), c.bits_in-sum.ensures)
+    omega (arith, l.loop-i.invariant, before-fits c.requires l.loop-i.i (search rules), c.bits_in-sum.ensures)
 
 pub loop-i-preserved : goal.loop-i-preserved
 unfolding level_at
 loop-i-preserved c =
     let l = c.loop-i in
-    (rw c.bits_in-sum.ensures (before-next _ _ l.i _ l.invariant.0), search rules)
+    rw c.bits_in-sum.ensures (before-next _ _ l.i _ l.invariant)
 
 pub returns : goal.returns
 returns c =
     let l = c.loop-i in
-    let e : l.i ≡ c.args.l = omega (arith, l.invariant.1) in
-    l.invariant.0 ∙ rw e
+    let e : l.i ≡ c.args.l = omega arith in
+    l.invariant ∙ rw e

@@ -1,11 +1,7 @@
 -- `bits_before` meets its contract. Assumes nothing.
-use Prim.Native.Nat.{◌-◌, ◌≤◌}
 use mathlib.Core.Path.{◌≡◌}
 use Rattle.multilevel.specs.Clauses.{bits_before}
 use Rattle.multilevel.proofs.places.bits_before.Given as goal
 
 abbrev pub invariant-loop-i : goal.invariant-loop-i
-invariant-loop-i l = (l.sum ≡ bits_before l.k.levels l.b l.i) × (l.i ≤ l.l)
-
-abbrev pub decreases-loop-i : goal.decreases-loop-i
-decreases-loop-i l = l.l - l.i
+invariant-loop-i l = l.sum ≡ bits_before l.k.levels l.b l.i

@@ -1,42 +1,40 @@
 -- `read::read_levels` meets its contract. Assumes nothing.
-use mathlib.Core.Path.{refl}
+use Prim.Native.Nat.{◌+◌, ◌-◌, ◌/◌}
+use mathlib.Core.Path.{◌≡◌, refl}
+use native.Mathlib.Nat.{sub-zero}
 use native.Mathlib.Omega.{arith}
 use Rattle.multilevel.proofs.Summing.{some-step}
-use Rattle.multilevel.proofs.Turns.{one_less, weight_low, next_near}
+use Rattle.multilevel.proofs.Turns.{weight_low, next_near}
 use Rattle.multilevel.proofs.LevelsRead.{start, reads_at, turned, done}
 use Rattle.multilevel.proofs.read.read_levels.Goals as goal
 
-pub nonzero_div-left : goal.nonzero_div-left
-nonzero_div-left c = some-step _ c.sharing-step.ensures
+pub nonzero_div-turn-end : goal.nonzero_div-turn-end
+nonzero_div-turn-end c = some-step _ c.sharing-step.ensures
 
-pub loop-left-init : goal.loop-left-init
-loop-left-init c = start c.requires c.sharing-step.ensures refl
+pub loop-turn-init : goal.loop-turn-init
+loop-turn-init c = rw sub-zero (start c.requires c.sharing-step.ensures refl)
 
 pub read_at-requires : goal.read_at-requires
-read_at-requires c = reads_at c.requires c.loop-left.invariant c.loop-left-test.true
+read_at-requires c = reads_at c.requires c.loop-turn.invariant (omega arith)
 
 pub overflow_add-l : goal.overflow_add-l
-overflow_add-l c = omega (arith, next_near c.loop-left.invariant.turn c.loop-left-test.true c.loop-left.invariant.few)
+overflow_add-l c = omega (arith, next_near c.loop-turn.invariant.turn (omega arith) c.loop-turn.invariant.few)
 
 pub overflow_mul-weight : goal.overflow_mul-weight
-overflow_mul-weight c = omega (arith, weight_low c.loop-left.invariant.turn c.loop-left-test.true)
+overflow_mul-weight c = omega (arith, weight_low c.loop-turn.invariant.turn (omega arith))
 
-pub loop-left-preserved : goal.loop-left-preserved
-loop-left-preserved c =
+pub loop-turn-preserved : goal.loop-turn-preserved
+loop-turn-preserved c =
     let r = c.read_at in
-    turned c.requires c.loop-left.invariant c.loop-left-test.true r.auto.bits r.auto.coded r.ensures.read_at_lem r.ensures.coded_after
+    let m = c.args.k.count / c.sharing-step.result in
+    let e : m - (c.loop-turn.turn + 1) ≡ m - c.loop-turn.turn - 1 = omega arith in
+    rw e (turned c.requires c.loop-turn.invariant (omega arith) r.auto.bits r.auto.coded r.ensures.read_at_lem r.ensures.coded_after)
 
 pub returns : goal.returns
-returns c = let both = done c.requires c.loop-left.invariant c.sharing-step.ensures refl c.loop-left-test.false in record { levels_read = both.0; coded_after = both.1 }
-
-pub overflow_sub-left : goal.overflow_sub-left
-overflow_sub-left c = c.loop-left-test.true
-
-pub loop-left-smaller : goal.loop-left-smaller
-loop-left-smaller c = one_less c.loop-left-test.true
+returns c = let both = done c.requires c.loop-turn.invariant c.sharing-step.ensures refl (omega arith) in record { levels_read = both.0; coded_after = both.1 }
 
 pub shape_of-coded : goal.shape_of-coded
-shape_of-coded c = c.loop-left.invariant.same_coded
+shape_of-coded c = c.loop-turn.invariant.same_coded
 
 pub shape_of-bits : goal.shape_of-bits
-shape_of-bits c = c.loop-left.invariant.same
+shape_of-bits c = c.loop-turn.invariant.same

@@ -4,29 +4,26 @@ use native.Mathlib.Omega.{arith}
 use Rattle.multiplex.specs.Read.{read_yield}
 use Rattle.multiplex.specs.Frame.{split_in, handed}
 use Rattle.multiplex.proofs.Layouts.{uncounted_low, uncounted_inside, buffers, shares_are}
-use Rattle.multiplex.proofs.Refusals.{read-accepted, read-yields, read-refused}
+use Rattle.multiplex.proofs.Refusals.{read-accepted, read-yields}
 use Rattle.multiplex.proofs.calls.read.Goals as goal
 
-pub returns-then-number-ne0 : goal.returns-then-number-ne0
-returns-then-number-ne0 c = read-refused _ _ _ _ _ c.read_refusal-number.ensures c.if-number-ne0.true
-
 pub layout-l-requires : goal.layout-l-requires
-layout-l-requires c = let A = read-accepted _ _ _ _ (sym c.read_refusal-number.ensures ∙ c.if-number-ne0.false) in record { s_value = A.settings; description_value = A.numbers }
+layout-l-requires c = let A = read-accepted _ _ _ _ (sym c.in_ok-check_read.ensures) in record { s_value = A.settings; description_value = A.numbers }
 
 pub offset_bounds-description-first : goal.offset_bounds-description-first
 offset_bounds-description-first c = omega (arith, c.uncounted-first.ensures, uncounted_low c.args.s.msc)
 
 pub slice_bounds-take_frame-count : goal.slice_bounds-take_frame-count
-slice_bounds-take_frame-count c = let A = read-accepted _ _ _ _ (sym c.read_refusal-number.ensures ∙ c.if-number-ne0.false) in uncounted_inside c.args.s c.args.description.now A.settings A.numbers c.uncounted-first.ensures
+slice_bounds-take_frame-count c = let A = read-accepted _ _ _ _ (sym c.in_ok-check_read.ensures) in uncounted_inside c.args.s c.args.description.now A.settings A.numbers c.uncounted-first.ensures
 
 pub slice_bounds-take_frame-start : goal.slice_bounds-take_frame-start
-slice_bounds-take_frame-start c = let A = read-accepted _ _ _ _ (sym c.read_refusal-number.ensures ∙ c.if-number-ne0.false) in uncounted_inside c.args.s c.args.description.now A.settings A.numbers c.uncounted-first.ensures
+slice_bounds-take_frame-start c = let A = read-accepted _ _ _ _ (sym c.in_ok-check_read.ensures) in uncounted_inside c.args.s c.args.description.now A.settings A.numbers c.uncounted-first.ensures
 
 pub take_frame-requires : goal.take_frame-requires
-take_frame-requires c = let A = read-accepted _ _ _ _ (sym c.read_refusal-number.ensures ∙ c.if-number-ne0.false) in buffers _ _ c.layout-l.ensures.value A.numbers c.layout-l.ensures.small A.fit c.uncounted-first.ensures A.lent A.bytes
+take_frame-requires c = let A = read-accepted _ _ _ _ (sym c.in_ok-check_read.ensures) in buffers _ _ c.layout-l.ensures.value A.numbers c.layout-l.ensures.small A.fit c.uncounted-first.ensures A.lent A.bytes
 
 pub returns : goal.returns
 returns c =
-    let A = read-accepted _ _ _ _ (sym c.read_refusal-number.ensures ∙ c.if-number-ne0.false) in
+    let A = read-accepted _ _ _ _ (sym c.in_ok-check_read.ensures) in
     let e = c.layout-l.ensures.value in
     ap (read_yield 0) (c.take_frame.ensures ∙ ap₂ (λ k ss. handed (split_in k ss c.args.frame.now)) e (shares_are c.args.s c.args.description.now c.uncounted-first.ensures)) ∙ sym (read-yields _ _ _ _ A)

@@ -7,7 +7,7 @@ use Rattle.nearest.proofs.Blocks.{cycles, tabulates, place_there, place_few}
 use Rattle.nearest.proofs.fac.put_back.Goals as goal
 
 pub make_places-requires : goal.make_places-requires
-make_places-requires c = let a = c in tabulates a.args.received.now a.requires.0 c.place_buffer-places.ensures
+make_places-requires c = let a = c in tabulates a.args.received.now a.requires.0 (record { long = refl })
 
 pub loop-i-init : goal.loop-i-init
 loop-i-init c =
@@ -17,13 +17,8 @@ loop-i-init c =
 pub bounds-places-i : goal.bounds-places-i
 bounds-places-i c = omega (arith, c.requires.0)
 
-pub overflow_cast-p : goal.overflow_cast-p
-overflow_cast-p c =
-    let a = c in
-    omega (arith, a.requires.0, place_few _ _ c.loop-i.i (cycles a.args.received.now a.requires.0) c.make_places.ensures (search rules))
-
-pub bounds-values-p : goal.bounds-values-p
-bounds-values-p c =
+pub bounds-values-places : goal.bounds-values-places
+bounds-values-places c =
     let a = c in
     let l = c.loop-i in
     omega (arith, l.invariant.1.long, place_few _ _ l.i (cycles a.args.received.now a.requires.0) c.make_places.ensures (search rules))

@@ -1,11 +1,8 @@
 -- `put_back` meets its contract. The loop's invariant: the first i values stand at their places. Assumes nothing.
-use Prim.Native.Nat.{◌-◌, ◌≤◌}
+use Prim.Native.Nat.{◌≤◌}
 use lib.ListN.{length}
 use Rattle.interleaver.proofs.Interleaving.{Returned}
 use Rattle.nearest.proofs.fac.put_back.Given as goal
 
 abbrev pub invariant-loop-i : goal.invariant-loop-i
-invariant-loop-i l = (l.i ≤ l.n) × Returned 0 21 (length l.received) l.received l.values l.i
-
-abbrev pub decreases-loop-i : goal.decreases-loop-i
-decreases-loop-i l = l.n - l.i
+invariant-loop-i l = (l.i ≤ length l.received) × Returned 0 21 (length l.received) l.received l.values l.i

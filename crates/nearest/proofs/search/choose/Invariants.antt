@@ -4,6 +4,3 @@ use Rattle.nearest.proofs.search.choose.Given as goal
 
 abbrev pub invariant-loop-j : goal.invariant-loop-j
 invariant-loop-j l = Choosing l.flips l.values l.initial.choices l.choices l.j l.costs
-
-abbrev pub decreases-loop-j : goal.decreases-loop-j
-decreases-loop-j l = l.j

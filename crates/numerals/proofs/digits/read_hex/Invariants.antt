@@ -1,11 +1,6 @@
-use Prim.Native.Nat.{◌-◌, ◌≤◌}
-use lib.ListN.{length}
 use Rattle.lists.proofs.Tables.{Filled}
 use Rattle.line.specs.Read.{byte_at}
 use Rattle.numerals.proofs.digits.read_hex.Given as goal
 
 abbrev pub invariant-loop-k : goal.invariant-loop-k
-invariant-loop-k l = Filled 0 (byte_at l.line) l.initial.bytes l.bytes l.k × (l.k ≤ length l.initial.bytes)
-
-abbrev pub decreases-loop-k : goal.decreases-loop-k
-decreases-loop-k l = length l.initial.bytes - l.k
+invariant-loop-k l = Filled 0 (byte_at l.line) l.initial.bytes l.bytes l.k

@@ -1,5 +1,5 @@
 -- `pack` meets its contract. Assumes nothing.
-use Prim.Native.Nat.{◌*◌, ◌-◌, ◌≤◌}
+use Prim.Native.Nat.{◌*◌, ◌≤◌}
 use lib.ListN.{length}
 use Rattle.lists.proofs.Tables.{Filled}
 use Rattle.block.specs.Packing.{digits}
@@ -7,6 +7,3 @@ use Rattle.packing.proofs.bits.pack.Given as goal
 
 abbrev pub invariant-loop-k : goal.invariant-loop-k
 invariant-loop-k l = Filled 0 (λ i. digits l.bits (8 * i) 8) l.initial.out l.out l.k × (l.k ≤ length l.initial.out)
-
-abbrev pub decreases-loop-k : goal.decreases-loop-k
-decreases-loop-k l = length l.initial.out - l.k

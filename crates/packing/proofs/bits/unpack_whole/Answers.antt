@@ -10,29 +10,29 @@ use Rattle.packing.proofs.bits.unpack_whole.Goals as goal
 pub put_half-requires : goal.put_half-requires
 put_half-requires c =
     let l = c in
-    (omega (arith, c.shared_slice_known-in-loop-k-1.given l.loop-k.k), omega (arith, l.loop-k.invariant.2, l.loop-k.invariant.3))
+    (omega (arith, c.type_inv.bytes l.loop-k.k), omega (arith, c.requires.whole, l.loop-k.invariant.2))
 
 pub put_half-requires-in-loop-k : goal.put_half-requires-in-loop-k
 put_half-requires-in-loop-k c =
     let upper = c in
     let l = upper in
-    (search rules, omega (arith, simp length-set at (ap length upper.put_half.ensures), l.loop-k.invariant.2, l.loop-k.invariant.3))
+    (search rules, omega (arith, simp length-set at (ap length upper.put_half.ensures), l.loop-k.invariant.2))
 
 pub loop-k-preserved : goal.loop-k-preserved
 loop-k-preserved c =
     let upper = c in
     let l = upper in
-    let byte = upper.shared_slice_known-in-loop-k-1.given l.loop-k.k in
+    let byte = c.type_inv.bytes l.loop-k.k in
     let w = unpack_turn _ l.half_bits-bits.ensures _ _ l.loop-k.out _ _ l.loop-k.k _ refl (omega (arith, byte))
-    (omega (arith, l.loop-k.invariant.2, upper.loop-k-test.true)) l.loop-k.invariant.0
+    (omega (arith, upper.loop-k-test.true)) l.loop-k.invariant.0
     upper.put_half.ensures c.put_half-in-loop-k.ensures in
-    (w, search rules, l.loop-k.invariant.2, w.long)
+    (w, search rules, w.long)
 
 pub loop-k-init : goal.loop-k-init
-loop-k-init c = (filled-start 0 _ _, search rules, search rules, refl)
+loop-k-init c = (filled-start 0 _ _, search rules, refl)
 
 pub overflow_cast-byte : goal.overflow_cast-byte
-overflow_cast-byte c = omega (arith, c.shared_slice_known-in-loop-k-1.given c.loop-k.k)
+overflow_cast-byte c = omega (arith, c.type_inv.bytes c.loop-k.k)
 
 pub returns : goal.returns
-returns c = let l = c.loop-k in unpack_end _ _ l.out l.k _ l.invariant.0 (search rules) l.invariant.1 (search rules) l.invariant.2
+returns c = let l = c.loop-k in unpack_end _ _ l.out l.k l.invariant.0 (search rules) l.invariant.1 (search rules)

@@ -1,78 +1,42 @@
 -- `cells::take_cells` meets its contract. The loop's invariant: the cells of the places before p are taken. Assumes nothing.
 use native.Mathlib.Omega.{arith}
 use borrow.Author.Rules.{sfits_of}
-use lib.ListN.{length-set}
 use mir.Syntax.{w16}
 use mir.Facts.{to_z-of_z}
-use Rattle.placing.proofs.Taking.{ahead, next, take-start, take_turn, take_done}
+use Rattle.placing.proofs.Taking.{place_bounds, take-start, place_taken, place_passed, take_done}
 use Rattle.placing.proofs.cells.take_cells.Goals as goal
+use Rattle.placing.proofs.cells.take_cells.Goals.{then-there-kind, else-there-kind}
+use lib.ListN.{length-set}
 
-pub loop-n-init : goal.loop-n-init
-loop-n-init c = take-start _ _ _ _ c.requires
+pub loop-p-init : goal.loop-p-init
+loop-p-init c = take-start _ _ _ _ c.requires
 
-pub next_place-q-requires : goal.next_place-q-requires
-next_place-q-requires c = let l = c.loop-n in ahead _ _ _ _ _ l.p l.n l.invariant c.loop-n-test.true
-
-pub bounds-out-n-in-loop-n : goal.bounds-out-n-in-loop-n
-bounds-out-n-in-loop-n c = rw length-set (let h = next _ _ _ _ _ c.loop-n.p c.loop-n.n c.loop-n.invariant c.loop-n-test.true _ c.next_place-q.ensures in omega arith)
-
-pub loop-n-smaller : goal.loop-n-smaller
-loop-n-smaller c =
-    let l = c in
-    omega (arith, (next _ _ _ _ _ c.loop-n.p c.loop-n.n c.loop-n.invariant c.loop-n-test.true _ c.next_place-q.ensures).room, l.loop-n.invariant.filled.long)
-
-pub loop-n-preserved : goal.loop-n-preserved
-loop-n-preserved c =
-    let b = c in
-    let l = b.loop-n in
-    take_turn _ _ _ _ _ l.p l.n l.invariant b.loop-n-test.true _ b.next_place-q.ensures _ _
-    (to_z-of_z {w = w16} (sfits_of c.out-1.given))
-    (to_z-of_z {w = w16} (sfits_of c.out-in-loop-n-1.given))
-
-pub shape_of-out : goal.shape_of-out
-shape_of-out c = c.loop-n.invariant.filled.long
+pub loop-p-preserved : goal.loop-p-preserved
+loop-p-preserved c =
+    let l = c.loop-p in
+    elim c.if-there-kind.branch [
+      | then-there-kind w ↦
+          rw (w.out-is, w.n-is)
+          (place_taken _ _ _ _ l.invariant c.loop-p-test.true w.if-there-kind.true _ _
+          (to_z-of_z {w = w16} (sfits_of w.out-1.given))
+          (to_z-of_z {w = w16} (sfits_of w.out-then-there-kind-1.given)))
+      | else-there-kind w ↦ rw (w.out-is, w.n-is) (place_passed _ _ _ _ l.invariant c.loop-p-test.true w.if-there-kind.false)
+    ]
 
 pub returns : goal.returns
-returns c = take_done _ _ _ _ _ c.loop-n.p c.loop-n.n c.loop-n.invariant c.loop-n-test.false
-
-pub overflow_mul-out : goal.overflow_mul-out
-overflow_mul-out c = let h = next _ _ _ _ _ c.loop-n.p c.loop-n.n c.loop-n.invariant c.loop-n-test.true _ c.next_place-q.ensures in omega arith
-
-pub overflow_add-out : goal.overflow_add-out
-overflow_add-out c = let h = next _ _ _ _ _ c.loop-n.p c.loop-n.n c.loop-n.invariant c.loop-n-test.true _ c.next_place-q.ensures in omega arith
-
-pub offset_bounds-grid-q : goal.offset_bounds-grid-q
-offset_bounds-grid-q c = let h = next _ _ _ _ _ c.loop-n.p c.loop-n.n c.loop-n.invariant c.loop-n-test.true _ c.next_place-q.ensures in omega arith
-
-pub bounds-grid-q : goal.bounds-grid-q
-bounds-grid-q c = let h = next _ _ _ _ _ c.loop-n.p c.loop-n.n c.loop-n.invariant c.loop-n-test.true _ c.next_place-q.ensures in omega arith
+returns c = take_done _ _ _ _ _ c.loop-p.p c.loop-p.n c.loop-p.invariant c.loop-p-test.false
 
 pub offset_bounds-out-n : goal.offset_bounds-out-n
-offset_bounds-out-n c = let h = next _ _ _ _ _ c.loop-n.p c.loop-n.n c.loop-n.invariant c.loop-n-test.true _ c.next_place-q.ensures in omega arith
+offset_bounds-out-n c = let h = place_bounds _ _ _ _ c.loop-p.invariant c.loop-p-test.true c.if-there-kind.true in omega arith
 
 pub bounds-out-n : goal.bounds-out-n
-bounds-out-n c = let h = next _ _ _ _ _ c.loop-n.p c.loop-n.n c.loop-n.invariant c.loop-n-test.true _ c.next_place-q.ensures in omega arith
+bounds-out-n c = let h = place_bounds _ _ _ _ c.loop-p.invariant c.loop-p-test.true c.if-there-kind.true in omega arith
 
-pub overflow_mul-out-in-loop-n : goal.overflow_mul-out-in-loop-n
-overflow_mul-out-in-loop-n c = let h = next _ _ _ _ _ c.loop-n.p c.loop-n.n c.loop-n.invariant c.loop-n-test.true _ c.next_place-q.ensures in omega arith
+pub offset_bounds-out-n-then-there-kind : goal.offset_bounds-out-n-then-there-kind
+offset_bounds-out-n-then-there-kind c = let h = place_bounds _ _ _ _ c.loop-p.invariant c.loop-p-test.true c.if-there-kind.true in omega arith
 
-pub overflow_add-out-in-loop-n : goal.overflow_add-out-in-loop-n
-overflow_add-out-in-loop-n c = let h = next _ _ _ _ _ c.loop-n.p c.loop-n.n c.loop-n.invariant c.loop-n-test.true _ c.next_place-q.ensures in omega arith
+pub bounds-out-n-then-there-kind : goal.bounds-out-n-then-there-kind
+bounds-out-n-then-there-kind c = let h = place_bounds _ _ _ _ c.loop-p.invariant c.loop-p-test.true c.if-there-kind.true in rw length-set (omega arith)
 
-pub offset_bounds-grid-q-in-loop-n : goal.offset_bounds-grid-q-in-loop-n
-offset_bounds-grid-q-in-loop-n c = let h = next _ _ _ _ _ c.loop-n.p c.loop-n.n c.loop-n.invariant c.loop-n-test.true _ c.next_place-q.ensures in omega arith
-
-pub bounds-grid-q-in-loop-n : goal.bounds-grid-q-in-loop-n
-bounds-grid-q-in-loop-n c = let h = next _ _ _ _ _ c.loop-n.p c.loop-n.n c.loop-n.invariant c.loop-n-test.true _ c.next_place-q.ensures in omega arith
-
-pub overflow_add-n : goal.overflow_add-n
-overflow_add-n c = let h = next _ _ _ _ _ c.loop-n.p c.loop-n.n c.loop-n.invariant c.loop-n-test.true _ c.next_place-q.ensures in omega arith
-
-pub offset_bounds-out-n-in-loop-n : goal.offset_bounds-out-n-in-loop-n
-offset_bounds-out-n-in-loop-n c = let h = next _ _ _ _ _ c.loop-n.p c.loop-n.n c.loop-n.invariant c.loop-n-test.true _ c.next_place-q.ensures in omega arith
-
-pub overflow_add-n-in-loop-n : goal.overflow_add-n-in-loop-n
-overflow_add-n-in-loop-n c = let h = next _ _ _ _ _ c.loop-n.p c.loop-n.n c.loop-n.invariant c.loop-n-test.true _ c.next_place-q.ensures in omega arith
-
-pub overflow_add-p : goal.overflow_add-p
-overflow_add-p c = let h = next _ _ _ _ _ c.loop-n.p c.loop-n.n c.loop-n.invariant c.loop-n-test.true _ c.next_place-q.ensures in omega arith
+pub overflow_add-n-then-there-kind : goal.overflow_add-n-then-there-kind
+overflow_add-n-then-there-kind c = let h = place_bounds _ _ _ _ c.loop-p.invariant c.loop-p-test.true c.if-there-kind.true in omega arith

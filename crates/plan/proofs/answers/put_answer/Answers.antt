@@ -1,8 +1,7 @@
-use Rattle.plan.proofs.Stored.{plan-stored, plan-refused}
+use Rattle.std.proofs.Common.{refl, Ok}
+use Rattle.plan.specs.Answers.{answered}
+use Rattle.plan.proofs.Stored.{plan-stored}
 use Rattle.plan.proofs.answers.put_answer.Goals as goal
 
-pub returns-then-a-ne0 : goal.returns-then-a-ne0
-returns-then-a-ne0 c = plan-refused _ _ c.if-a-ne0.true
-
 pub returns : goal.returns
-returns c = plan-stored _ _ c.if-a-ne0.false c.requires
+returns c = rw c.in_ok-a.was (plan-stored (answered (Ok c.in_ok-a.a)) _ refl c.requires)

@@ -1,29 +1,13 @@
-use mathlib.Core.Path.{ap}
-use native.Mathlib.Omega.{arith}
-use Rattle.lists.proofs.Tests.{tested_start, tested_turn, tested_stop, tested_end}
-use Rattle.plan.specs.Rules.{rules_of}
+use Rattle.std.proofs.Common.{refl, arith, rules, tests, slice_index_or}
+use Rattle.std.proofs.lemmas.Iterator.{YieldsList-from_range}
+use Rattle.std.proofs.lemmas.Iterator.Search.{all_from_yields_List}
+use Rattle.plan.specs.Rules.{rules_of, no_rule}
 use Rattle.plan.specs.Answers.{ordered}
 use Rattle.plan.proofs.Loops.{tests-all}
 use Rattle.plan.proofs.refusals.all_ordered.Goals as goal
 
-pub rule_at-r-requires : goal.rule_at-r-requires
-rule_at-r-requires c = rw c.count-n.ensures at c.loop-k-test.true
-
-pub returns-then-not-r : goal.returns-then-not-r
-unfolding ordered
-returns-then-not-r c =
-    let l = c in
-    tests-all ordered (rules_of l.args.rules.now) _ _ l.count-n.ensures
-    (tested_stop _ _ _ _ c.loop-k-test.true (ap ordered c.rule_at-r.ensures) c.if-not-r.true l.loop-k.invariant)
-
-pub loop-k-preserved : goal.loop-k-preserved
-unfolding ordered
-loop-k-preserved c =
-    let l = c in
-    tested_turn _ _ _ _ c.loop-k-test.true (ap ordered c.rule_at-r.ensures) c.if-not-r.false l.loop-k.invariant
-
 pub returns : goal.returns
-returns c = tests-all ordered (rules_of c.args.rules.now) _ _ c.count-n.ensures (tested_end _ _ _ (omega (arith, c.loop-k-test.false)) c.loop-k.invariant)
-
-pub loop-k-init : goal.loop-k-init
-loop-k-init c = tested_start _ _
+returns c =
+    let plan = rules_of c.args.rules.now in
+    tests-all ordered plan _ _ c.count.ensures
+    (all_from_yields_List (λ k. ordered (slice_index_or plan k no_rule)) _ _ _ c.all.ensures.ran (YieldsList-from_range 0 _ c.count.result refl (omega arith)) (λ x b q k. search (rules, tests)))

@@ -5,6 +5,3 @@ use Rattle.plan.proofs.rules.find.Given as goal
 
 abbrev pub invariant-loop-k : goal.invariant-loop-k
 invariant-loop-k l = Asked (rules_of l.rules) l.minute l.k l.found
-
-abbrev pub decreases-loop-k : goal.decreases-loop-k
-decreases-loop-k l = l.k

@@ -1,17 +1,19 @@
 -- What the rest of the line leads to.
-use mathlib.Core.Path.{sym, ◌∙◌}
+use mathlib.Core.Path.{◌≡◌, sym, ◌∙◌}
 use native.Mathlib.Omega.{arith}
 use Rattle.numerals.proofs.Scanning.{digit_range}
 use Rattle.planjobs.proofs.Scanned.{scanning_start, scanning_turn, scanning_stop, scanning_end}
 use Rattle.planjobs.proofs.lines.number.Goals as goal
 
 pub loop-next-init : goal.loop-next-init
-loop-next-init c = scanning_start _ _
+loop-next-init c = (scanning_start _ _, omega arith)
 
 pub returns-then-not-is_digit : goal.returns-then-not-is_digit
 returns-then-not-is_digit c =
-    let l = c in
-    record { value = scanning_stop _ _ _ _ c.loop-next-test.true (sym c.is_digit.ensures ∙ c.if-not-is_digit.true) l.loop-next.invariant; next_in_bounds = l.loop-next.invariant.upto }
+    record {
+      value = scanning_stop _ _ _ _ c.loop-next-test.true (sym c.is_digit.ensures ∙ c.if-not-is_digit.true) c.loop-next.invariant.0;
+      next_in_bounds = c.loop-next.invariant.0.upto;
+    }
 
 pub overflow_sub-byte : goal.overflow_sub-byte
 overflow_sub-byte c = (digit_range _ (sym c.is_digit.ensures ∙ c.if-not-is_digit.false)).0
@@ -21,9 +23,11 @@ grown-value-requires c = omega (arith, digit_range _ (sym c.is_digit.ensures ∙
 
 pub loop-next-preserved : goal.loop-next-preserved
 loop-next-preserved c =
-    let l = c in
-    scanning_turn _ _ _ _ _ c.loop-next-test.true
-    (sym c.is_digit.ensures ∙ c.if-not-is_digit.false) c.grown-value.ensures l.loop-next.invariant
+    let turn = scanning_turn _ _ _ _ _ c.loop-next-test.true (sym c.is_digit.ensures ∙ c.if-not-is_digit.false) c.grown-value.ensures c.loop-next.invariant.0 in
+    (turn, omega arith)
 
 pub returns : goal.returns
-returns c = record { value = scanning_end _ _ _ _ (omega (arith, c.loop-next-test.false)) c.loop-next.invariant; next_in_bounds = c.loop-next.invariant.upto }
+returns c =
+    let l = c.loop-next in
+    let e : c.max.result ≡ l.next = omega (arith, c.max.ensures, l.invariant.1, l.auto.next, c.loop-next-test.false) in
+    record { value = rw e (scanning_end _ _ _ _ c.loop-next-test.false l.invariant.0); next_in_bounds = omega (arith, e, l.invariant.0.upto) }

@@ -1,11 +1,6 @@
-use Prim.Native.Nat.{◌-◌, ◌≤◌}
-use lib.ListN.{length}
 use Rattle.lists.proofs.Tables.{Filled}
 use Rattle.planjobs.specs.Lines.{rule_byte}
 use Rattle.planjobs.proofs.lines.put_rule.Given as goal
 
 abbrev pub invariant-loop-k : goal.invariant-loop-k
-invariant-loop-k l = Filled 0 (rule_byte l.first l.after l.settings) l.initial.out l.out l.k × (l.k ≤ length l.initial.out)
-
-abbrev pub decreases-loop-k : goal.decreases-loop-k
-decreases-loop-k l = length l.initial.out - l.k
+invariant-loop-k l = Filled 0 (rule_byte l.first l.after l.settings) l.initial.out l.out l.k

@@ -11,20 +11,20 @@ use Rattle.pointtests.specs.PointTests.{points_pass}
 use Rattle.pointtests.proofs.ByteTests.{byte_read}
 use Rattle.pointtests.proofs.tests.bytes_pass.Goals as goal
 
-pub loop-i-preserved : goal.loop-i-preserved
-loop-i-preserved c =
+pub loop-cell-preserved : goal.loop-cell-preserved
+loop-cell-preserved c =
     let l = c in
-    passed_turn _ _ _ _ _ (search rules) (byte_read _ _ _ l.loop-i.i _ _ l.largest-top.ensures (omega (arith, c.shared_slice_known-in-loop-i-1.given l.loop-i.i)) c.byte_passes-passed.ensures) l.loop-i.invariant
+    passed_turn _ _ _ _ _ (search rules) (byte_read _ _ _ l.loop-cell.cell-index _ _ l.largest-top.ensures (search rules) c.byte_passes-passed.ensures) l.loop-cell.invariant
 
 pub returns : goal.returns
 unfolding points_pass
 returns c =
     let cells = c.args.cells.now in
     let n : length (numbers cells) / 2 ≡ length cells = omega (arith, length-numbers cells) in
-    rw n (passed_end _ _ _ _ c.loop-i-test.false c.loop-i.invariant)
+    rw n (passed_end _ _ _ _ c.loop-cell-test.false c.loop-cell.invariant)
 
-pub loop-i-init : goal.loop-i-init
-loop-i-init c = passed_start _ _
+pub loop-cell-init : goal.loop-cell-init
+loop-cell-init c = passed_start _ _
 
 pub byte_passes-passed-requires : goal.byte_passes-passed-requires
 byte_passes-passed-requires c = c.largest-top.ensures.low

@@ -3,7 +3,7 @@ use mathlib.Core.Path.{sym}
 use native.Mathlib.Nat.{mod-lt, mod-eq_of_lt}
 use borrow.Author.Rules.{rules}
 use Rattle.lists.proofs.Tests.{passed_start, passed_turn, passed_end}
-use Rattle.pointtests.specs.PointTests.{cell_passes, points_pass}
+use Rattle.pointtests.specs.PointTests.{points_pass}
 use Rattle.pointtests.proofs.PointTests.{cell_read, delay-next}
 use Rattle.pointtests.proofs.tests.some_pass.Goals as goal
 

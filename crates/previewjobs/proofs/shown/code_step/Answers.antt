@@ -1,22 +1,25 @@
 use mathlib.Core.Path.{refl, ◌∙◌}
 use native.Mathlib.Omega.{arith}
+use Rattle.refusal.proofs.Positive.{number_positive}
 use Rattle.console.specs.declared.Job.TheVariants.{Code}
-use Rattle.jobs.proofs.Refusals.{job_refused, job_called, job_lent}
+use Rattle.jobs.proofs.JobRefusals.{job_refused, job_called, job_lent}
 use Rattle.previewjobs.proofs.shown.code_step.Goals as goal
 
-pub returns-then-number-ne0 : goal.returns-then-number-ne0
-returns-then-number-ne0 c =
+pub returns-in-Err : goal.returns-in-Err
+returns-in-Err c =
     let a = c.args in
     let r = c.refused.ensures in
-    record { out_after = r.by_index a.memory.now a.out.now ∙ job_refused Code a.state a.memory.now a.bytes.now a.out.now _ c.job_refusal-number.ensures c.if-number-ne0.true; length_in_bounds = omega (arith, r.length_value) }
+    let n = c.number.ensures in
+    let e = n ∙ c.in-Err.ensures.refused in
+    record { out_after = r.by_index a.memory.now a.out.now ∙ job_refused Code a.state a.memory.now a.bytes.now a.out.now _ e (λ h. omega (arith, h, n, number_positive c.in-Err.refusal)); length_in_bounds = rw r.nothing_written tt }
 
 pub code_bytes-requires : goal.code_bytes-requires
 code_bytes-requires c =
     let a = c.args in
-    job_lent Code a.state a.memory.now a.bytes.now a.out.now _ c.job_refusal-number.ensures c.if-number-ne0.false _ c.sizes-z.ensures Code refl
+    job_lent Code a.state a.memory.now a.bytes.now a.out.now _ c.in-Ok.ensures.refused refl _ c.in-Ok.ensures.sizes Code refl
 
-pub returns : goal.returns
-returns c =
+pub returns-in-Ok : goal.returns-in-Ok
+returns-in-Ok c =
     let a = c.args in
     let w = c.code_bytes.ensures in
-    record { out_after = job_called Code a.state a.memory.now a.bytes.now a.out.now _ c.job_refusal-number.ensures c.if-number-ne0.false _ Code refl w.out_after; length_in_bounds = w.length_in_bounds }
+    record { out_after = job_called Code a.state a.memory.now a.bytes.now a.out.now _ c.in-Ok.ensures.refused refl _ Code refl w.out_after; length_in_bounds = w.length_in_bounds }

@@ -1,21 +1,19 @@
 -- `read::read_on` meets its contract. Assumes nothing.
+use mathlib.Core.Path.{refl}
 use Rattle.callrefusals.proofs.Chains.{then_fits}
-use Rattle.readoncall.proofs.OnParts.{refused_is, accepted-lent, accepted_seven, accepted_is}
+use Rattle.readoncall.proofs.OnParts.{accepted-lent, accepted_seven, accepted_is}
 use Rattle.readoncall.proofs.read.read_on.Goals as goal
 
-pub read_on_refusal-number-requires : goal.read_on_refusal-number-requires
-read_on_refusal-number-requires c = then_fits _ _ _ _ _ c.read_lengths-lengths.ensures
-
-pub returns-then-number-ne0 : goal.returns-then-number-ne0
-returns-then-number-ne0 c = refused_is _ _ _ _ _ _ _ _ _ _ c.read_lengths-lengths.ensures _ c.read_on_refusal-number.ensures c.if-number-ne0.true
+pub check_order-requires : goal.check_order-requires
+check_order-requires c = then_fits _ _ _ _ _ c.in_ok-check_buffers.ensures refl
 
 pub read_kept-blocks-requires : goal.read_kept-blocks-requires
-read_kept-blocks-requires c = accepted-lent _ _ _ _ _ _ _ _ _ _ c.read_lengths-lengths.ensures _ c.read_on_refusal-number.ensures c.if-number-ne0.false
+read_kept-blocks-requires c = accepted-lent _ _ _ _ _ _ _ _ _ c.in_ok-check_buffers.ensures c.in_ok-check_order.ensures
 
 pub mark_lost-requires : goal.mark_lost-requires
-mark_lost-requires c = accepted_seven _ _ _ _ _ _ _ _ _ _ c.read_lengths-lengths.ensures _ c.read_on_refusal-number.ensures c.if-number-ne0.false
+mark_lost-requires c = accepted_seven _ _ _ _ _ _ _ _ _ c.in_ok-check_buffers.ensures c.in_ok-check_order.ensures
 
 pub returns : goal.returns
 returns c =
-    accepted_is _ _ _ _ _ _ _ _ _ _ c.read_lengths-lengths.ensures _ c.read_on_refusal-number.ensures c.if-number-ne0.false _ _ _ _ _ _
+    accepted_is _ _ _ _ _ _ _ _ _ c.in_ok-check_buffers.ensures c.in_ok-check_order.ensures _ _ _ _ _ _
     c.read_kept-blocks.ensures c.mark_lost.ensures

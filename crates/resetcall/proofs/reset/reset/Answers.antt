@@ -5,4 +5,4 @@ use Rattle.resetcall.proofs.reset.reset.Goals as goal
 
 pub returns : goal.returns
 unfolding standard_scheme
-returns c = c.reset_table.ensures ∙ rw c.standard_table-table.ensures
+returns c = λ old. c.reset_table.ensures old ∙ rw c.standard_table.ensures

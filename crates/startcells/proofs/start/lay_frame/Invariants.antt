@@ -17,6 +17,3 @@ frames frame i n = joined (table (λ (_ : ℕ). bytes frame) i n)
 abbrev pub invariant-loop-i : goal.invariant-loop-i
 invariant-loop-i l = (l.i ≤ l.slots) × (l.n ≡ length l.frame / 2) × (length l.initial.memory ≡ l.slots * (length l.frame / 2))
     × Laid l.n (frames l.frame 0 l.slots) l.initial.memory (frames l.frame l.i (l.slots - l.i)) l.i l.memory
-
-abbrev pub decreases-loop-i : goal.decreases-loop-i
-decreases-loop-i l = l.slots - l.i

@@ -2,7 +2,7 @@
 use mathlib.Core.Path.{refl}
 use native.Mathlib.Omega.{arith}
 use borrow.Author.Rules.{rules}
-use Rattle.trellis.proofs.Layers.{layering_start, layering_again, layering_done, word_room, weighs, pick-one}
+use Rattle.trellis.proofs.Layers.{layering_start, layering_again, layering_done, word_room, weighs, chosen, chosen_low}
 use Rattle.trellis.proofs.step.step.Goals as goal
 
 pub overflow_cast-flip : goal.overflow_cast-flip
@@ -28,9 +28,7 @@ overflow_mul-choices c =
     omega (arith, word_room l.requires l.loop-s.invariant.0 (search rules))
 
 pub overflow_add-choices : goal.overflow_add-choices
-overflow_add-choices c =
-    let l = c in
-    omega (arith, word_room l.requires l.loop-s.invariant.0 (search rules), pick-one _ _ c.pick.ensures)
+overflow_add-choices c = omega (arith, word_room c.requires c.loop-s.invariant.0 (search rules), chosen_low c.way_cost-zero.result c.way_cost-one.result)
 
 pub loop-s-preserved : goal.loop-s-preserved
 loop-s-preserved c =
@@ -43,8 +41,8 @@ loop-s-preserved c =
           refl
           c.way_cost-zero.ensures
           c.way_cost-one.ensures
-          c.lower.ensures
-          c.pick.ensures,
+          c.min.ensures
+          (chosen c.way_cost-zero.result c.way_cost-one.result),
       l.loop-s.invariant.1,
     )
 

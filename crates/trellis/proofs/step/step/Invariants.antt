@@ -5,6 +5,3 @@ use Rattle.trellis.proofs.step.step.Given as goal
 
 abbrev pub invariant-loop-s : goal.invariant-loop-s
 invariant-loop-s l = Layering l.flips l.values l.j l.least l.choices l.s × (l.flip < 2)
-
-abbrev pub decreases-loop-s : goal.decreases-loop-s
-decreases-loop-s l = l.s

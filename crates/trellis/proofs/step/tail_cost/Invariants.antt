@@ -1,10 +1,6 @@
 -- `tail_cost` meets its contract. Assumes nothing.
-use Prim.Native.Nat.{◌-◌}
 use Rattle.trellis.proofs.Layers.{Tail}
 use Rattle.trellis.proofs.step.tail_cost.Given as goal
 
 abbrev pub invariant-loop-i : goal.invariant-loop-i
 invariant-loop-i l = Tail l.values l.at l.register-2 l.register l.sum l.i
-
-abbrev pub decreases-loop-i : goal.decreases-loop-i
-decreases-loop-i l = 6 - l.i

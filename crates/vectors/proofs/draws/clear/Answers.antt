@@ -1,12 +1,12 @@
--- `clear` meets its contract. Assumes nothing.
-use Prim.Native.Nat.{◌-◌}
 use native.Mathlib.Omega.{arith}
-use lib.ListN.{length}
+use Rattle.std.proofs.Common.{length, ◌-◌}
 use Rattle.vectors.proofs.Drawn.{cleared_none, cleared_last}
 use Rattle.vectors.proofs.draws.clear.Goals as goal
 
-pub returns-then-n-eq0 : goal.returns-then-n-eq0
-returns-then-n-eq0 c = cleared_none _ _ c.if-n-eq0.true
+pub returns-in-Some : goal.returns-in-Some
+returns-in-Some c =
+    let bytes = c.args.bytes.now in
+    rw (c.in-Some.ensures.item.3.1 0) (cleared_last _ _ (omega (arith, c.slice_known-1.given (length bytes - 1))))
 
-pub returns : goal.returns
-returns c = let bytes = c.args.bytes.now in cleared_last _ _ (omega (arith, c.slice_known-1.given (length bytes - 1)))
+pub returns-in_default : goal.returns-in_default
+returns-in_default c = cleared_none _ _ (omega (arith, c.in_default.ensures.item.3))

@@ -1,10 +1,7 @@
--- `largest` meets its contract. Assumes nothing.
-use Prim.Native.Nat.{◌-◌, ◌≤◌}
-use Rattle.vectors.proofs.Greatest.{Allowed}
+use Rattle.std.proofs.Common.{◌≡◌, ℕ, ◌≤◌}
+use Rattle.settings.specs.Refusal.{refusal}
+use Rattle.vectors.specs.Pairings.{with_x}
 use Rattle.vectors.proofs.pairings.largest.Given as goal
 
 abbrev pub invariant-loop-x : goal.invariant-loop-x
-invariant-loop-x l = (l.x ≤ 65535) × Allowed l.s l.x
-
-abbrev pub decreases-loop-x : goal.decreases-loop-x
-decreases-loop-x l = 65535 - l.x
+invariant-loop-x l = (y : ℕ) → 1 ≤ y → y ≤ l.x → refusal (with_x l.s y) ≡ 0

@@ -1,8 +1,0 @@
-use Prim.Native.Nat.{◌-◌}
-use Rattle.check_lengths.proofs.over_occupancy.Given as goal
-
-abbrev pub invariant-loop-occupancy : goal.invariant-loop-occupancy
-invariant-loop-occupancy l = Unit {0}
-
-abbrev pub decreases-loop-occupancy : goal.decreases-loop-occupancy
-decreases-loop-occupancy l = 7 - l.occupancy

@@ -1,9 +1,0 @@
--- `line` meets its contract. Assumes nothing.
-use Prim.Native.Nat.{◌-◌, ◌≤◌}
-use Rattle.check_nearest.proofs.line.Given as goal
-
-abbrev pub invariant-loop-m : goal.invariant-loop-m
-invariant-loop-m l = l.m ≤ 36
-
-abbrev pub decreases-loop-m : goal.decreases-loop-m
-decreases-loop-m l = 36 - l.m

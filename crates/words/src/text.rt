@@ -1,0 +1,56 @@
+// A text as it is made: bytes behind those that are there.
+ghost use Rattle.std.specs.Prelude.{◌≡◌, ℕ, ◌+◌, ◌≤◌, List, [], ◌++◌, length, take};
+ghost use Rattle.line.specs.Written.{decimal};
+
+use crate::report;
+use std::marker::Model;
+
+// The room for a text.
+const MOST_BYTES: usize = 1024;
+
+#[derive(Drop)]
+pub struct Text {
+    bytes: [u8; MOST_BYTES],
+    len: usize,
+}
+
+impl Model for Text {
+    ghost Value = { List ℕ };
+
+    ghost view = { λ t. take t.len t.bytes };
+
+    ghost invariant = { λ t. t.len ≤ 1024 };
+}
+
+impl Text {
+    pub fn new() -> Text
+        ensures { result ≡ [] }
+    {
+        Text {
+            bytes: [0; MOST_BYTES],
+            len: 0,
+        }
+    }
+
+    pub fn bytes(&self) -> &[u8]
+        ensures { result.now ≡ self.now }
+    {
+        &self.bytes[..self.len]
+    }
+
+    pub fn put(&mut self, text: &[u8])
+        requires { length self.old + length text.now ≤ 1024 }
+        ensures { self.new ≡ self.old ++ text.now }
+    {
+        self.len = report::put(text, &mut self.bytes, self.len);
+    }
+
+    // A number in decimal.
+    pub fn put_decimal(&mut self, n: u64)
+        requires { length self.old + 20 ≤ 1024 }
+        ensures put { self.new ≡ self.old ++ decimal n }
+        ensures room { length self.new ≤ length self.old + 20 }
+    {
+        self.len = report::put_decimal(n, &mut self.bytes, self.len);
+    }
+}
