@@ -5,6 +5,14 @@ use partlengths::{formulas, tables};
 use settings::{Settings, answers};
 use vectors::text::print;
 
+// A count's place: its robustness mode, and its row and spectrum occupancy in a table.
+#[derive(Clone, Copy)]
+struct Place {
+    mode: u8,
+    row: u8,
+    occupancy: u8,
+}
+
 // Which counts a table has. The tables come in groups of four, for modes A to D.
 #[derive(Clone, Copy)]
 enum Group {
@@ -60,7 +68,12 @@ impl Group {
     }
 
     // The bits of a frame without part A: those of the very strongly protected part, or those of part B.
-    fn msc_bits(self, mode: u8, row: u8, occupancy: u8) -> usize {
+    fn msc_bits(self, at: Place) -> usize {
+        let Place {
+            mode,
+            row,
+            occupancy,
+        } = at;
         let level = row % 4;
         let strong = matches!(&self, Group::HmsymVspp | Group::HmmixVspp);
         let lengths = answers::lengths(Settings {
@@ -79,21 +92,21 @@ impl Group {
     }
 
     // The bits of an SDC block or of a frame, as the group asks.
-    fn count(self, mode: u8, row: u8, occupancy: u8) -> usize {
+    fn count(self, at: Place) -> usize {
         match self {
-            Group::Sdc => sdc_bits(mode, row, occupancy),
-            _ => self.msc_bits(mode, row, occupancy),
+            Group::Sdc => sdc_bits(at),
+            _ => self.msc_bits(at),
         }
     }
 }
 
 // The bits of an SDC block: a row for 16-QAM and one for 4-QAM.
-fn sdc_bits(mode: u8, row: u8, occupancy: u8) -> usize {
-    let cells = tables::n_sdc(mode, occupancy);
+fn sdc_bits(at: Place) -> usize {
+    let cells = tables::n_sdc(at.mode, at.occupancy);
     if 65535 < cells {
         return 0;
     }
-    formulas::sdc_bits(row, cells)
+    formulas::sdc_bits(at.row, cells)
 }
 
 // A row of a table: its name, and a count for each occupancy that the group uses.
@@ -101,7 +114,12 @@ fn write_row(table: usize, group: Group, mode: u8, row: u8) {
     print(format_args!("J.{table}"));
     for occupancy in 0..6 {
         if group.uses(mode, occupancy) {
-            print(format_args!(" {}", group.count(mode, row, occupancy)));
+            let at = Place {
+                mode,
+                row,
+                occupancy,
+            };
+            print(format_args!(" {}", group.count(at)));
         }
     }
     print("\n");

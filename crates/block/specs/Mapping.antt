@@ -30,6 +30,10 @@ pub record Labellings : Type 0 where
   pub real : List ℤ
   pub imaginary : List ℤ
 
+-- The constellations by number; a number from 5 on is taken for 4-QAM's.
+unfoldable pub numbered : ℕ → Constellation
+numbered n = get_or (Qam4 ∷ Qam16 ∷ Sm64 ∷ HmSym ∷ HmMix ∷ []) n Qam4
+
 -- Those of the five constellations; 64-QAM HMmix has HMsym's rule on the real axis and SM's on the imaginary.
 unfoldable pub constellation : Constellation → Labellings
 constellation Qam4 = record { real = qam4; imaginary = qam4 }

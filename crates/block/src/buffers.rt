@@ -1,6 +1,8 @@
 // Sizes of buffers for the largest block and for a small one, each from those before it: to clear those of the largest takes longer than to code or
-// read an FAC block. A buffer comes from a function of its own: proofs then take its length and do not write it out.
+// read an FAC block.
 ghost use Rattle.lists.specs.Buffers.{Long};
+
+use lists::buffers::buffer;
 
 // The most cells of a block: N_MUX of mode A with occupancy 5.
 pub const MOST_CELLS: usize = 6118;
@@ -31,13 +33,6 @@ pub const SMALL_NUMBERS: usize = 2 * SMALL_CELLS;
 pub const SMALL_BITS: usize = 6 * SMALL_CELLS;
 
 pub const SMALL_PLACES: usize = SMALL_BITS + 1;
-
-// A working buffer, each element `value` at first.
-pub fn buffer<T: Copy, const N: usize>(value: T) -> [T; N]
-    ensures { Long N result }
-{
-    [value; N]
-}
 
 // The bits of a block.
 pub fn bit_buffer() -> [u8; MOST_BITS]

@@ -3,6 +3,7 @@
 
 ghost use Rattle.std.specs.Prelude.{◌≡◌};
 ghost use Rattle.block.specs.Block.{one_axis};
+ghost use Rattle.block.specs.Mapping.{numbered};
 
 use patterns::Pattern;
 
@@ -22,15 +23,32 @@ pub struct Level {
 // The five constellations: 4-QAM, 16-QAM, and 64-QAM with standard, symmetrical hierarchical and mixture hierarchical mapping.
 #[derive(Clone, Copy, Debug, PartialEq, Eq)]
 pub enum Constellation {
-    Qam4,
-    Qam16,
-    Sm64,
-    HmSym,
-    HmMix,
+    Qam4 = 0,
+    Qam16 = 1,
+    Sm64 = 2,
+    HmSym = 3,
+    HmMix = 4,
+}
+
+impl Constellation {
+    // The constellation of a number; a number from 5 on is taken for 4-QAM's.
+    #[tactic(auto, unfolding(crate::specs::Mapping::numbered))]
+    pub fn numbered(n: u8) -> Constellation
+        ensures { result ≡ numbered n }
+    {
+        match n {
+            1 => Constellation::Qam16,
+            2 => Constellation::Sm64,
+            3 => Constellation::HmSym,
+            4 => Constellation::HmMix,
+            _ => Constellation::Qam4,
+        }
+    }
 }
 
 // A block (FAC block, SDC block or multiplex frame): how many of its bits are dispersed by themselves in front, its levels (room for six, and
 // how many they are), its constellation, its cells, and how many of them are part A's.
+// Stays: no heap, so a block has room for six levels, of which its definitions take the first `count`.
 #[derive(Clone, Copy)]
 pub struct Block {
     pub vspp: usize,

@@ -1,5 +1,5 @@
 -- Blocks alike coded one after the other. Assumes nothing.
-use Prim.Native.Nat.{ℕ, zero, suc, ◌+◌, ◌-◌, ◌*◌, ◌/◌, ◌≤◌, ◌<◌}
+use Prim.Native.Nat.{ℕ, zero, suc, ◌+◌, ◌-◌, ◌*◌, ◌/◌, ◌%◌, ◌≤◌, ◌<◌, min}
 use mathlib.Core.Path.{◌≡◌, refl, sym, ap, ◌∙◌}
 use mathlib.Core.Logic.{◌⊎◌, inl, inr}
 use mathlib.Core.List.{List, ◌++◌, append_assoc}
@@ -64,9 +64,9 @@ unfolding cells_from
 long_block k bytes = length-cells k _
 
 -- the bytes of a block
-pub bytes_are : (k : Block) {n : ℕ} → n ≡ bit_count k → (n + 7) / 8 ≡ bytes_for (bit_count k)
+pub bytes_are : (k : Block) {n m : ℕ} → n ≡ bit_count k → m ≡ n / 8 + min 1 (n % 8) → m ≡ bytes_for (bit_count k)
 unfolding bytes_for
-bytes_are k e = rw e
+bytes_are k {n} {m} e d = rw (← e) (omega arith)
 
 module _ {k : Block} {many : ℕ} {bytes : List ℕ} {out₀ : List ℤ} (L : BlocksLent k many bytes out₀) where
   -- all bytes and numbers can be counted

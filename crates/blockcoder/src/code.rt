@@ -1,4 +1,5 @@
 // A block: packed bytes to cells. 01 "From bits to cells".
+// Stays, in this module: buffers stand one by one; with a struct of `&mut` a clause must also say that each reference is still the same one.
 ghost use Rattle.std.specs.Prelude.{◌≡◌, true, false, ◌*◌};
 ghost use Rattle.block.specs.Levels.{streams};
 ghost use Rattle.block.specs.Mapping.{mapped, woven};
@@ -10,11 +11,11 @@ ghost use Rattle.blockplaces.specs.Clauses.{BlockOrder};
 use block::Block;
 use block::buffers::{
     MOST_BITS, MOST_NUMBERS, MOST_PLACES, SMALL_BITS, SMALL_CELLS, SMALL_NUMBERS, SMALL_PLACES,
-    buffer,
 };
 use blockplaces::tables::block_places;
 use cellparts::parts::{map_axes_parts, map_parts};
 use dispersal::parts::unpack_parts;
+use lists::buffers::buffer;
 use multilevel::code::code_levels;
 use multilevel::places::{bit_count, bits_before};
 
@@ -135,7 +136,7 @@ fn code_each(
     requires block_order { BlockOrder k places.now }
     ensures { out.new ≡ cells_of_each k many bytes.now }
 {
-    let m = (bit_count(k) + 7) / 8;
+    let m = bit_count(k).div_ceil(8);
     let n = 2 * k.cells;
     for i in 0..many {
         code_lent(

@@ -1,4 +1,5 @@
 // A block read back in buffers that are lent: the candidate, packed, coded again and compared with the cells. 01 "Operations".
+// Stays, in this module: buffers stand one by one; with a struct of `&mut` a clause must also say that each reference is still the same one.
 ghost use Rattle.std.specs.Prelude.{◌*◌, ◌≡◌, length};
 ghost use Rattle.blockplaces.specs.Clauses.{BlockOrder};
 ghost use Rattle.blockreader.specs.Clauses.{LentRead};

@@ -1,4 +1,5 @@
 // Blocks of a kind, up to three, each read into its own place. 01 "Buffers and state" and "Operations".
+// Stays, in this module: buffers stand one by one; with a struct of `&mut` a clause must also say that each reference is still the same one.
 ghost use Rattle.blockplaces.specs.Clauses.{BlockOrder};
 ghost use Rattle.block.specs.Fits.{WorkLent};
 ghost use Rattle.blockcoder.specs.Clauses.{Enough};
@@ -8,9 +9,9 @@ use crate::lent::read_lent;
 use block::Block;
 use block::buffers::{
     MOST_BITS, MOST_NUMBERS, MOST_PLACES, SMALL_BITS, SMALL_CELLS, SMALL_NUMBERS, SMALL_PLACES,
-    buffer,
 };
 use blockplaces::tables::block_places;
+use lists::buffers::buffer;
 use multilevel::places::bit_count;
 
 // So many blocks, whose cells stand one after the other: whether bits give each, true in a place without a block; their bytes are written.
@@ -30,7 +31,7 @@ fn read_each(
 {
     let mut again: [i16; MOST_NUMBERS] = buffer(0);
     let n = 2 * k.cells;
-    let m = (bit_count(k) + 7) / 8;
+    let m = bit_count(k).div_ceil(8);
     let mut given = [true; 3];
     for i in 0..many {
         let at = n * i;

@@ -23,6 +23,7 @@ use settings::{Settings, Sizes, answers};
 use superframe::State;
 
 // The buffers of packed bytes have their lengths.
+// Stays: each caller has three slices; a struct of three lengths would repeat the names fac, sdc and msc at every call.
 pub fn bytes_long(z: Sizes, fac: usize, sdc: usize, msc: usize) -> bool
     ensures { result ≡ bytes_long (sizes_yield (Ok z)) fac sdc msc }
 {
@@ -30,6 +31,7 @@ pub fn bytes_long(z: Sizes, fac: usize, sdc: usize, msc: usize) -> bool
 }
 
 // The buffers of cells have theirs.
+// Stays: each caller has three slices; a struct of three lengths would repeat the names fac, sdc and msc at every call.
 pub fn cells_long(z: Sizes, fac: usize, sdc: usize, msc: usize) -> bool
     ensures { result ≡ cells_long (sizes_yield (Ok z)) fac sdc msc }
 {

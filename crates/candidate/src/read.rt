@@ -1,4 +1,5 @@
 // The candidate of a block: the bits that undoing every stage gives. 01 "Operations".
+// Stays, in this module: buffers stand one by one; with a struct of `&mut` a clause must also say that each reference is still the same one.
 ghost use Rattle.std.specs.Prelude.{◌≡◌, ◌<◌};
 ghost use Rattle.block.specs.Dispersal.{dispersed_parts};
 ghost use Rattle.block.specs.Fits.{BlockLent, WorkLent};

@@ -7,9 +7,10 @@ ghost use Rattle.superframe.specs.Interleaving.{sent_row, taken};
 ghost use Rattle.superframe.specs.Code.{progress_of};
 ghost use Rattle.cellmemory.specs.Clauses.{RowLent, RowRoom, RowOrder, row_over, Goes, bytes_from, CellFits, next_state, previous, with_cell};
 
-use crate::buffers::cell_row;
+use block::buffers::MOST_CELLS;
 use cellbytes::cells::{cell_byte, to_numbers};
 use interleaver::table::make_places;
+use lists::buffers::buffer;
 use partlengths::tables;
 use pointtests::tests::next_modulo;
 use settings::{Settings, answers};
@@ -41,10 +42,7 @@ fn next_count(depth: usize, count: usize) -> usize
     requires { count < depth }
     ensures { result ≡ min (count + 1) (depth - 1) }
 {
-    if count + 1 < depth {
-        return count + 1;
-    }
-    depth - 1
+    (count + 1).min(depth - 1)
 }
 
 // The state after a frame: the position goes on to the next slot, and the count stops at D - 1.
@@ -93,7 +91,7 @@ pub fn send_row(state: State, places: &[u16], memory: &[u8], out: &mut [i16])
     requires { RowLent state memory.now out.old × RowOrder state.scheme.settings places.now }
     ensures { out.new ≡ sent_row state.scheme.settings memory.now state.position }
 {
-    let mut cells = cell_row();
+    let mut cells: [u8; MOST_CELLS] = buffer(0);
     let n = out.len() / 2;
     gather_row(state.position as usize, places, memory, &mut cells[0..n]);
     to_numbers(&cells[0..n], out);

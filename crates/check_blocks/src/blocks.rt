@@ -39,6 +39,7 @@ fn block_of(kind: Kind, s: Settings) -> Block
     ensures { result ≡ block_of kind (standard_scheme s) }
 {
     let scheme = standard_scheme(s);
+    // Stays: the definition `block_of` goes by the kind as well; a function in its place would be an argument of each contract.
     match kind {
         Kind::Fac => fac_block(scheme),
         Kind::Sdc => sdc_block(scheme),

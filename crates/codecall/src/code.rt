@@ -1,4 +1,5 @@
 // The call Code. 01 "Buffers and state" and "Operations".
+// Stays, in this module: buffers stand one by one; with a struct of `&mut` a clause must also say that each reference is still the same one.
 ghost use Rattle.std.specs.Prelude.{◌≡◌, Ok};
 ghost use Rattle.refusal.specs.Numbers.{answer};
 ghost use Rattle.superframe.specs.Answers.{done};

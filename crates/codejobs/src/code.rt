@@ -1,4 +1,5 @@
 // A super frame of the job `code`.
+// Stays, in this module: buffers stand one by one; with a struct of `&mut` a clause must also say that each reference is still the same one.
 ghost use Rattle.std.specs.Prelude.{◌≡◌, ◌-◌, ◌≤◌, length, take, drop, IfOk, Ok};
 ghost use Rattle.settings.specs.Sizes.{sizes_yield};
 ghost use Rattle.console.specs.declared.Job.{Job};
@@ -45,10 +46,7 @@ fn code_with(
         sdc,
         msc,
     );
-    match coded {
-        Ok(after) => write_cells(0, after, fac, sdc, msc, out),
-        Err(refusal) => write_cells(refusal.number(), state, fac, sdc, msc, out),
-    }
+    write_cells(coded, state, fac, sdc, msc, out)
 }
 
 // The job `code` on buffers of the right lengths.

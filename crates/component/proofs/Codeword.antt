@@ -3,7 +3,7 @@ use Prim.Native.Nat.{ℕ, zero, suc, ◌+◌, ◌*◌, ◌/◌, ◌%◌, ◌^◌
 use mathlib.Core.Path.{◌≡◌, refl, ◌∙◌}
 use mathlib.Core.Bool.{Bool, true, false, cond}
 use mathlib.Core.List.{List, [], ◌∷◌, ◌++◌, append_assoc, append-nil}
-use native.Mathlib.Nat.{add_assoc, pow-suc}
+use native.Mathlib.Nat.{add_assoc, add-zero, pow-suc}
 use native.Mathlib.Omega.{arith}
 use borrow.Author.Tests.{ltb-true}
 use lib.Dec.{eqb, ltb, lit<}
@@ -69,14 +69,14 @@ kept-parities c r =
     )
     (simp append_assoc)
 
--- how many bits that is
-pub length-kept-parities : (c r : ℕ)
-    → length (kept c (parities r))
-    ≡ length (kept c (parity 0o133 r ∷ []))
-    + length (kept (c / 2) (parity 0o171 r ∷ []))
-    + length (kept (c / 2 / 2) (parity 0o145 r ∷ []))
-    + length (kept (c / 2 / 2 / 2) (parity 0o133 r ∷ []))
-length-kept-parities c r = rw kept-parities (simp length-append)
+-- a digit of a column keeps one bit or none
+pub length-one : (c b : ℕ) → length (kept c (b ∷ [])) ≡ c % 2
+unfolding kept
+length-one c b = length-pick (c % 2) b [] (omega arith) ∙ add-zero (c % 2)
+
+-- how many of the four parities a column keeps
+pub length-kept-parities : (c r : ℕ) → length (kept c (parities r)) ≡ c % 2 + c / 2 % 2 + c / 2 / 2 % 2 + c / 2 / 2 / 2 % 2
+length-kept-parities c r = rw kept-parities (simp (length-append, length-one))
 
 -- stores of what a column keeps, one after the other
 pub sets-kept-parities : (d : List ℕ) (at c r : ℕ)
@@ -85,13 +85,13 @@ pub sets-kept-parities : (d : List ℕ) (at c r : ℕ)
     (sets
     (sets
     (sets d at (kept c (parity 0o133 r ∷ [])))
-    (at + length (kept c (parity 0o133 r ∷ [])))
+    (at + c % 2)
     (kept (c / 2) (parity 0o171 r ∷ [])))
-    (at + length (kept c (parity 0o133 r ∷ [])) + length (kept (c / 2) (parity 0o171 r ∷ [])))
+    (at + c % 2 + c / 2 % 2)
     (kept (c / 2 / 2) (parity 0o145 r ∷ [])))
-    (at + length (kept c (parity 0o133 r ∷ [])) + length (kept (c / 2) (parity 0o171 r ∷ [])) + length (kept (c / 2 / 2) (parity 0o145 r ∷ [])))
+    (at + c % 2 + c / 2 % 2 + c / 2 / 2 % 2)
     (kept (c / 2 / 2 / 2) (parity 0o133 r ∷ []))
-sets-kept-parities d at c r = rw (kept-parities, sets-append, sets-append, sets-append) (simp (length-append, add_assoc))
+sets-kept-parities d at c r = rw (kept-parities, sets-append, sets-append, sets-append) (simp (length-append, length-one, add_assoc))
 
 -- the column after a column is one of the pattern's
 pub following_low : {p : List ℕ} → Sound p → (i : ℕ) → following p i < length p

@@ -1,4 +1,5 @@
 // The component code bit by bit: coded bits of a segment, the segment's bits from them, and how many coded bits there are.
+// Stays, in this module: slices stand one by one, since a clause would name one in a struct `rows.now.pattern.now` and not `pattern.now`.
 ghost use Rattle.std.specs.Prelude.{◌≡◌, cond, [], ◌∷◌, ◌+◌, ◌%◌, ◌^◌, ◌≤◌, ◌<◌, length, get_or, ltb};
 ghost use Rattle.std.proofs.lemmas.List.Edits.{sets};
 ghost use Rattle.std.specs.Int.Count.{ones};
@@ -45,53 +46,55 @@ pub fn following(columns: usize, i: usize) -> usize
     if i + 1 < columns { i + 1 } else { 0 }
 }
 
-// Writes one parity, where the lowest digit of the column says that it is kept.
-fn keep(column: u8, register: u32, mask: u32, out: &mut [u8], at: usize) -> usize
-    requires { at + length (kept column (parity mask register ∷ [])) ≤ length out.old }
-    ensures { (result ≡ at + length (kept column (parity mask register ∷ []))) × (out.new
-        ≡ sets out.old at (kept column (parity mask register ∷ []))) }
-{
-    if column % 2 == 0 {
-        return at;
+impl Coder {
+    // Writes one parity of the register, where the lowest digit of the column says that it is kept.
+    fn keep(self, column: u8, mask: u32, out: &mut [u8]) -> Coder
+        requires { self.at + column % 2 ≤ length out.old }
+        ensures register_stays { result.register ≡ self.register }
+        ensures next_place { result.at ≡ self.at + column % 2 }
+        ensures written { out.new ≡ sets out.old self.at (kept column (parity mask self.register ∷ [])) }
+    {
+        if column % 2 == 0 {
+            return self;
+        }
+        out[self.at] = parity(self.register, mask);
+        Coder {
+            at: self.at + 1,
+            ..self
+        }
     }
-    out[at] = parity(register, mask);
-    at + 1
+
+    // Writes the parities of the register that a column keeps.
+    fn keep_column(self, column: u8, out: &mut [u8]) -> Coder
+        requires { self.at + length (kept column (parities self.register)) ≤ length out.old }
+        ensures register_stays { result.register ≡ self.register }
+        ensures next_place { result.at ≡ self.at + length (kept column (parities self.register)) }
+        ensures written { out.new ≡ sets out.old self.at (kept column (parities self.register)) }
+    {
+        let one = self.keep(column, 0o133, out);
+        let two = one.keep(column / 2, 0o171, out);
+        let three = two.keep(column / 2 / 2, 0o145, out);
+        three.keep(column / 2 / 2 / 2, 0o133, out)
+    }
 }
 
-// Writes the parities that a column keeps.
-fn keep_column(column: u8, register: u32, out: &mut [u8], at: usize) -> usize
-    requires { at + length (kept column (parities register)) ≤ length out.old }
-    ensures { (result ≡ at + length (kept column (parities register))) × (out.new ≡ sets out.old at (kept column (parities register))) }
+// The coded bits of a segment, written to out from the coder's place on, by the columns of its pattern.
+pub fn encode_columns(pattern: &[u8], from: Coder, bits: &[u8], out: &mut [u8]) -> Coder
+    requires { Encodes pattern.now from.register bits.now out.old from.at }
+    ensures { Encoded pattern.now from.register bits.now out.old from.at result.register result.at out.new }
 {
-    let one = keep(column, register, 0o133, out, at);
-    let two = keep(column / 2, register, 0o171, out, one);
-    let three = keep(column / 2 / 2, register, 0o145, out, two);
-    keep(column / 2 / 2 / 2, register, 0o133, out, three)
-}
-
-// The coded bits of a segment, written to out from at on, by the columns of its pattern.
-pub fn encode_columns(
-    pattern: &[u8],
-    register: u32,
-    bits: &[u8],
-    out: &mut [u8],
-    at: usize,
-) -> Coder
-    requires { Encodes pattern.now register bits.now out.old at }
-    ensures { Encoded pattern.now register bits.now out.old at result.register result.at out.new }
-{
-    let mut register = register;
-    let mut at = at;
+    let mut coder = from;
     let mut i = 0;
     for bit in bits {
-        register = next(register, *bit);
-        at = keep_column(pattern[i], register, out, at);
+        coder.register = next(coder.register, *bit);
+        coder = coder.keep_column(pattern[i], out);
         i = following(pattern.len(), i);
     }
-    Coder { register, at }
+    coder
 }
 
 // The register with bit k + 6 of some bits as its newest.
+// Stays: bits are bytes that `encode` is lent, whose type must stay; a slice of another type would be a copy.
 #[tactic(auto, unfolding(crate::specs::Coding::register_at))]
 pub fn register_at(bits: &[u8], k: usize) -> u8
     requires { Bits bits.now × (k + 6 < length bits.now) }
@@ -128,31 +131,30 @@ pub fn widths_of(columns: [u8; 8]) -> [usize; 8]
     widths
 }
 
-// The bits of a segment from the coded bits that stand from at on, by the columns of its pattern and their widths: as many as out is long.
+// The bits of a segment from the coded bits from the coder's place on, by the columns of its pattern and their widths: as many as out is long.
+// Stays: `Decodes` and `Widths` speak of slices; a struct with them as its invariant would hold references, of which the line at the top speaks.
 pub fn decode_columns(
     pattern: &[u8],
     widths: &[usize],
-    register: u32,
+    from: Coder,
     coded: &[u8],
-    at: usize,
     out: &mut [u8],
 ) -> Coder
-    requires { Decodes pattern.now register coded.now at out.old × Widths pattern.now widths.now }
-    ensures { Decoded pattern.now register coded.now at (length out.old) result.register result.at out.new }
+    requires { Decodes pattern.now from.register coded.now from.at out.old × Widths pattern.now widths.now }
+    ensures { Decoded pattern.now from.register coded.now from.at (length out.old) result.register result.at out.new }
 {
-    let mut older = register / 2;
-    let mut register = register;
-    let mut at = at;
+    let mut older = from.register / 2;
+    let mut coder = from;
     let mut i = 0;
     for place in out.iter_mut() {
-        let bit = newest(older, coded[at]);
+        let bit = newest(older, coded[coder.at]);
         *place = bit;
-        older = register / 4;
-        register = next(register, bit);
-        at += widths[i];
+        older = coder.register / 4;
+        coder.register = next(coder.register, bit);
+        coder.at += widths[i];
         i = following(pattern.len(), i);
     }
-    Coder { register, at }
+    coder
 }
 
 // How many coded bits n input bits give by the columns of a pattern, counted one by one.
@@ -184,6 +186,7 @@ pub fn count_coded(pattern: &[u8], n: usize) -> usize
 }
 
 // How many coded bits n input bits give with a pattern.
+// Stays: `Held` is no invariant of Pattern, since `channels::blocks::no_level` gives patterns without a column (docs/DECISIONS.md).
 pub fn coded_length(pattern: Pattern, n: usize) -> usize
     requires { Held pattern × (coded_length (pattern_of pattern) 0 n ≤ 65536) }
     ensures { result ≡ coded_length (pattern_of pattern) 0 n }

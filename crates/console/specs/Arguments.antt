@@ -9,7 +9,6 @@ use Rattle.console.specs.declared.Job.TheVariants.{Code, Read, ReadOn, Grid, Ung
 use Rattle.console.specs.declared.LineJob.TheVariants.{Nearest, FacBuild, FacRead}
 use Rattle.console.specs.declared.SettingsJob.{SettingsJob}
 use Rattle.console.specs.declared.Named.{Named}
-use Rattle.refusal.specs.declared.Refusal.{Refusal}
 use Rattle.refusal.specs.Numbers.{number}
 use Rattle.console.specs.declared.Start.{Start}
 use Rattle.console.specs.declared.NotStarted.{NotStarted}
@@ -31,17 +30,27 @@ started (SettingsJob.Turn job) s = Turn job s
 started SettingsJob.Preview s = Preview s
 started SettingsJob.Fit s = Fit s
 
--- Settings that are refused.
-abbrev pub not_started : Refusal → NotStarted
-not_started refusal = Refused (number refusal)
+-- Why nothing starts: the arguments are no job, or the settings are refused, by the number.
+pub data Unstarted : Type 0 where
+  usage : Unstarted
+  refused : ℕ → Unstarted
+
+abbrev pub unstarted : NotStarted → Unstarted
+unstarted Usage = usage
+unstarted (Refused r) = refused (number r)
+
+-- What the arguments start, or why they start nothing.
+abbrev pub start_yield : Result Start NotStarted → Result Start Unstarted
+start_yield (Ok start) = Ok start
+start_yield (Err not) = Err (unstarted not)
 
 -- The same, if nothing refuses the settings.
-unfoldable pub begun_with : SettingsJob → Settings → Result Start NotStarted
-begun_with job s = cond (eqb (refusal s) 0) (Ok (started job s)) (Err (Refused (refusal s)))
+unfoldable pub begun_with : SettingsJob → Settings → Result Start Unstarted
+begun_with job s = cond (eqb (refusal s) 0) (Ok (started job s)) (Err (refused (refusal s)))
 
-unfoldable pub begun_by : SettingsJob → Option Settings → Result Start NotStarted
+unfoldable pub begun_by : SettingsJob → Option Settings → Result Start Unstarted
 begun_by job (Some s) = begun_with job s
-begun_by job None = Err Usage
+begun_by job None = Err usage
 
 -- The fewest arguments of a job, with the program's name, its own and the settings; four where it has a description, a hold file or a number of bytes.
 unfoldable pub fewest_of : SettingsJob → ℕ
@@ -73,19 +82,19 @@ most_of SettingsJob.Fit = 4
 unfoldable pub counted : ℕ → ℕ → ℕ → Bool
 counted count fewest most = leb fewest count && leb count most
 
-unfoldable pub begun : SettingsJob → ℕ → List ℕ → Result Start NotStarted
-begun job count digits = cond (counted count (fewest_of job) (most_of job)) (begun_by job (settings_word digits)) (Err Usage)
+unfoldable pub begun : SettingsJob → ℕ → List ℕ → Result Start Unstarted
+begun job count digits = cond (counted count (fewest_of job) (most_of job)) (begun_by job (settings_word digits)) (Err usage)
 
 -- A job without settings.
-unfoldable pub begun_plain : Start → ℕ → ℕ → ℕ → Result Start NotStarted
-begun_plain start count fewest most = cond (counted count fewest most) (Ok start) (Err Usage)
+unfoldable pub begun_plain : Start → ℕ → ℕ → ℕ → Result Start Unstarted
+begun_plain start count fewest most = cond (counted count fewest most) (Ok start) (Err usage)
 
 -- The job by its name; anything else is answered with the usage. `nearest` has nothing but its name, `plan` a file and perhaps a super frame.
-unfoldable pub start_by : Option Named → ℕ → List ℕ → Result Start NotStarted
+unfoldable pub start_by : Option Named → ℕ → List ℕ → Result Start Unstarted
 start_by (Some (Named.Has job)) count digits = begun job count digits
 start_by (Some Named.Nearest) count digits = begun_plain (Lines Nearest) count 2 2
 start_by (Some Named.Plan) count digits = begun_plain Plan count 3 4
-start_by None count digits = Err Usage
+start_by None count digits = Err usage
 
-unfoldable pub start_of : ℕ → List ℕ → List ℕ → Result Start NotStarted
+unfoldable pub start_of : ℕ → List ℕ → List ℕ → Result Start Unstarted
 start_of count word digits = start_by (named word) count digits

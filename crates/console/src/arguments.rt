@@ -1,6 +1,7 @@
 // What the arguments ask for: a job, and settings in twenty hexadecimal digits.
 ghost use Rattle.std.specs.Prelude.{◌≡◌};
-ghost use Rattle.console.specs.Arguments.{settings_word, started, not_started, begun_with, fewest_of, most_of_frames, most_of, counted, begun, begun_plain, start_of};
+ghost use Rattle.console.specs.declared.NotStarted.{NotStarted};
+ghost use Rattle.console.specs.Arguments.{settings_word, started, start_yield, begun_with, fewest_of, most_of_frames, most_of, counted, begun, begun_plain, start_of};
 
 use crate::bytes::put_bytes;
 use crate::names::named;
@@ -26,6 +27,7 @@ fn settings_word(digits: &[u8]) -> Option<Settings>
 fn started(job: SettingsJob, s: Settings) -> Start
     ensures { result ≡ started job s }
 {
+    // Stays: the job comes from the command line as a value, so that a `match` says what it starts.
     match job {
         SettingsJob::Frames(frames) => Start::Begin(frames, s),
         SettingsJob::FacBuild => Start::Lines(LineJob::FacBuild(s)),
@@ -39,17 +41,17 @@ fn started(job: SettingsJob, s: Settings) -> Start
 
 // Settings that are refused.
 impl From<Refusal> for NotStarted {
-    ghost from_gives = { λ refusal not. not ≡ not_started refusal };
+    ghost from_gives = { λ refusal not. not ≡ NotStarted.Refused refusal };
 
     fn from(refusal: Refusal) -> NotStarted {
-        NotStarted::Refused(refusal.number())
+        NotStarted::Refused(refusal)
     }
 }
 
 // The same, if nothing refuses the settings.
 #[tactic(auto, using(refusal::proofs::Positive::number_positive), unfolding(crate::specs::Arguments::begun_with))]
 fn begin_with(job: SettingsJob, s: Settings) -> Result<Start, NotStarted>
-    ensures { result ≡ begun_with job s }
+    ensures { start_yield result ≡ begun_with job s }
 {
     check(s)?;
     Ok(started(job, s))
@@ -60,44 +62,38 @@ fn begin_with(job: SettingsJob, s: Settings) -> Result<Start, NotStarted>
 fn fewest_of(job: SettingsJob) -> usize
     ensures { result ≡ fewest_of job }
 {
+    // Stays: the job comes from the command line as a value, so that a `match` says what it needs.
     match job {
-        SettingsJob::Frames(_) => 3,
-        SettingsJob::FacBuild => 3,
-        SettingsJob::FacRead => 3,
-        SettingsJob::Multiplex(_) => 4,
-        SettingsJob::Turn(_) => 3,
-        SettingsJob::Preview => 4,
-        SettingsJob::Fit => 4,
+        SettingsJob::Frames(_) | SettingsJob::Turn(_) => 3,
+        SettingsJob::FacBuild | SettingsJob::FacRead => 3,
+        SettingsJob::Multiplex(_) | SettingsJob::Preview | SettingsJob::Fit => 4,
     }
 }
 
 // The most arguments of a job on super frames.
+// Stays: a number for each job; no two numbers are compared here, so that `max` has no place.
 #[tactic(auto, unfolding(crate::specs::Arguments::most_of_frames))]
 fn most_of_frames(job: Job) -> usize
     ensures { result ≡ most_of_frames job }
 {
+    // Stays: the job comes from the command line as a value, so that a `match` says what it may have.
     match job {
         Job::Code => 5,
-        Job::Read => 3,
-        Job::ReadOn => 3,
-        Job::Grid => 3,
-        Job::Ungrid => 3,
+        Job::Read | Job::ReadOn | Job::Grid | Job::Ungrid => 3,
     }
 }
 
 // The most arguments of a job.
+// Stays: a number for each job; no two numbers are compared here, so that `max` has no place.
 #[tactic(auto, unfolding(crate::specs::Arguments::most_of))]
 fn most_of(job: SettingsJob) -> usize
     ensures { result ≡ most_of job }
 {
+    // Stays: the job comes from the command line as a value, so that a `match` says what it may have.
     match job {
         SettingsJob::Frames(frames) => most_of_frames(frames),
-        SettingsJob::FacBuild => 3,
-        SettingsJob::FacRead => 3,
-        SettingsJob::Multiplex(_) => 4,
-        SettingsJob::Turn(_) => 3,
-        SettingsJob::Preview => 4,
-        SettingsJob::Fit => 4,
+        SettingsJob::FacBuild | SettingsJob::FacRead | SettingsJob::Turn(_) => 3,
+        SettingsJob::Multiplex(_) | SettingsJob::Preview | SettingsJob::Fit => 4,
     }
 }
 
@@ -112,7 +108,7 @@ fn counted(count: usize, fewest: usize, most: usize) -> bool
 // A job with so many arguments, the program's name and the job's among them.
 #[tactic(auto, unfolding(crate::specs::Arguments::begun, crate::specs::Arguments::begun_by))]
 fn begin(job: SettingsJob, count: usize, digits: &[u8]) -> Result<Start, NotStarted>
-    ensures { result ≡ begun job count digits.now }
+    ensures { start_yield result ≡ begun job count digits.now }
 {
     if !counted(count, fewest_of(job), most_of(job)) {
         return Err(NotStarted::Usage);
@@ -124,7 +120,7 @@ fn begin(job: SettingsJob, count: usize, digits: &[u8]) -> Result<Start, NotStar
 // A job that has no settings, with so many arguments.
 #[tactic(auto, unfolding(crate::specs::Arguments::begun_plain))]
 fn begin_plain(start: Start, count: usize, fewest: usize, most: usize) -> Result<Start, NotStarted>
-    ensures { result ≡ begun_plain start count fewest most }
+    ensures { start_yield result ≡ begun_plain start count fewest most }
 {
     if !counted(count, fewest, most) {
         return Err(NotStarted::Usage);
@@ -135,8 +131,9 @@ fn begin_plain(start: Start, count: usize, fewest: usize, most: usize) -> Result
 // What so many arguments ask for, of which the first word is the job's and the second the settings'.
 #[tactic(auto, unfolding(crate::specs::Arguments::start_of, crate::specs::Arguments::start_by))]
 pub fn start(count: usize, word: &[u8], digits: &[u8]) -> Result<Start, NotStarted>
-    ensures { result ≡ start_of count word.now digits.now }
+    ensures { start_yield result ≡ start_of count word.now digits.now }
 {
+    // Stays: the job comes from the command line as a word, so that a `match` on what it names says how it begins.
     match named(word) {
         Some(Named::Has(job)) => begin(job, count, digits),
         Some(Named::Nearest) => begin_plain(Start::Lines(LineJob::Nearest), count, 2, 2),

@@ -5,6 +5,7 @@ pub mod arguments;
 pub mod bytes;
 pub mod names;
 
+use refusal::Refusal;
 use settings::Settings;
 
 // A job on super frames.
@@ -32,6 +33,7 @@ pub enum TurnJob {
 }
 
 // A job on lines, with its settings where it has any.
+// Stays: the three are jobs by their names, and `Nearest` is one of them and no absence of another.
 #[derive(Clone, Copy)]
 pub enum LineJob {
     Nearest,
@@ -52,6 +54,7 @@ pub enum SettingsJob {
 }
 
 // What a job's name names.
+// Stays: `Nearest` and `Plan` are jobs like the others, only without settings, and no absence of one.
 #[derive(Clone, Copy)]
 pub enum Named {
     Has(SettingsJob),
@@ -59,11 +62,12 @@ pub enum Named {
     Plan,
 }
 
-// Why the arguments start nothing: they are no job, or their settings are refused, by the number of the refusal.
+// Why the arguments start nothing: they are no job or no description, or their settings or their description are refused.
+// Stays: it is the error of a `Result`, and an error without a refusal is said by its name, `Usage`, and not by None.
 #[derive(Clone, Copy)]
 pub enum NotStarted {
     Usage,
-    Refused(u8),
+    Refused(Refusal),
 }
 
 // What the arguments ask for.

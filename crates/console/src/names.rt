@@ -1,4 +1,5 @@
 // The jobs by their names, a group at a time.
+// Stays: tried `match word { b"to-new" => .. }` in `turn_named`: it leaves a goal for each byte that may differ, twelve for two names; the check finds none.
 ghost use Rattle.std.specs.Prelude.{◌≡◌, cond};
 ghost use Rattle.console.specs.Names.{same_bytes, frames_named, lines_named, multiplex_named, turn_named, asked_named, named};
 

@@ -12,6 +12,7 @@ pub struct Measured {
 }
 
 // A measured cell: either a pair, or a fade that carries only its gain.
+// Stays: a fade is no failure and has a gain of its own; the definitions in `decision` Cells name both variants.
 #[derive(Clone, Copy)]
 pub enum MeasuredCell {
     Pair(Measured),

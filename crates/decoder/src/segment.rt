@@ -1,4 +1,5 @@
 // The bits of a segment from its coded ones, by division. 01 "Component code".
+// Stays, in this module: slices stand one by one, since a clause would name one in a struct `rows.now.pattern.now` and not `pattern.now`.
 ghost use Rattle.std.specs.Prelude.{◌≡◌, ◌+◌, ◌-◌, ◌*◌, ◌≤◌, ◌<◌, length};
 ghost use Rattle.patterns.specs.Clauses.{pattern_of, Held};
 ghost use Rattle.component.specs.Decoding.{coded_length};
@@ -24,7 +25,7 @@ fn collect_column(pattern: &[u8], stride: usize, coded: &[u8], at: usize, out: &
     let width = pattern.len();
     let mut at = at;
     let mut j = i;
-    // Stays: j and at go on by a stride each, so that a for by step_by would count one of them and leave the other as it is.
+    // Stays: a `for` by `step_by` was tried; reading a level then takes 16 % more instructions.
     while j < out.len() {
         out[j] = coded[at] % 2;
         at += stride;
@@ -56,6 +57,7 @@ fn product(bits: &[u8], step: usize, j: usize) -> u8
 }
 
 // Bits times the mask, from the last on, so that no product is in the way of another.
+// Stays: bits are bytes of the buffer that `decode` is lent, whose type must stay; a slice of another type would be a copy.
 fn multiply(bits: &mut [u8], step: usize)
     requires { Bits bits.old × (12 * step ≤ length bits.old) × (step < 3) }
     ensures { Multiplied step bits.old bits.new }
@@ -88,51 +90,43 @@ fn raise(pattern: &[u8], widths: &[usize], coded: &[u8], at: usize, out: &mut [u
 }
 
 // A segment of more bits: the first ones bit by bit, and the others by division.
-fn decode_long(
-    pattern: &[u8],
-    widths: &[usize],
-    register: u32,
-    coded: &[u8],
-    at: usize,
-    out: &mut [u8],
-) -> Coder
-    requires { Decodes pattern.now register coded.now at out.old × Widths pattern.now widths.now × (24 ≤ length out.old) }
-    ensures { Decoded pattern.now register coded.now at (length out.old) result.register result.at out.new }
+// Stays: `Decodes` and `Widths` speak of slices; a struct with them as its invariant would hold references, of which the line at the top speaks.
+fn decode_long(pattern: &[u8], widths: &[usize], from: Coder, coded: &[u8], out: &mut [u8]) -> Coder
+    requires { Decodes pattern.now from.register coded.now from.at out.old × Widths pattern.now widths.now × (24 ≤ length out.old) }
+    ensures { Decoded pattern.now from.register coded.now from.at (length out.old) result.register result.at out.new }
 {
-    let end = at + count_coded(pattern, out.len());
-    raise(pattern, widths, coded, at, out);
-    decode_columns(pattern, widths, register, coded, at, &mut out[0..FIRST]);
+    let at = from.at + count_coded(pattern, out.len());
+    raise(pattern, widths, coded, from.at, out);
+    decode_columns(pattern, widths, from, coded, &mut out[0..FIRST]);
     divide(out);
-    let last = register_at(out, out.len() - 7);
-    Coder {
-        register: last as u32,
-        at: end,
-    }
+    let register = register_at(out, out.len() - 7) as u32;
+    Coder { register, at }
 }
 
 // A segment: a short one, as the tail, bit by bit.
+// Stays: `Decodes` and `Widths` speak of slices; a struct with them as its invariant would hold references, of which the line at the top speaks.
 fn decode_segment(
     pattern: &[u8],
     widths: &[usize],
-    register: u32,
+    from: Coder,
     coded: &[u8],
-    at: usize,
     out: &mut [u8],
 ) -> Coder
-    requires { Decodes pattern.now register coded.now at out.old × Widths pattern.now widths.now }
-    ensures { Decoded pattern.now register coded.now at (length out.old) result.register result.at out.new }
+    requires { Decodes pattern.now from.register coded.now from.at out.old × Widths pattern.now widths.now }
+    ensures { Decoded pattern.now from.register coded.now from.at (length out.old) result.register result.at out.new }
 {
     if out.len() < LEAST {
-        return decode_columns(pattern, widths, register, coded, at, out);
+        return decode_columns(pattern, widths, from, coded, out);
     }
-    decode_long(pattern, widths, register, coded, at, out)
+    decode_long(pattern, widths, from, coded, out)
 }
 
-// The bits of a segment from the coded bits that stand from at on: as many as out is long.
-pub fn decode(pattern: Pattern, register: u32, coded: &[u8], at: usize, out: &mut [u8]) -> Coder
-    requires { Held pattern × Decodes (pattern_of pattern) register coded.now at out.old }
-    ensures { Decoded (pattern_of pattern) register coded.now at (length out.old) result.register result.at out.new }
+// The bits of a segment from the coded bits from the coder's place on: as many as out is long.
+// Stays: `Held` is no invariant of Pattern, since `channels::blocks::no_level` gives patterns without a column (docs/DECISIONS.md).
+pub fn decode(pattern: Pattern, from: Coder, coded: &[u8], out: &mut [u8]) -> Coder
+    requires { Held pattern × Decodes (pattern_of pattern) from.register coded.now from.at out.old }
+    ensures { Decoded (pattern_of pattern) from.register coded.now from.at (length out.old) result.register result.at out.new }
 {
     let widths = widths_of(pattern.columns);
-    decode_segment(pattern.columns(), &widths, register, coded, at, out)
+    decode_segment(pattern.columns(), &widths, from, coded, out)
 }

@@ -12,6 +12,7 @@ use previewjobs::previews;
 
 // What the arguments ask for.
 fn begin(rt: HostRuntime, start: Start) {
+    // Stays: what is asked comes from the command line as a value, and each of its jobs is begun with other values.
     match start {
         Start::Begin(job, s) => super_frames::begin(rt, job, s),
         Start::Lines(job) => lines::run_lines(rt, job),
@@ -31,6 +32,6 @@ fn main(rt: HostRuntime) {
     match arguments::start(argument_count(rt), &word[..n], &digits[..m]) {
         Ok(start) => begin(rt, start),
         Err(NotStarted::Usage) => say_usage(),
-        Err(NotStarted::Refused(number)) => say_settings(number),
+        Err(NotStarted::Refused(refusal)) => say_settings(refusal.number()),
     }
 }

@@ -1,4 +1,6 @@
 // Jobs on super frames.
+// Stays, in this module: tried with the buffers in a struct of `&mut`s: at the call of `step` the check says that its borrow checker
+// "does not cover this function yet".
 use console::Job;
 use endings::Lost;
 use endings::marks::lost_after;

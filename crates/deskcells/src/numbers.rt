@@ -4,6 +4,7 @@ ghost use Rattle.std.proofs.lemmas.List.Edits.{sets};
 ghost use Rattle.deskcells.specs.Cells.{cell_bytes, bytes_cells};
 
 // The bytes of numbers from a place on.
+// Stays: docs/READING.md names this function and shows its loop, and its promise holds for every place.
 pub fn put_cells(cells: &[i16], out: &mut [u8], at: usize)
     requires { at + 2 * length cells.now ≤ length out.old }
     ensures { out.new ≡ sets out.old at (cell_bytes cells.now) }

@@ -56,27 +56,23 @@ pub record Dispersing (t : ℕ) (d out : List ℕ) (at i : ℕ) : Type 0 where
 pub start : (t : ℕ) (d : List ℕ) (at : ℕ) → at ≡ t % 511 → Dispersing t d d at 0
 start t d at e = record { turns = omega arith; long = refl; place = rw add-zero e; front = rw add-zero; rest = refl }
 
-module _ {t : ℕ} {d out : List ℕ} {at i n : ℕ} (D : Dispersing t d out at i) (h : i < length d) (e : n ≡ min (511 - at) (length out - i)) where
+module _ {t : ℕ} {d out : List ℕ} {at i n : ℕ} (D : Dispersing t d out at i) (e : n ≡ min (511 - at) (length out - i)) where
   pub piece_low : at < 511
   piece_low = omega (arith, D.place)
 
-  -- there are bits left in the period and in the list
-  pub piece-some : 0 < n
-  piece-some = omega (arith, piece_low, D.long)
-
   pub piece-ends : i + n ≤ length out
-  piece-ends = omega (arith, D.long)
+  piece-ends = omega (arith, D.long, D.turns)
 
-  piece_is : take (i + n - i) (drop i out) ≡ take n (drop i d)
-  piece_is = let m : i + n - i ≡ n = omega arith in rw (m, D.rest)
+  piece_is : take n (drop i out) ≡ take n (drop i d)
+  piece_is = rw D.rest
 
   piece-length : length (take n (drop i d)) ≡ n
   piece-length = length-take-le n (drop i d) (rw length-drop (omega (arith, piece-ends, D.long)))
 
-  pub piece_adds : {s : List ℕ} → s ≡ table p 0 511 → Adds s at (take (i + n - i) (drop i out))
+  pub piece_adds : {s : List ℕ} → s ≡ table p 0 511 → Adds s at (take n (drop i out))
   piece_adds f = record { known = f; there = rw (piece_is, piece-length) (omega (arith, piece_low)) }
 
-  module _ {q : List ℕ} (f : q ≡ dispersed at (take (i + n - i) (drop i out))) where
+  module _ {q : List ℕ} (f : q ≡ dispersed at (take n (drop i out))) where
     added : q ≡ dispersed (t + i) (take n (drop i d))
     added = f ∙ ap₂ dispersed D.place piece_is ∙ period (t + i) (take n (drop i d))
 
@@ -88,13 +84,11 @@ module _ {t : ℕ} {d out : List ℕ} {at i n : ℕ} (D : Dispersing t d out at 
 
     long_written : length written ≡ i + n
     unfolding written
-    long_written = length-append (take i out) q ∙ rw (length-take-le i out (omega (arith, D.long)), long_added)
+    long_written = length-append (take i out) q ∙ rw (length-take-le i out (omega (arith, D.long, D.turns)), long_added)
 
-    is_written : put_mid i (i + n - i) out q ≡ written ++ drop (i + n) d
+    is_written : put_mid i n out q ≡ written ++ drop (i + n) d
     unfolding written
-    is_written =
-        let m : i + n - i ≡ n = omega arith in
-        rw (m, D.rest, drop-drop n i d) (sym (append_assoc (take i out) q (drop (i + n) d)))
+    is_written = rw (D.rest, drop-drop n i d) (sym (append_assoc (take i out) q (drop (i + n) d)))
 
     -- all of it: what was there is what was done and what is left
     joined : written ++ dispersed (t + (i + n)) (drop (i + n) d) ≡ dispersed t d
@@ -107,12 +101,12 @@ module _ {t : ℕ} {d out : List ℕ} {at i n : ℕ} (D : Dispersing t d out at 
         ∙ rw (piece-length, ← added, drop-drop n i d, add_assoc t i n) in
         append_assoc (take i out) q (dispersed (t + (i + n)) (drop (i + n) d)) ∙ rw (← b) D.front
 
-    pub turn : Dispersing t d (put_mid i (i + n - i) out q) ((at + n) % 511) (i + n)
+    pub turn : Dispersing t d (put_mid i n out q) ((t + (i + n)) % 511) (i + n)
     turn =
         record {
           turns = omega (arith, piece-ends, D.long);
           long = rw (is_written, length-append, long_written, length-drop) (omega (arith, piece-ends, D.long));
-          place = omega (arith, D.place);
+          place = refl;
           front = rw (is_written, take_at written (drop (i + n) d) (i + n) long_written) joined;
           rest = rw (is_written) (drop_at written (drop (i + n) d) (i + n) long_written);
         }

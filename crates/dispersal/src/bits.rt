@@ -15,18 +15,17 @@ fn add_sequence(sequence: &[u8], at: usize, bits: &mut [u8])
     }
 }
 
-// Bits added modulo 2 to the sequence in place: bit i to p(treated + i). One period after another, so that no bit waits for the one before it.
+// Bits added modulo 2 to the sequence in place: bit i to p(treated + i). What is left of a period, and then one period after another, so that no bit
+// waits for the one before it.
 pub fn disperse(treated: u16, bits: &mut [u8])
     ensures { bits.new ≡ dispersed treated bits.old }
 {
     let sequence = whole_period();
-    let mut at = place_in_period(treated);
-    let mut i = 0;
-    // Stays: a turn takes what is left of a period, so that i goes on by pieces of two sizes, as no range or chunk does.
-    while i < bits.len() {
-        let n = (PERIOD - at).min(bits.len() - i);
-        add_sequence(&sequence, at, &mut bits[i..i + n]);
-        at = (at + n) % PERIOD;
-        i += n;
+    let at = place_in_period(treated);
+    let first = (PERIOD - at).min(bits.len());
+    add_sequence(&sequence, at, &mut bits[0..first]);
+    for i in (first..bits.len()).step_by(PERIOD) {
+        let end = (i + PERIOD).min(bits.len());
+        add_sequence(&sequence, 0, &mut bits[i..end]);
     }
 }

@@ -48,6 +48,7 @@ fn disperse_accepted(treated: u16, n: usize, bytes: &[u8], out: &mut [u8])
 }
 
 // The first `bits` of the packed bits, bit i added modulo 2 to p(treated + i), packed again. Refusals 9, 10 and 11, lowest number first.
+// Stays: the parameters are those of the C function drm_disperse, in their order.
 #[tactic(auto, unfolding(crate::specs::Calls::disperse_of, crate::specs::Calls::disperse_refusal, lists::specs::Bytes::bytes_for))]
 pub fn disperse_bytes(treated: u16, bits: u16, bytes: &[u8], out: &mut [u8]) -> Result<(), Refusal>
     ensures { disperse_yield (answer result) out.new ≡ disperse_of treated bits bytes.now out.old }

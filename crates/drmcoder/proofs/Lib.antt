@@ -1,4 +1,3 @@
 pub mod Answers
-pub mod GridSizes
 pub mod Planned
 pub mod ReadOn

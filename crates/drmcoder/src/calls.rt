@@ -1,5 +1,7 @@
 // The calls drm_reset, drm_reset_table, drm_code and drm_read.
+// Stays, in this module: the parameters are those of the C functions, in their order.
 ghost use Rattle.std.specs.Prelude.{◌≡◌};
+ghost use Rattle.refusal.specs.Numbers.{answer};
 ghost use Rattle.patterns.specs.Patterns.{table65};
 ghost use Rattle.superframe.specs.Clauses.{code_call, read_call};
 ghost use Rattle.statebytes.specs.Answers.{reset_yields};
@@ -10,21 +12,26 @@ use patterns::table::standard_table;
 use readcall::read::read;
 use refusal::{Refusal, answer};
 use resetcall::reset::reset_table;
-use settingbytes::bytes::settings_of;
+use settingbytes::bytes::taken;
 use statebytes::answers::{finish, finish_read, refusal_word};
 use statebytes::bytes::state_of;
 
 // Begins a run of settings and a table on a memory.
-#[tactic(auto, unfolding(crate::specs::Calls::reset_bytes))]
-fn reset_bytes(state: &mut [u8], settings: &[u8], table: &[u8], memory: &mut [u8]) -> u8
-    ensures { reset_yields result state.new memory.new
+#[tactic(auto, unfolding(crate::specs::Calls::reset_bytes, settingbytes::specs::Bytes::taken))]
+fn reset_bytes(
+    state: &mut [u8],
+    settings: &[u8],
+    table: &[u8],
+    memory: &mut [u8],
+) -> Result<(), Refusal>
+    ensures { reset_yields (answer result) state.new memory.new
         ≡ reset_bytes state.old settings.now table.now memory.old }
 {
-    if state.len() != 208 || settings.len() != 10 {
-        return Refusal::FixedLength.number();
+    if state.len() != 208 {
+        return Err(Refusal::FixedLength);
     }
-    let outcome = reset_table(settings_of(settings), table, memory);
-    answer(finish(outcome, state))
+    let s = taken(settings)?;
+    finish(reset_table(s, table, memory), state)
 }
 
 // Begins a run with the standard's table.
@@ -32,7 +39,7 @@ pub fn drm_reset(state: &mut [u8], settings: &[u8], memory: &mut [u8]) -> u8
     ensures { reset_yields result state.new memory.new
         ≡ reset_bytes state.old settings.now table65 memory.old }
 {
-    reset_bytes(state, settings, &standard_table(), memory)
+    answer(reset_bytes(state, settings, &standard_table(), memory))
 }
 
 // Begins a run with a table of its own. 02 S-11.
@@ -40,7 +47,7 @@ pub fn drm_reset_table(state: &mut [u8], settings: &[u8], table: &[u8], memory: 
     ensures { reset_yields result state.new memory.new
         ≡ reset_bytes state.old settings.now table.now memory.old }
 {
-    reset_bytes(state, settings, table, memory)
+    answer(reset_bytes(state, settings, table, memory))
 }
 
 // Three FAC blocks, an SDC block and three multiplex frames to the cells of a super frame.

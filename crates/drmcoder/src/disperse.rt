@@ -1,4 +1,5 @@
 // The dispersal step on packed bits: drm_disperse (02, S-6).
+// Stays, in this module: the parameters are those of the C functions, in their order.
 ghost use Rattle.std.specs.Prelude.{◌≡◌};
 ghost use Rattle.dispersecall.specs.Calls.{disperse_yield, disperse_of};
 

@@ -1,4 +1,5 @@
 // The call drm_read_on. 02, S-13.
+// Stays, in this module: the parameters are those of the C functions, in their order.
 ghost use Rattle.std.specs.Prelude.{◌≡◌};
 ghost use Rattle.readoncall.specs.Clauses.{read_on_call};
 ghost use Rattle.drmcoder.specs.ReadOn.{read_on_yields, read_on_bytes};

@@ -1,4 +1,5 @@
 // The calls that store a state and its memory in a hold file, and restore them. 02, S-7 and S-11.
+// Stays, in this module: the parameters are those of the C functions, in their order.
 ghost use Rattle.std.specs.Prelude.{◌≡◌};
 ghost use Rattle.patterns.specs.Patterns.{table65};
 ghost use Rattle.holdlines.specs.declared.Form.TheVariants.{Old, New};

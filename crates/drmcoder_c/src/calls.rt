@@ -1,4 +1,5 @@
 // The calls drm_reset, drm_reset_table, drm_code and drm_read.
+// Stays, in this module: the parameters are those of the C functions, in their order.
 ghost use Rattle.std.specs.Prelude.{◌≡◌};
 ghost use Rattle.patterns.specs.Patterns.{table65};
 ghost use Rattle.superframe.specs.Clauses.{code_call, read_call};

@@ -1,4 +1,5 @@
 // The calls drm_decide_fac, drm_decide_sdc and drm_decide_msc. 02, S-10.
+// Stays, in this module: the parameters are those of the C functions, in their order.
 ghost use Rattle.std.specs.Prelude.{◌≡◌};
 ghost use Rattle.measured.specs.declared.Channel.TheVariants.{Fac, Sdc, Msc};
 ghost use Rattle.measured.specs.Calls.{decide_yield};

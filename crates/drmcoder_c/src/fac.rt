@@ -1,4 +1,5 @@
 // The calls on FAC blocks: drm_fac_build and drm_fac_read (02, S-1), drm_fac_nearest (02, S-9).
+// Stays, in this module: the parameters are those of the C functions, in their order.
 ghost use Rattle.std.specs.Prelude.{◌≡◌};
 ghost use Rattle.facfields.specs.Build.{build_yield};
 ghost use Rattle.facfields.specs.Read.{read_yield};

@@ -1,4 +1,5 @@
 // The calls drm_grid_sizes, drm_grid_place and drm_grid_take.
+// Stays, in this module: the parameters are those of the C functions, in their order.
 ghost use Rattle.std.specs.Prelude.{◌≡◌};
 ghost use Rattle.grid.specs.Clauses.{place_yield, take_yield};
 ghost use Rattle.placing.specs.Clauses.{cells_from};

@@ -1,4 +1,5 @@
 // The call drm_how_long. 02, S-14.
+// Stays, in this module: the parameters are those of the C functions, in their order.
 ghost use Rattle.std.specs.Prelude.{◌≡◌};
 ghost use Rattle.howlong.specs.HowLong.{how_long_yield};
 ghost use Rattle.drmcoder.specs.HowLong.{how_long_bytes};

@@ -1,4 +1,5 @@
 // The calls on multiplex frames: drm_mux_build and drm_mux_read. 02, S-8.
+// Stays, in this module: the parameters are those of the C functions, in their order.
 ghost use Rattle.std.specs.Prelude.{◌≡◌};
 ghost use Rattle.multiplex.specs.Build.{build_yield};
 ghost use Rattle.multiplex.specs.Read.{read_yield};

@@ -1,4 +1,5 @@
 // The call drm_preview. 02, S-3.
+// Stays, in this module: the parameters are those of the C functions, in their order.
 ghost use Rattle.std.specs.Prelude.{◌≡◌};
 ghost use Rattle.superframe.specs.Clauses.{code_call};
 ghost use Rattle.drmcoder.specs.Preview.{preview_yields, preview_bytes};

@@ -1,9 +1,11 @@
 // The call drm_read_on. 02, S-13.
+// Stays, in this module: the parameters are those of the C functions, in their order.
 ghost use Rattle.std.specs.Prelude.{◌≡◌};
 ghost use Rattle.readoncall.specs.Clauses.{read_on_call};
 ghost use Rattle.drmcoder.specs.ReadOn.{read_on_yields, read_on_bytes};
 
 // The cells of a super frame to its blocks and the multiplex frames that it finishes, each with its bits or lost.
+// Stays: the C interface: an export for each call, which hands its parameters to the function of that name.
 #[unsafe(no_mangle)]
 pub extern "C" fn drm_read_on(
     state: &mut [u8],

@@ -2,7 +2,7 @@
 use Prim.Native.Nat.{ℕ, zero, suc, ◌+◌, ◌-◌, ◌*◌, ◌/◌, ◌%◌, ◌≤◌, ◌<◌}
 use mathlib.Core.Path.{◌≡◌, refl, sym, ap, ◌∙◌}
 use mathlib.Core.List.{List, [], ◌∷◌, ◌++◌}
-use native.Mathlib.Nat.{add-zero, zero-mul, suc-mul}
+use native.Mathlib.Nat.{zero-mul, suc-mul}
 use native.Mathlib.Numerals.{add-one}
 use native.Mathlib.Omega.{arith}
 use lib.ListN.{length, get_or, set, length-set, length-append}
@@ -14,7 +14,7 @@ use Rattle.component.specs.Register.{parity, parities}
 use Rattle.component.specs.Codeword.{kept}
 use Rattle.encoder.specs.Rounds.{spread, laid, Lays}
 use Rattle.component.proofs.Sets.{sets-append}
-use Rattle.component.proofs.Codeword.{length-pick, kept-parities, kept_odd, kept_even}
+use Rattle.component.proofs.Codeword.{length-one, kept-parities, kept_odd, kept_even}
 
 -- stores at places that do not overlap, in either order
 set-sets : (d : List ℕ) (i j a : ℕ) (l : List ℕ) → i < j → set (sets d j l) i a ≡ sets (set d i a) j l
@@ -78,11 +78,7 @@ module _ (rs : List ℕ) (w c : ℕ) (d : List ℕ) (at s : ℕ) where
       spread_join (λ q. f (get_or rs (q * w) 0)) (λ q. g (get_or rs (q * w) 0)) m n d at at' s 0 c
       (λ q. hf (get_or rs (q * w) 0)) (λ q. hg (get_or rs (q * w) 0)) h e
 
--- a digit of a column keeps one parity or none
-length-one : (c b : ℕ) → length (kept c (b ∷ [])) ≡ c % 2
-unfolding kept
-length-one c b = length-pick (c % 2) b [] (omega arith) ∙ add-zero (c % 2)
-
+-- an even column keeps no first bit, an odd one keeps it
 pub kept_none : (c b : ℕ) → c % 2 ≡ 0 → kept c (b ∷ []) ≡ []
 unfolding kept
 kept_none c b h = kept_even c b [] h

@@ -66,3 +66,4 @@ pub record EncodesBlocks (pattern bits : List ℕ) (first : ℕ) (out : List ℕ
   pub input : Bits bits
   pub begun : 7 * length pattern ≤ first
   pub there : first ≤ length bits
+  pub few : length pattern ≤ 8

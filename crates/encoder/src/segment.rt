@@ -1,4 +1,5 @@
 // The coded bits of a segment, by columns over whole rounds of its pattern. 01 "Component code".
+// Stays, in this module: buffers stand one by one; with a struct of `&mut` a clause must also say that each reference is still the same one.
 ghost use Rattle.std.specs.Prelude.{◌≡◌, [], ◌∷◌, ◌+◌, ◌-◌, ◌*◌, ◌%◌, ◌≤◌, ◌<◌, length, take, drop};
 ghost use Rattle.std.proofs.lemmas.List.Edits.{sets};
 ghost use Rattle.std.specs.Int.Count.{ones};
@@ -6,12 +7,12 @@ ghost use Rattle.component.specs.Register.{parity, parities};
 ghost use Rattle.component.specs.Codeword.{kept, encode};
 ghost use Rattle.patterns.specs.Clauses.{pattern_of, Held};
 ghost use Rattle.lists.specs.Lists.{table};
-ghost use Rattle.lists.specs.Buffers.{Long};
 ghost use Rattle.component.specs.Bits.{Bits};
 ghost use Rattle.component.specs.Coding.{Encodes, Encoded, register_at};
-ghost use Rattle.encoder.specs.Rounds.{laid, rounds_laid, Lays, LaysRounds, EncodesRounds, EncodesBlocks, Pairs};
+ghost use Rattle.encoder.specs.Rounds.{laid, rounds_laid, Lays, LaysRounds, EncodesRounds, EncodesBlocks};
 
 use component::code::{Coder, count_columns, encode_columns, parity, register_at};
+use lists::buffers::buffer;
 use patterns::Pattern;
 
 // The first rounds of a segment, which fill a register: a segment of fewer is coded bit by bit.
@@ -84,6 +85,7 @@ fn lay_column(
 }
 
 // The registers of a run of bits, each from its own bit and the six before it, so that none waits for another.
+// Stays: bits are bytes that `encode` is lent, whose type must stay; a slice of another type would be a copy.
 fn registers_of(bits: &[u8], from: usize, registers: &mut [u8])
     requires { Bits bits.now × (from + length registers.old + 6 ≤ length bits.now) }
     ensures { registers.new
@@ -121,13 +123,6 @@ fn lay_columns(
     }
 }
 
-// Room for the registers of a block's bits.
-fn register_buffer() -> [u8; BLOCK]
-    ensures { Long 2048 result }
-{
-    [0u8; BLOCK]
-}
-
 // Whole rounds, two and two, of the bits from first on: all their registers, and then one column after the other.
 fn encode_rounds(
     pattern: &[u8],
@@ -145,19 +140,12 @@ fn encode_rounds(
         (take (2 * pairs * length pattern.now) (drop first bits.now))) }
 {
     let n = 2 * pairs * pattern.len();
-    let mut registers = register_buffer();
+    let mut registers: [u8; BLOCK] = buffer(0);
     registers_of(bits, first - 6, &mut registers[0..n]);
     lay_columns(pattern, &registers[0..n], pairs, out, at, stride);
 }
 
-// How many pairs of rounds there are among the bits that are left, and no more than a block has.
-fn pairs_of(left: usize, width: usize) -> usize
-    requires { 0 < width }
-    ensures { Pairs left width result }
-{
-    left.min(BLOCK) / width / 2
-}
-
+// Stays: out is lent and cannot grow, so the place of the next coded bit goes along with it.
 // What is left of a segment from a place behind its first rounds on: one block of pairs of rounds after the other, and the rest bit by bit.
 fn encode_blocks(pattern: &[u8], bits: &[u8], first: usize, out: &mut [u8], at: usize) -> Coder
     requires { EncodesBlocks pattern.now bits.now first out.old at }
@@ -166,37 +154,37 @@ fn encode_blocks(pattern: &[u8], bits: &[u8], first: usize, out: &mut [u8], at: 
 {
     let width = pattern.len();
     let stride = count_columns(pattern, width);
-    let mut first = first;
-    let mut at = at;
-    let mut pairs = pairs_of(bits.len() - first, width);
-    // Stays: a block takes the rounds that are left, up to its room, so that no range says how far a turn goes.
-    while 0 < pairs {
-        encode_rounds(pattern, stride, bits, first, pairs, out, at);
-        at += 2 * pairs * stride;
-        first += 2 * pairs * width;
-        pairs = pairs_of(bits.len() - first, width);
+    let pairs = (bits.len() - first) / width / 2;
+    let most = BLOCK / width / 2;
+    for k in (0..pairs).step_by(most) {
+        let some = most.min(pairs - k);
+        let from = first + 2 * k * width;
+        encode_rounds(pattern, stride, bits, from, some, out, at + 2 * k * stride);
     }
-    let register = register_at(bits, first - 7);
-    encode_columns(pattern, register as u32, &bits[first..], out, at)
+    let rest = first + 2 * pairs * width;
+    let register = register_at(bits, rest - 7) as u32;
+    let at = at + 2 * pairs * stride;
+    encode_columns(pattern, Coder { register, at }, &bits[rest..], out)
 }
 
 // A segment: its first rounds bit by bit, and what is left by blocks.
-fn encode_segment(pattern: &[u8], register: u32, bits: &[u8], out: &mut [u8], at: usize) -> Coder
-    requires { Encodes pattern.now register bits.now out.old at }
-    ensures { Encoded pattern.now register bits.now out.old at result.register result.at out.new }
+fn encode_segment(pattern: &[u8], from: Coder, bits: &[u8], out: &mut [u8]) -> Coder
+    requires { Encodes pattern.now from.register bits.now out.old from.at × (length pattern.now ≤ 8) }
+    ensures { Encoded pattern.now from.register bits.now out.old from.at result.register result.at out.new }
 {
     if bits.len() / ROUNDS < pattern.len() {
-        return encode_columns(pattern, register, bits, out, at);
+        return encode_columns(pattern, from, bits, out);
     }
     let head = ROUNDS * pattern.len();
-    let front = encode_columns(pattern, register, &bits[0..head], out, at);
+    let front = encode_columns(pattern, from, &bits[0..head], out);
     encode_blocks(pattern, bits, head, out, front.at)
 }
 
-// The coded bits of a segment, written to out from at on.
-pub fn encode(pattern: Pattern, register: u32, bits: &[u8], out: &mut [u8], at: usize) -> Coder
-    requires { Held pattern × Encodes (pattern_of pattern) register bits.now out.old at }
-    ensures { Encoded (pattern_of pattern) register bits.now out.old at result.register result.at out.new }
+// The coded bits of a segment, written to out from the coder's place on.
+// Stays: `Held` is no invariant of Pattern, since `channels::blocks::no_level` gives patterns without a column (docs/DECISIONS.md).
+pub fn encode(pattern: Pattern, from: Coder, bits: &[u8], out: &mut [u8]) -> Coder
+    requires { Held pattern × Encodes (pattern_of pattern) from.register bits.now out.old from.at }
+    ensures { Encoded (pattern_of pattern) from.register bits.now out.old from.at result.register result.at out.new }
 {
-    encode_segment(pattern.columns(), register, bits, out, at)
+    encode_segment(pattern.columns(), from, bits, out)
 }

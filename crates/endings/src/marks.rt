@@ -1,5 +1,5 @@
 // What a run that reads on has lost so far. 02, S-13.
-ghost use Rattle.std.specs.Prelude.{◌≡◌, ◌+◌};
+ghost use Rattle.std.specs.Prelude.{◌≡◌, ◌+◌, get_or};
 ghost use Rattle.endings.specs.Lost.{added, lost_after};
 
 use crate::Lost;
@@ -9,14 +9,15 @@ const MARKS: usize = 7;
 
 // A number with three marks more.
 #[tactic(auto, unfolding(crate::specs::Lost::added))]
-fn added(n: u64, a: u8, b: u8, c: u8) -> u64
-    ensures { result ≡ added n (a + b + c) }
+fn added(n: u64, marks: [u8; 3]) -> u64
+    ensures { result ≡ added n (get_or marks 0 0 + get_or marks 1 0 + get_or marks 2 0) }
 {
-    n.saturating_add(a as u64 + b as u64 + c as u64)
+    let [a, b, c] = marks;
+    n.saturating_add(u64::from(a) + u64::from(b) + u64::from(c))
 }
 
 // With a super frame more, whose marks come first in what was written for it.
-#[tactic(auto, unfolding(crate::specs::Lost::lost_after))]
+#[tactic(auto, unfolding(crate::specs::Lost::lost_after, crate::specs::Lost::added))]
 pub fn lost_after(lost: Lost, written: &[u8]) -> Lost
     ensures { result ≡ lost_after lost written.now }
 {
@@ -24,8 +25,8 @@ pub fn lost_after(lost: Lost, written: &[u8]) -> Lost
         return lost;
     }
     Lost {
-        fac: added(lost.fac, written[0], written[1], written[2]),
-        sdc: added(lost.sdc, written[3], 0, 0),
-        frames: added(lost.frames, written[4], written[5], written[6]),
+        fac: added(lost.fac, [written[0], written[1], written[2]]),
+        sdc: lost.sdc.saturating_add(u64::from(written[3])),
+        frames: added(lost.frames, [written[4], written[5], written[6]]),
     }
 }

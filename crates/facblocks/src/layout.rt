@@ -79,27 +79,14 @@ pub fn parameters(f: Fields) -> [u32; 16]
     ]
 }
 
-// The fields among the sixteen parameters of a block.
+// The fields among the sixteen parameters of a block: all but the reserved ones, 8 and 15.
 #[tactic(auto, unfolding(crate::specs::Fields::fields_among, crate::specs::Fields::fields_of, crate::specs::Fields::field_places))]
 pub fn fields_among(p: [u32; 16]) -> Fields
     ensures { result ≡ fields_among p }
 {
-    Fields {
-        enhancement: p[0],
-        identity: p[1],
-        occupancy: p[2],
-        interleaving: p[3],
-        msc: p[4],
-        sdc: p[5],
-        services: p[6],
-        reconfiguration: p[7],
-        service: p[9],
-        shortid: p[10],
-        ca: p[11],
-        language: p[12],
-        dataflag: p[13],
-        descriptor: p[14],
-    }
+    fields_of(&[
+        p[0], p[1], p[2], p[3], p[4], p[5], p[6], p[7], p[9], p[10], p[11], p[12], p[13], p[14],
+    ])
 }
 
 // Whether fields and settings agree where both name the same thing.

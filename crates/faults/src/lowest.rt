@@ -1,4 +1,5 @@
 // Refusals 13 and 14: the lowest block at fault. 01 "Operations".
+// Stays, in this module: buffers stand one by one, since a clause would name one in a struct `cells.now.fac.now` and not `fac.now`.
 ghost use Rattle.std.specs.Prelude.{◌≡◌, ◌+◌, ◌-◌, ◌*◌, ◌≤◌, ◌<◌, min, length, take};
 ghost use Rattle.lists.specs.Lists.{table};
 ghost use Rattle.settings.specs.Accepted.{Accepted};
@@ -37,10 +38,7 @@ fn count_at(depth: usize, count: usize, i: usize) -> usize
     requires { (count < depth) × (i < 3) × (depth ≤ 5) }
     ensures { result ≡ min (count + i) (depth - 1) }
 {
-    if count + i < depth {
-        return count + i;
-    }
-    depth - 1
+    (count + i).min(depth - 1)
 }
 
 // Every cell of row i that is not ignored is a point.

@@ -5,14 +5,15 @@ ghost use Rattle.finishedframes.specs.Clauses.{FinishLent, FrameLaid};
 use block::buffers::MOST_NUMBERS;
 use cellbytes::cells::to_numbers;
 use cellmemory::rows::{next_state, slot_size};
+use lists::buffers::buffer;
 use settings::answers;
 use superframe::State;
 
-// Room for the cells of three frames of the largest settings, from a function of its own: proofs then take its length and do not write it out.
+// Room for the cells of three frames of the largest settings.
 pub fn frames_buffer() -> [i16; 3 * MOST_NUMBERS]
     ensures { Long 36708 result }
 {
-    [0i16; 3 * MOST_NUMBERS]
+    buffer(0)
 }
 
 // After a row: the cells of the frame that it finished, if any, laid behind those of the frames before. They stand in the slot that is written next.

@@ -10,9 +10,8 @@ use lib.Seq.{drop-cons}
 use lib.Dec.{ltb}
 use Rattle.settings.specs.declared.Settings.{Settings}
 use Rattle.numerals.specs.Numbers.{is_digit}
-use Rattle.words.specs.Clauses.{Put}
 use Rattle.words.proofs.Answers.{answered-refused, answered-through}
-use Rattle.turns.specs.Yield.{made_yield, made_through, made_refused, made_bad, bad}
+use Rattle.turns.specs.Yield.{made_yield, made_refused, made_bad, through, bad}
 use Rattle.howlong.specs.HowLong.{how_long_yield, how_long_of}
 use Rattle.std.specs.Prelude.{Some, None, cond}
 use Rattle.std.proofs.lemmas.Option.{none-some, cond_some}
@@ -118,6 +117,6 @@ module _ (s : Settings) (word out numbers : List ℕ) (answer bytes : ℕ) (t : 
   unfolding fit_said
   fit_refused h = answered-refused answer (fit_text numbers) out h ∙ said
 
-  pub fit-through : answer ≡ 0 → (r : ℕ) (out' : List ℕ) → Put 400 (fit_text numbers) out 0 r out' → made_yield (made_through r) out' ≡ fit_of s word out
+  pub fit-through : answer ≡ 0 → (text : List ℕ) → text ≡ fit_text numbers → through text out ≡ fit_of s word out
   unfolding fit_said
-  fit-through h r out' p = answered-through answer (fit_text numbers) out h r out' p ∙ said
+  fit-through h text e = ap (λ t. through t out) e ∙ answered-through answer (fit_text numbers) out h ∙ said

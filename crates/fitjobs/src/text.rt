@@ -1,68 +1,70 @@
 // The three numbers with what they are, and the time on air.
-ghost use Rattle.std.specs.Prelude.{◌≡◌, ◌++◌, ◌+◌, ◌≤◌, length, IfOk};
+ghost use Rattle.std.specs.Prelude.{◌≡◌, ℕ, ◌++◌, ◌+◌, ◌≤◌, List, length};
 ghost use Rattle.line.specs.Written.{decimal};
-ghost use Rattle.turns.specs.Yield.{made_yield};
-ghost use Rattle.words.specs.Clauses.{Put};
+ghost use Rattle.turns.specs.Yield.{text_yield};
 ghost use Rattle.fitjobs.specs.Fit.{counts_text, time_text, fit_text, fit_of};
 
 use crate::argument::count;
 use howlong::calls::how_long;
 use settings::Settings;
 use turns::Failure;
-use turns::answers::{bad, through};
-use words::report::{put, put_decimal};
+use words::text::Text;
 
 // A number, and what it is.
-fn put_part(n: u32, text: &[u8], out: &mut [u8], at: usize) -> usize
-    requires { at + (20 + length text.now) ≤ length out.old }
-    ensures { Put (20 + length text.now) (decimal n ++ text.now) out.old at result out.new }
+#[tactic(auto, using(std::proofs::Common::append_assoc))]
+fn put_part(text: &mut Text, n: u32, what: &[u8])
+    requires { length text.old + (20 + length what.now) ≤ 1024 }
+    ensures put { text.new ≡ text.old ++ (decimal n ++ what.now) }
+    ensures room { length text.new ≤ length text.old + (20 + length what.now) }
 {
-    let a = put_decimal(n as u64, out, at);
-    put(text, out, a)
+    text.put_decimal(u64::from(n));
+    text.put(what);
 }
 
 // Super frames, memory and zero bits.
-fn put_counts(numbers: &[u32], out: &mut [u8]) -> usize
-    requires { (length numbers.now ≡ 3) × (200 ≤ length out.old) }
-    ensures { Put 200 (counts_text numbers.now) out.old 0 result out.new }
+fn put_counts(text: &mut Text, numbers: &[u32; 3])
+    requires { length text.old + 200 ≤ 1024 }
+    ensures put { text.new ≡ text.old ++ counts_text numbers.now }
+    ensures room { length text.new ≤ length text.old + 200 }
 {
-    let a = put_part(numbers[0], b" super frames with the closing\n", out, 0);
-    let b = put_part(numbers[1], b" bytes of memory\n", out, a);
-    put_part(numbers[2], b" zero bits after the last byte\n", out, b)
+    put_part(text, numbers[0], b" super frames with the closing\n");
+    put_part(text, numbers[1], b" bytes of memory\n");
+    put_part(text, numbers[2], b" zero bits after the last byte\n");
 }
 
 // The time of so many super frames.
-fn put_time(n: u32, out: &mut [u8], at: usize) -> usize
-    requires { at + 200 ≤ length out.old }
-    ensures { Put 200 (time_text n) out.old at result out.new }
+fn put_time(text: &mut Text, n: u32)
+    requires { length text.old + 200 ≤ 1024 }
+    ensures { text.new ≡ text.old ++ time_text n }
 {
     let tenths = 12 * (n % 50);
-    let a = put_part(n / 3000, b" hours ", out, at);
-    let b = put_part(n / 50 % 60, b" minutes ", out, a);
-    let c = put_part(tenths / 10, b".", out, b);
-    put_part(tenths % 10, b" seconds on air\n", out, c)
+    put_part(text, n / 3000, b" hours ");
+    put_part(text, n / 50 % 60, b" minutes ");
+    put_part(text, tenths / 10, b".");
+    put_part(text, tenths % 10, b" seconds on air\n");
 }
 
-fn put_fit(numbers: &[u32], out: &mut [u8]) -> usize
-    requires { (length numbers.now ≡ 3) × (400 ≤ length out.old) }
-    ensures { Put 400 (fit_text numbers.now) out.old 0 result out.new }
+#[tactic(auto, unfolding(crate::specs::Fit::fit_text))]
+fn fit_text(numbers: &[u32; 3]) -> Text
+    ensures { result ≡ fit_text numbers.now }
 {
-    let a = put_counts(numbers, out);
-    put_time(numbers[0], out, a)
+    let mut text = Text::new();
+    put_counts(&mut text, numbers);
+    put_time(&mut text, numbers[0]);
+    text
 }
 
 // `fit`: what a number of bytes takes.
-pub fn fit(s: Settings, word: &[u8], out: &mut [u8; 1024]) -> Result<usize, Failure>
-    ensures out_after { made_yield result out.new ≡ fit_of s word.now out.old }
-    ensures length_bound { IfOk result (λ n. n ≤ 1024) }
+pub fn fit(s: Settings, word: &[u8]) -> Result<Text, Failure>
+    ensures { (out : List ℕ) → text_yield result out ≡ fit_of s word.now out }
 {
     if !((0 < word.len()) & (word.len() < 32)) {
-        return bad();
+        return Err(Failure::Bad);
     }
     let Some(bytes) = count(word) else {
-        return bad();
+        return Err(Failure::Bad);
     };
     let mut numbers = [0u32; 3];
     how_long(s, bytes, &mut numbers)?;
-    through(put_fit(&numbers, out))
+    Ok(fit_text(&numbers))
 }

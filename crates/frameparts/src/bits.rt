@@ -4,13 +4,12 @@ ghost use Rattle.lists.specs.Lists.{total};
 ghost use Rattle.block.specs.Packing.{bit_at, unpacked};
 
 // A bit of packed bytes, zero past their end.
+#[tactic(auto, unfolding(block::specs::Packing::bit_at))]
 fn bit_at(bytes: &[u8], i: usize) -> u8
     ensures { result ≡ bit_at bytes.now i }
 {
-    if i / 8 < bytes.len() {
-        return (bytes[i / 8] >> (7 - i % 8)) % 2;
-    }
-    0
+    let byte = bytes.get(i / 8).copied().unwrap_or(0);
+    (byte >> (7 - i % 8)) % 2
 }
 
 // As many bits of packed bytes as there is room for; past their end they are zero.

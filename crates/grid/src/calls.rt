@@ -1,4 +1,5 @@
 // The calls: sizes, place and take. 02, S-4.
+// Stays, in this module: buffers stand one by one; with a struct of `&mut` a clause must also say that each reference is still the same one.
 ghost use Rattle.std.specs.Prelude.{◌≡◌, length};
 ghost use Rattle.placing.specs.Cells.{placed, taken};
 ghost use Rattle.refusal.specs.Numbers.{answer, number};
@@ -9,6 +10,7 @@ ghost use Rattle.placing.specs.Clauses.{cells_from};
 
 use crate::GridSizes;
 use kinds::{rows, tables};
+use lists::buffers::buffer;
 use partlengths::tables::{FAC_NUMBERS, n_sdc, n_sfa};
 use placing::cells;
 use refusal::Refusal;
@@ -33,6 +35,7 @@ pub fn sizes(s: Settings) -> Result<GridSizes, Refusal>
 }
 
 // The sizes into the caller's numbers, which a refusal leaves as they were.
+// Stays: `put_sizes` writes other fields; one function for both would be handed them as an array, and save `copy_from_slice` alone.
 #[tactic(auto, using(refusal::proofs::Positive::number_positive), unfolding(crate::specs::Calls::grid_sizes_into))]
 pub fn put_grid_sizes(sizes: Result<GridSizes, Refusal>, numbers: &mut [u32]) -> Result<(), Refusal>
     requires { length numbers.old ≡ 3 }
@@ -66,33 +69,27 @@ fn check(
     Ok(())
 }
 
-// A byte for each place of the greatest grid.
-fn kind_buffer() -> [u8; 20745]
-    ensures { length result ≡ 20745 }
-{
-    [0u8; rows::MOST_PLACES]
-}
-
 // A call that no number refuses: the kinds of all places first, and then the cells by them.
 fn place_accepted(s: Settings, fac: &[i16], sdc: &[i16], msc: &[i16], grid: &mut [i16])
     requires { CallFits s (cells_from fac.now sdc.now msc.now) grid.old }
     ensures { grid.new ≡ placed (kinds s) (cells_from fac.now sdc.now msc.now) }
 {
-    let mut buffer = kind_buffer();
+    let mut places: [u8; rows::MOST_PLACES] = buffer(0);
     let n = grid.len() / 3;
-    rows::grid_kinds(s.mode, s.occupancy, &mut buffer[0..n]);
-    cells::place_cells(&buffer[0..n], fac, sdc, msc, grid);
+    rows::grid_kinds(s.mode, s.occupancy, &mut places[0..n]);
+    cells::place_cells(&places[0..n], fac, sdc, msc, grid);
 }
 
 // The same off a grid.
+// Stays: placing writes the grid and taking the cells, so that one function for both would take a closure over all buffers.
 fn take_accepted(s: Settings, grid: &[i16], fac: &mut [i16], sdc: &mut [i16], msc: &mut [i16])
     requires { CallFits s (cells_from fac.old sdc.old msc.old) grid.now }
     ensures { cells_from fac.new sdc.new msc.new ≡ taken (kinds s) grid.now }
 {
-    let mut buffer = kind_buffer();
+    let mut places: [u8; rows::MOST_PLACES] = buffer(0);
     let n = grid.len() / 3;
-    rows::grid_kinds(s.mode, s.occupancy, &mut buffer[0..n]);
-    cells::take_all(&buffer[0..n], grid, fac, sdc, msc);
+    rows::grid_kinds(s.mode, s.occupancy, &mut places[0..n]);
+    cells::take_all(&places[0..n], grid, fac, sdc, msc);
 }
 
 // Cells onto a grid; a refusal leaves the grid as it was.
@@ -119,6 +116,7 @@ pub fn place(
 }
 
 // Cells off a grid; a refusal leaves the cells as they were.
+// Stays: placing writes the grid and taking the cells, so that one function for both would take a closure over all buffers.
 #[tactic(auto, using(refusal::proofs::Positive::number_positive))]
 pub fn take(
     s: Settings,

@@ -1,10 +1,15 @@
 -- The calls that the jobs `grid` and `ungrid` make of their buffers.
 use Prim.Native.Nat.{ℕ, ◌+◌, ◌-◌, ◌*◌, ◌/◌, ◌≤◌}
-use mathlib.Core.Path.{◌≡◌, ap, ◌∙◌}
+use mathlib.Core.Path.{◌≡◌, refl, ap, ◌∙◌}
 use mathlib.Core.List.{List}
 use native.Mathlib.Omega.{arith}
 use lib.ListN.{length, take, drop, replicate, length-replicate}
 use lib.IntN.{ℤ, pos}
+use Rattle.std.specs.Prelude.{⊤, Result, Ok, Err}
+use Rattle.std.specs.Result.{result_and}
+use Rattle.refusal.specs.declared.Refusal.{Refusal}
+use Rattle.refusal.specs.Numbers.{answer}
+use Rattle.superframe.specs.Answers.{done}
 use Rattle.settings.specs.declared.Settings.{Settings}
 use Rattle.settings.specs.Sizes.{SizesYield, sizes_of}
 use Rattle.superframe.specs.declared.State.{State}
@@ -34,6 +39,11 @@ pub take_called : (state : State) (z : SizesYield) (memory : List ℕ) (fac sdc 
 unfolding job_call blank_cells
 take_called state z memory fac sdc msc grid bytes out y h e f ef es em g =
     g ∙ rw (ef, front_blank (pos 0) z.sdcnumbers 1692 sdc es h.sdcnumbers, front_blank (pos 0) z.mscnumbers 36712 msc em h.mscnumbers, f, e)
+
+-- What is taken leaves the state.
+pub after_taking : (state : State) (taken : Result ⊤ Refusal) → done state (result_and taken (Ok state)) ≡ record { refusal = answer taken; state = state }
+after_taking state (Ok t) = refl
+after_taking state (Err refusal) = refl
 
 -- What the calls require of the buffers.
 pub place_room : (state : State) (z : SizesYield) (bytes : List ℕ) (cells grid : List ℤ) (n : ℕ) (out : List ℕ) → Lent Grid state z bytes out → cells ≡ bytes_cells bytes

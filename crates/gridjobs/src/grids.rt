@@ -1,5 +1,7 @@
 // A super frame of the jobs `grid` and `ungrid`. 02, S-4.
+// Stays, in this module: buffers stand one by one; with a struct of `&mut` a clause must also say that each reference is still the same one.
 ghost use Rattle.std.specs.Prelude.{◌≡◌, List, ℕ, ◌+◌, ◌*◌, ◌-◌, ◌≤◌, length, take as List·take, drop, IfOk, Ok};
+ghost use Rattle.refusal.specs.Numbers.{answer};
 ghost use Rattle.settings.specs.Sizes.{sizes_yield};
 ghost use Rattle.console.specs.declared.Job.{Job};
 ghost use Rattle.grid.specs.Calls.{place_of, take_of};
@@ -14,24 +16,26 @@ use jobs::buffers::{MOST_GRID_NUMBERS, MOST_MSC_NUMBERS, MOST_SDC_NUMBERS, numbe
 use jobs::sizes::{FAC_CELLS_LENGTH, grid_length};
 use jobs::written::{refused, write_cells};
 use jobs::{Step, buffers};
-use refusal::answer;
+use refusal::Refusal;
 use settings::Sizes;
 use superframe::State;
 
 // What the output is after placing: the bytes of the grid, or nothing where the call was refused.
-fn write_grid(number: u8, state: State, grid: &[i16], out: &mut [u8]) -> Step
+fn write_grid(placed: Result<(), Refusal>, state: State, grid: &[i16], out: &mut [u8]) -> Step
     requires { 2 * length grid.now ≤ length out.old }
     ensures by_index { (memory : List ℕ) → job_yield result memory out.new
-        ≡ answered number state memory (cell_bytes grid.now) out.old }
+        ≡ answered (answer placed) state memory (cell_bytes grid.now) out.old }
     ensures length_in_bounds { IfOk result.made (λ n. n ≤ length out.old) }
 {
-    if number != 0 {
-        return refused(number, state);
-    }
-    put_cells(grid, out, 0);
-    Step {
-        made: Ok(2 * grid.len()),
-        state,
+    match placed {
+        Ok(()) => {
+            put_cells(grid, out, 0);
+            Step {
+                made: Ok(2 * grid.len()),
+                state,
+            }
+        }
+        Err(refusal) => refused(refusal, state),
     }
 }
 
@@ -47,14 +51,14 @@ fn place_with(state: State, cells: &[i16], at: usize, grid: &mut [i16], out: &mu
         state memory out.old }
     ensures length_in_bounds { IfOk result.made (λ n. n ≤ length out.old) }
 {
-    let number = answer(place(
+    let placed = place(
         state.scheme.settings,
         &cells[0..FAC_CELLS_LENGTH],
         &cells[FAC_CELLS_LENGTH..at],
         &cells[at..],
         grid,
-    ));
-    write_grid(number, state, grid, out)
+    );
+    write_grid(placed, state, grid, out)
 }
 
 // The job `grid` on buffers of the right lengths.
@@ -87,8 +91,8 @@ fn take_with(
         state memory out.old }
     ensures length_in_bounds { IfOk result.made (λ n. n ≤ length out.old) }
 {
-    let number = answer(take(state.scheme.settings, grid, fac, sdc, msc));
-    write_cells(number, state, fac, sdc, msc, out)
+    let taken = take(state.scheme.settings, grid, fac, sdc, msc);
+    write_cells(taken.and(Ok(state)), state, fac, sdc, msc, out)
 }
 
 // The job `ungrid` on buffers of the right lengths.

@@ -1,4 +1,5 @@
 // Two halves of a multiplex frame to its cells. 02, S-6.
+// Stays, in this module: buffers stand one by one, since a clause would name one in a struct `halves.now.first.now` and not `first.now`.
 ghost use Rattle.std.specs.Prelude.{◌≡◌, ◌-◌, ◌≤◌, ◌++◌, length};
 ghost use Rattle.refusal.specs.Numbers.{answer};
 ghost use Rattle.block.specs.Packing.{unpacked};

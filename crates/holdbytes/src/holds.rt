@@ -8,7 +8,7 @@ ghost use Rattle.holdbytes.specs.Holds.{file_sizes_into, convert_bytes};
 use holdfile::{FileSizes, convert};
 use holdlines::Form;
 use refusal::Refusal;
-use settingbytes::bytes::settings_of;
+use settingbytes::bytes::taken;
 
 // The sizes of files into the caller's numbers, which a refusal leaves as they were.
 #[tactic(auto, using(refusal::proofs::Positive::number_positive), unfolding(crate::specs::Holds::file_sizes_into))]
@@ -16,18 +16,15 @@ pub fn put_hold_sizes(sizes: Result<FileSizes, Refusal>, numbers: &mut [u32]) ->
     requires { length numbers.old ≡ 2 }
     ensures { yielded (answer result) numbers.new ≡ file_sizes_into (file_sizes_yield sizes) numbers.old }
 {
-    let sizes = sizes?;
-    numbers[0] = sizes.old;
-    numbers[1] = sizes.new;
+    let z = sizes?;
+    numbers.copy_from_slice(&[z.old, z.new]);
     Ok(())
 }
 
 // A file of either form to the other.
+#[tactic(auto, unfolding(crate::specs::Holds::convert_bytes, settingbytes::specs::Bytes::taken))]
 pub fn convert_file(form: Form, settings: &[u8], file: &[u8], out: &mut [u8]) -> Result<(), Refusal>
     ensures { convert_yield (answer result) out.new ≡ convert_bytes form settings.now file.now out.old }
 {
-    if settings.len() != 10 {
-        return Err(Refusal::FixedLength);
-    }
-    convert::convert(form, settings_of(settings), file, out)
+    convert::convert(form, taken(settings)?, file, out)
 }

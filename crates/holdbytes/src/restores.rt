@@ -1,4 +1,5 @@
 // Storing a state and its memory in a hold file, and restoring them, with the bytes that a caller lends. 02, S-7 and S-11.
+// Stays, in this module: buffers stand one by one; with a struct of `&mut` a clause must also say that each reference is still the same one.
 ghost use Rattle.std.specs.Prelude.{◌≡◌};
 ghost use Rattle.patterns.specs.Patterns.{table65};
 ghost use Rattle.refusal.specs.Numbers.{answer};

@@ -1,4 +1,5 @@
 // State and memory restored from a file. 02, S-7 and S-11.
+// Stays, in this module: buffers stand one by one; with a struct of `&mut` a clause must also say that each reference is still the same one.
 ghost use Rattle.std.specs.Prelude.{◌≡◌, ◌*◌, length};
 ghost use Rattle.settings.specs.Accepted.{Accepted};
 ghost use Rattle.settings.specs.Lengths.{n_mux};
@@ -13,7 +14,7 @@ use callrefusals::refusals::check_reset;
 use cellmemory::buffers::memory_buffer;
 use channels::tables::scheme_of;
 use holdlines::Form;
-use holdlines::digits::digit_or;
+use holdlines::digits::digit_value;
 use holdreading::reading::take_file;
 use patterns::table::standard_table;
 use refusal::Refusal;
@@ -32,6 +33,7 @@ fn take_in(form: Form, s: Settings, file: &[u8], work: &mut [u8], memory: &mut [
     true
 }
 
+// Stays: `take_file` and what it calls take Settings, as public functions do; a type for accepted ones would be made Settings again there.
 fn take_memory(form: Form, s: Settings, file: &[u8], memory: &mut [u8]) -> bool
     requires { Accepted s × (length memory.old ≡ depth s * n_mux s) }
     ensures { MemoryTaken form s file.now memory.old result memory.new }
@@ -59,8 +61,8 @@ pub fn restore_table(
     }
     Ok(State {
         scheme: scheme_of(s, table),
-        position: digit_or(file[0]),
-        count: digit_or(file[1]),
+        position: digit_value(file[0]).unwrap_or(0),
+        count: digit_value(file[1]).unwrap_or(0),
     })
 }
 

@@ -127,6 +127,12 @@ first-digits form s (a ∷ (b ∷ (c ∷ rest))) v =
     let d = heading_digits form s a b c rest v in
     (digit-value-or a d.0, digit-value-or b d.1)
 
+pub heading_low : (form : Form) (s : Settings) (file : List ℕ) → valid form s file ≡ true → (digit_or (get_or file 0 0) < 16) × (digit_or (get_or file 1 0) < 16)
+heading_low form s file v =
+    let d = first-digits form s file v in
+    let o = valid_sound form s file v in
+    (omega (arith, d.0, o.position, depth_few s), omega (arith, d.1, o.count, depth_few s))
+
 -- what may be held is what its file holds, and that file is valid
 made : {p q c d : ℕ} {vs ws : List ℤ} → p ≡ q → c ≡ d → vs ≡ ws
     → ◌≡◌ {A = Held} (record { position = p; count = c; numbers = vs }) (record { position = q; count = d; numbers = ws })

@@ -1,6 +1,6 @@
 // The calls that turn a file into the other form, and the bytes of files. 02, S-7.
+// Stays, in this module: buffers stand one by one; with a struct of `&mut` a clause must also say that each reference is still the same one.
 ghost use Rattle.std.specs.Prelude.{◌≡◌, length};
-ghost use Rattle.lists.specs.Buffers.{Long};
 ghost use Rattle.refusal.specs.Numbers.{answer};
 ghost use Rattle.settings.specs.Accepted.{Accepted};
 ghost use Rattle.holdlines.specs.Files.{file_of, held_in, file_length};
@@ -10,10 +10,11 @@ ghost use Rattle.holdfile.specs.Clauses.{Turnable, TurnRoom, Turned};
 use crate::FileSizes;
 use block::buffers::MOST_CELLS;
 use holdlines::Form;
-use holdlines::digits::digit_or;
+use holdlines::digits::digit_value;
 use holdlines::lengths::file_bytes;
 use holdreading::reading::take_file;
 use holdwriting::writing::put_file;
+use lists::buffers::buffer;
 use refusal::Refusal;
 use settings::refusals::check;
 use settings::{Settings, answers};
@@ -30,17 +31,11 @@ pub fn sizes(s: Settings) -> Result<FileSizes, Refusal>
     })
 }
 
-// Memory of the largest settings: five slots.
-fn memory_buffer() -> [u8; 5 * MOST_CELLS]
-    ensures { Long 30590 result }
-{
-    [0u8; 5 * MOST_CELLS]
-}
-
 // The other form.
 fn other_form(form: Form) -> Form
     ensures { result ≡ other form }
 {
+    // Stays: the form comes from the command line, or with the name of a C call, as a value, and this is its table.
     match form {
         Form::Old => Form::New,
         Form::New => Form::Old,
@@ -52,14 +47,9 @@ fn put_other(form: Form, s: Settings, file: &[u8], memory: &[u8], out: &mut [u8]
     requires { Turnable form s file.now memory.now out.old }
     ensures { out.new ≡ file_of (other form) s (held_in form s file.now) }
 {
-    put_file(
-        other_form(form),
-        s,
-        digit_or(file[0]),
-        digit_or(file[1]),
-        memory,
-        out,
-    );
+    let position = digit_value(file[0]).unwrap_or(0);
+    let count = digit_value(file[1]).unwrap_or(0);
+    put_file(other_form(form), s, position, count, memory, out);
 }
 
 // A file in the other form, if it is valid, by way of memory.
@@ -74,12 +64,13 @@ fn turn_in(form: Form, s: Settings, file: &[u8], memory: &mut [u8], out: &mut [u
     true
 }
 
+// Stays: `settings` answers take any Settings, so that a type for accepted ones would be made Settings again at each call.
 fn turn_file(form: Form, s: Settings, file: &[u8], out: &mut [u8]) -> bool
     requires { Accepted s × (length out.old ≡ file_length (other form) s) }
     ensures { Turned form s file.now out.old result out.new }
 {
     let n = answers::memory_bytes(s);
-    let mut memory = memory_buffer();
+    let mut memory: [u8; 5 * MOST_CELLS] = buffer(0);
     turn_in(form, s, file, &mut memory[0..n], out)
 }
 

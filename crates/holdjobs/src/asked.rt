@@ -17,10 +17,7 @@ pub fn from_reset(count: usize, from: &[u8]) -> bool
 fn known(end: End) -> bool
     ensures { result ≡ known end }
 {
-    match end {
-        End::Unwritten => false,
-        _ => true,
-    }
+    !matches!(end, End::Unwritten)
 }
 
 // Whether a run with so many arguments stores a file at its end.

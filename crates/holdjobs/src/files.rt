@@ -1,4 +1,5 @@
 // A hold file at the start of a buffer: one in its other form, and that of a run.
+// Stays, in this module: buffers stand one by one; with a struct of `&mut` a clause must also say that each reference is still the same one.
 ghost use Rattle.std.specs.Prelude.{◌≡◌, ◌≤◌, min, length, replicate, IfOk, Ok};
 ghost use Rattle.refusal.specs.Numbers.{answer};
 ghost use Rattle.holdfile.specs.Convert.{file_sizes_yield};
@@ -29,6 +30,7 @@ pub fn file_buffer() -> [u8; FILE_BYTES]
 fn size_in(form: Form, z: FileSizes) -> usize
     ensures { result ≡ size_in form (file_sizes_yield (Ok z)) }
 {
+    // Stays: the job says by its form which of the two lengths is meant, and both stand in `z` as numbers.
     match form {
         Form::Old => z.old as usize,
         Form::New => z.new as usize,
@@ -40,10 +42,7 @@ fn size_in(form: Form, z: FileSizes) -> usize
 fn file_room(form: Form, s: Settings, all: usize) -> usize
     ensures { result ≡ min all (file_bytes form s) }
 {
-    match sizes(s) {
-        Ok(z) => size_in(form, z).min(all),
-        Err(_) => 0,
-    }
+    sizes(s).map_or(0, |z| size_in(form, z).min(all))
 }
 
 // What was made, by what a call answered.
@@ -77,6 +76,7 @@ pub fn turn_file(job: TurnJob, s: Settings, file: &[u8], out: &mut [u8]) -> Resu
     ensures out_after { made_yield result out.new ≡ turn_of job s file.now out.old }
     ensures length_in_bounds { IfOk result (λ n. n ≤ length out.old) }
 {
+    // Stays: the job comes from the command line as a value, so that a `match` says which form it takes and which it gives.
     match job {
         TurnJob::ToNew => turn_from(Form::Old, Form::New, s, file, out),
         TurnJob::ToOld => turn_from(Form::New, Form::Old, s, file, out),

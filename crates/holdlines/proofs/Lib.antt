@@ -1,5 +1,5 @@
 pub mod Hexadecimal
 pub mod Numbers
 pub mod Lines
-pub mod DigitOr
 pub mod LineLengths
+pub mod FoundDigits

@@ -1,7 +1,11 @@
 -- What functions inside a call require and find: nothing of 02 is stated here.
-use Rattle.std.specs.Prelude.{ℕ, cond}
+use Rattle.std.specs.Prelude.{ℕ, cond, ltb, Option, Some, None}
 use Rattle.holdlines.specs.Hexadecimal.{is_digit, digit_value}
 
 -- What a byte stands for as a digit; 16 where it is none.
 unfoldable pub digit_or : ℕ → ℕ
 digit_or b = cond (is_digit b) (digit_value b) 16
+
+-- A number below 16 as the code finds it, and none for any other.
+unfoldable pub found : ℕ → Option ℕ
+found n = cond (ltb n 16) (Some n) None

@@ -1,7 +1,7 @@
 // Hexadecimal digits. 02, S-7.
 ghost use Rattle.std.specs.Prelude.{◌≡◌, ◌<◌};
 ghost use Rattle.holdlines.specs.Hexadecimal.{digit};
-ghost use Rattle.holdlines.specs.Clauses.{digit_or};
+ghost use Rattle.holdlines.specs.Clauses.{digit_or, found};
 
 // A digit of 0 to 15.
 pub fn digit(n: u8) -> u8
@@ -14,24 +14,14 @@ pub fn digit(n: u8) -> u8
     b'A' + (n - 10)
 }
 
-// What no digit stands for.
-pub const NONE: u8 = 16;
-
-// What a digit stands for, or NONE.
-pub fn digit_or(b: u8) -> u8
-    ensures { result ≡ digit_or b }
+// What a byte stands for as a digit: None where it is no digit.
+#[tactic(auto, unfolding(crate::specs::Clauses::digit_or, crate::specs::Clauses::found, crate::specs::Hexadecimal::is_digit, crate::specs::Hexadecimal::digit_value))]
+pub fn digit_value(b: u8) -> Option<u8>
+    ensures { result ≡ found (digit_or b) }
 {
-    if b < b'0' {
-        return NONE;
+    match b {
+        b'0'..=b'9' => Some(b - b'0'),
+        b'A'..=b'F' => Some(b - b'A' + 10),
+        _ => None,
     }
-    if b <= b'9' {
-        return b - b'0';
-    }
-    if b < b'A' {
-        return NONE;
-    }
-    if b <= b'F' {
-        return b - b'A' + 10;
-    }
-    NONE
 }

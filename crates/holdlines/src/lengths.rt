@@ -8,13 +8,14 @@ use partlengths::tables;
 use settings::Settings;
 
 // The byte that ends a line.
-pub const LINE_FEED: u8 = 10;
+pub const LINE_FEED: u8 = b'\n';
 
 // The bytes of a line of n cells.
 pub fn line_bytes(form: Form, n: usize) -> usize
     requires { n ≤ 6118 }
     ensures { result ≡ 2 * n * number_digits form + 1 }
 {
+    // Stays: the form comes from the command line, or with the name of a C call, as a value, and this is its table.
     match form {
         Form::Old => 8 * n + 1,
         Form::New => 2 * n + 1,

@@ -1,4 +1,5 @@
 // Hold files: turned into the other form, begun from, and stored. 02, S-7.
+// Stays, in this module: buffers stand one by one; with a struct of `&mut` a clause must also say that each reference is still the same one.
 ghost use Rattle.std.specs.Prelude.{◌≡◌, ◌≤◌, length, IfOk};
 ghost use Rattle.channels.specs.Scheme.{standard_scheme};
 ghost use Rattle.holdlines.specs.declared.Form.TheVariants.{New};
@@ -57,11 +58,8 @@ fn restore_file(s: Settings, file: &[u8], memory: &mut [u8]) -> Result<State, En
     ensures { begun_yield result memory.new
         ≡ restored_begun (restore_of New (blank_state s) (standard_scheme s) file.now memory.old) }
 {
-    let restored = restore(Form::New, s, file, memory);
-    match restored {
-        Ok(state) => Ok(state),
-        Err(refusal) => Err(End::Stopped(refusal.number(), 0)),
-    }
+    let state = restore(Form::New, s, file, memory)?;
+    Ok(state)
 }
 
 // The whole of the file of a name. A name that is no text names no file that can be opened.
@@ -87,7 +85,6 @@ fn take_open(from: File, bytes: &mut [u8]) -> Result<usize, End>
 }
 
 // From the new hold file of a name: a state to begin from, or what is wrong with the file.
-// Stays: a `match`, since with `?` the proof did not close.
 pub fn restore_from(
     rt: HostRuntime,
     path: &[u8],
@@ -97,10 +94,8 @@ pub fn restore_from(
     ensures { FromFile s memory.old (begun_yield result memory.new) }
 {
     let mut file = files::file_buffer();
-    match take_file(rt, path, &mut file) {
-        Ok(n) => restore_file(s, &file[..n], memory),
-        Err(end) => Err(end),
-    }
+    let n = take_file(rt, path, &mut file)?;
+    restore_file(s, &file[..n], memory)
 }
 
 // From a reset, or from the file that the third argument names; settings that a reset refuses are refused at the first super frame too.
@@ -110,11 +105,7 @@ pub fn begin_from(rt: HostRuntime, s: Settings, memory: &mut [u8]) -> Result<Sta
     let mut path = io::buffer();
     let n = argument(rt, 3, &mut path);
     if asked::from_reset(argument_count(rt), &path[..n]) {
-        let done = reset(s, memory);
-        return match done {
-            Ok(state) => Ok(state),
-            Err(_) => Ok(blank(s)),
-        };
+        return Ok(reset(s, memory).unwrap_or(blank(s)));
     }
     restore_from(rt, &path[..n], s, memory)
 }

@@ -23,7 +23,7 @@ use Rattle.holdlines.specs.declared.Form.{Form}
 use Rattle.holdlines.specs.declared.Form.TheVariants.{Old, New}
 use Rattle.holdlines.specs.Hexadecimal.{is_digit, digit_value, value}
 use Rattle.holdlines.specs.Files.{number_digits, read}
-use Rattle.holdreading.specs.Clauses.{is_small, number_bytes, small_digits, bits_at, wide_bits, wide_at}
+use Rattle.holdreading.specs.Clauses.{is_small, number_bytes, small_digits, bits_at, wide_bits, wide_digits, wide_at}
 use Rattle.holdlines.specs.Clauses.{digit_or}
 use Rattle.holdlines.proofs.Hexadecimal.{value_is}
 use Rattle.holdlines.proofs.Numbers.{small_low, small_high}
@@ -140,6 +140,42 @@ wide_none a b c = either (eqb a 15 && (eqb b 15 && eqb c 15)) 16
 no_wide : (a b c d : ℕ) → (eqb a 0 && (eqb b 0 && eqb c 0)) ≡ false → (eqb a 15 && (eqb b 15 && eqb c 15)) ≡ false → wide_bits a b c d ≡ 16
 unfolding wide_bits
 no_wide a b c d e f = rw (e, f) (either (ltb d 8) 16)
+
+-- four digits that stand for a small number are digits
+chosen : (t : Bool) (d : ℕ) → cond t d 16 < 16 → (t ≡ true) × (d < 16)
+chosen true d h = (refl, h)
+chosen false d h = absurd (omega arith)
+
+three_are : (a b c x : ℕ) → (eqb a x && (eqb b x && eqb c x)) ≡ true → (a ≡ x) × ((b ≡ x) × (c ≡ x))
+three_are a b c x t =
+    let r = and_right (eqb a x) (eqb b x && eqb c x) t in
+    (eqb-true a x (and_left (eqb a x) (eqb b x && eqb c x) t), (eqb-true b x (and_left (eqb b x) (eqb c x) r), eqb-true c x (and_right (eqb b x) (eqb c x) r)))
+
+wide_digits_low : (a b c d : ℕ) → wide_bits a b c d < 16 → (a < 16) × ((b < 16) × ((c < 16) × (d < 16)))
+unfolding wide_bits
+wide_digits_low a b c d h =
+    elim (below_or d 8) [
+      | inl l ↦
+          let t = chosen (eqb a 0 && (eqb b 0 && eqb c 0)) d (rw (lt-ltb d 8 l) at h) in
+          let e = three_are a b c 0 t.0 in
+          (omega (arith, e.0), (omega (arith, e.1.0), (omega (arith, e.1.1), t.1)))
+      | inr l ↦
+          let t = chosen (eqb a 15 && (eqb b 15 && eqb c 15)) d (rw (le-ltb d 8 l) at h) in
+          let e = three_are a b c 15 t.0 in
+          (omega (arith, e.0), (omega (arith, e.1.0), (omega (arith, e.1.1), t.1)))
+    ]
+
+module _ (line : List ℕ) (at : ℕ) where
+  pub digits_low : wide_at line at < 16
+      → (digit_or (get_or line at 0) < 16)
+      × ((digit_or (get_or line (at + 1) 0) < 16) × ((digit_or (get_or line (at + 2) 0) < 16) × (digit_or (get_or line (at + 3) 0) < 16)))
+  unfolding wide_at
+  digits_low h = wide_digits_low _ _ _ _ h
+
+  pub wide_is : (a b c d : ℕ) → a ≡ digit_or (get_or line at 0) → b ≡ digit_or (get_or line (at + 1) 0) → c ≡ digit_or (get_or line (at + 2) 0)
+      → d ≡ digit_or (get_or line (at + 3) 0) → wide_digits (a ∷ (b ∷ (c ∷ (d ∷ [])))) ≡ wide_at line at
+  unfolding wide_digits wide_at
+  wide_is a b c d e f g h = rw (e, f, g, h) refl
 
 and_false : (t : Bool) → (t && false) ≡ false
 and_false true = refl

@@ -33,6 +33,9 @@ unfoldable pub wide_bits : ℕ → ℕ → ℕ → ℕ → ℕ
 wide_bits a b c d =
     cond (ltb d 8) (cond (eqb a 0 && (eqb b 0 && eqb c 0)) d 16) (cond (eqb a 15 && (eqb b 15 && eqb c 15)) d 16)
 
+unfoldable pub wide_digits : List ℕ → ℕ
+wide_digits ds = wide_bits (get_or ds 0 0) (get_or ds 1 0) (get_or ds 2 0) (get_or ds 3 0)
+
 unfoldable pub wide_at : List ℕ → ℕ → ℕ
 wide_at line at =
     wide_bits (digit_or (get_or line at 0)) (digit_or (get_or line (at + 1) 0)) (digit_or (get_or line (at + 2) 0)) (digit_or (get_or line (at + 3) 0))

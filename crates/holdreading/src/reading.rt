@@ -1,57 +1,56 @@
 // Lines of digits to bytes of cells. 02, S-7.
-ghost use Rattle.std.specs.Prelude.{◌≡◌, ◌+◌, ◌*◌, ◌≤◌, length};
+// Stays, in this module: buffers stand one by one; with a struct of `&mut` a clause must also say that each reference is still the same one.
+ghost use Rattle.std.specs.Prelude.{◌≡◌, ◌+◌, ◌*◌, ◌≤◌, ◌<◌, length, get_or, ltb};
 ghost use Rattle.settings.specs.Accepted.{Accepted};
 ghost use Rattle.settings.specs.Lengths.{n_mux};
 ghost use Rattle.settings.specs.Sizes.{depth};
+ghost use Rattle.holdlines.specs.Clauses.{digit_or, found};
 ghost use Rattle.holdlines.specs.Files.{number_digits};
-ghost use Rattle.holdreading.specs.Clauses.{wide_bits, wide_at, bits_at, LineLent, LineTaken, LinesLent, LinesTaken, heading_test, FileTaken};
+ghost use Rattle.holdreading.specs.Clauses.{wide_digits, wide_at, bits_at, LineLent, LineTaken, LinesLent, LinesTaken, heading_test, FileTaken};
 
 use channels::blocks::msc_constellation;
 use holdlines::Form;
-use holdlines::digits::{NONE, digit_or};
+use holdlines::digits::digit_value;
 use holdlines::lengths::{LINE_FEED, file_bytes, line_bytes};
 use partlengths::tables;
 use pointtests::tests::bytes_pass;
 use settings::{Settings, answers};
 
-// The four bits of a 16-bit number by what its digits stand for, or NONE: all above the lowest are those of its sign.
-#[tactic(auto, unfolding(crate::specs::Clauses::wide_bits))]
-fn wide_bits(a: u8, b: u8, c: u8, d: u8) -> u8
-    ensures { result ≡ wide_bits a b c d }
+// The four bits of a 16-bit number by what its digits stand for: all above the lowest are those of its sign.
+#[tactic(auto, unfolding(crate::specs::Clauses::wide_bits, crate::specs::Clauses::wide_digits, holdlines::specs::Clauses::found))]
+fn wide_bits(digits: [u8; 4]) -> Option<u8>
+    requires { get_or digits 3 0 < 16 }
+    ensures { result ≡ found (wide_digits digits) }
 {
-    if d < 8 {
-        if a == 0 && b == 0 && c == 0 {
-            return d;
-        }
-        return NONE;
+    let [a, b, c, d] = digits;
+    let sign = if d < 8 { 0 } else { 15 };
+    if a == sign && b == sign && c == sign {
+        return Some(d);
     }
-    if a == 15 && b == 15 && c == 15 {
-        return d;
-    }
-    NONE
+    None
 }
 
 // Those of the four digits from a place on.
-fn wide_at(line: &[u8], at: usize) -> u8
+fn wide_at(line: &[u8], at: usize) -> Option<u8>
     requires { at + 4 ≤ length line.now }
-    ensures { result ≡ wide_at line.now at }
+    ensures { result ≡ found (wide_at line.now at) }
 {
-    wide_bits(
-        digit_or(line[at]),
-        digit_or(line[at + 1]),
-        digit_or(line[at + 2]),
-        digit_or(line[at + 3]),
-    )
+    let a = digit_value(line[at])?;
+    let b = digit_value(line[at + 1])?;
+    let c = digit_value(line[at + 2])?;
+    let d = digit_value(line[at + 3])?;
+    wide_bits([a, b, c, d])
 }
 
-// The four bits of number k of a line, or NONE.
-fn number_bits(form: Form, line: &[u8], k: usize) -> u8
+// The four bits of number k of a line.
+fn number_bits(form: Form, line: &[u8], k: usize) -> Option<u8>
     requires { k * number_digits form + number_digits form ≤ length line.now }
-    ensures { result ≡ bits_at form line.now k }
+    ensures { result ≡ found (bits_at form line.now k) }
 {
+    // Stays: the form comes from the command line, or with the name of a C call, as a value, and its digits are read here.
     match form {
         Form::Old => wide_at(line, 4 * k),
-        Form::New => digit_or(line[k]),
+        Form::New => digit_value(line[k]),
     }
 }
 
@@ -61,11 +60,12 @@ fn take_line(form: Form, n: usize, line: &[u8], memory: &mut [u8], from: usize) 
     ensures { LineTaken form n line.now memory.old from result memory.new }
 {
     for i in 0..n {
-        let re = number_bits(form, line, 2 * i);
-        let im = number_bits(form, line, 2 * i + 1);
-        if NONE <= re || NONE <= im {
+        let Some(re) = number_bits(form, line, 2 * i) else {
             return false;
-        }
+        };
+        let Some(im) = number_bits(form, line, 2 * i + 1) else {
+            return false;
+        };
         memory[from + i] = 16 * re + im;
     }
     line[line.len() - 1] == LINE_FEED
@@ -86,16 +86,29 @@ pub fn take_lines(form: Form, n: usize, file: &[u8], memory: &mut [u8], lines: u
     true
 }
 
+// A digit below the depth.
+#[tactic(auto, unfolding(holdlines::specs::Clauses::found))]
+fn digit_below(b: u8, depth: usize) -> bool
+    requires { depth ≤ 16 }
+    ensures { result ≡ ltb (digit_or b) depth }
+{
+    match digit_value(b) {
+        Some(digit) => usize::from(digit) < depth,
+        None => false,
+    }
+}
+
 // The heading: two digits below the depth, and a line feed.
+#[tactic(auto, unfolding(crate::specs::Clauses::heading_test))]
 fn heading_right(file: &[u8], depth: usize) -> bool
-    requires { 3 ≤ length file.now }
+    requires { (3 ≤ length file.now) × (depth ≤ 16) }
     ensures { result ≡ heading_test depth file.now }
 {
-    ((digit_or(file[0]) as usize) < depth)
-        & (((digit_or(file[1]) as usize) < depth) & (file[2] == LINE_FEED))
+    digit_below(file[0], depth) && digit_below(file[1], depth) && file[2] == LINE_FEED
 }
 
 // The cells of a file into memory, if it is valid.
+// Stays: `settings` answers take any Settings, so that a type for accepted ones would be made Settings again at each call.
 pub fn take_file(form: Form, s: Settings, file: &[u8], memory: &mut [u8]) -> bool
     requires { Accepted s × (length memory.old ≡ depth s * n_mux s) }
     ensures { FileTaken form s file.now result memory.new }

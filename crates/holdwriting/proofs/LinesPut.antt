@@ -1,11 +1,12 @@
 -- The loop that writes a file's lines. Assumes nothing.
 use Prim.Native.Nat.{ℕ, suc, ◌+◌, ◌-◌, ◌*◌, ◌≤◌, ◌<◌}
 use mathlib.Core.Path.{◌≡◌, refl, sym, ap, ap₂, subst, ◌∙◌}
-use mathlib.Core.List.{List, ◌++◌}
+use mathlib.Core.List.{List, ◌++◌, append_assoc}
 use native.Mathlib.Nat.{mul-le-mul}
 use native.Mathlib.Omega.{arith}
 use lib.ListN.{length, take, drop, length-take, length-drop}
-use lib.Seq.{sets, drop-drop, length-sets}
+use lib.Seq.{sets, drop-drop, length-sets, sets-eq}
+use borrow.Rule.Slice.PartMut.{put_mid, Post-is}
 use Rattle.component.proofs.Sets.{sets-append}
 use Rattle.cellbytes.specs.CellBytes.{numbers}
 use Rattle.cellbytes.proofs.CellBytes.{numbers-take, numbers-drop}
@@ -31,10 +32,19 @@ module _ (form : Form) (n lines : ℕ) (memory out : List ℕ) where
     pub rest : sets now at (lines_from form n (lines - k) (drop from memory)) ≡ sets out 3 (lines_from form n lines memory)
     pub long : length now ≡ length out
 
-  pub line_room : (from at : ℕ) (now : List ℕ) → n ≤ 6118 → from + n ≤ length memory → at + L ≤ length now → LineRoom form (take (from + n - from) (drop from memory)) now at
-  line_room from at now few within room =
+  pub line_room : (from at long : ℕ) (now : List ℕ) → n ≤ 6118 → from + n ≤ length memory → long ≡ L → at + long ≤ length now
+      → LineRoom form (take (from + n - from) (drop from memory)) (take (at + long - at) (drop at now))
+  line_room from at long now few within same room =
       let e : length (take (from + n - from) (drop from memory)) ≡ n = length-take (from + n - from) (drop from memory) ∙ omega (arith, length-drop from memory, within) in
-      record { few = omega (arith, e, few); room = subst (λ m. at + (2 * m * number_digits form + 1) ≤ length now) (sym e) room }
+      let whole : length (take (at + long - at) (drop at now)) ≡ long = length-take (at + long - at) (drop at now) ∙ omega (arith, length-drop at now, room) in
+      record { few = omega (arith, e, few); long = subst (λ m. length (take (at + long - at) (drop at now)) ≡ 2 * m * number_digits form + 1) (sym e) (whole ∙ same) }
+
+  -- a line put in its place
+  line_put : (at w : ℕ) (now vs : List ℕ) → length vs ≡ w → at + w ≤ length now → put_mid at (at + w - at) now vs ≡ sets now at vs
+  line_put at w now vs e h =
+      let b : at + w ≡ at + length vs = omega (arith, e) in
+      ap (λ z. take at now ++ (vs ++ z)) (Post-is at (at + w) now (omega arith))
+      ∙ rw (b, ← append_assoc (take at now) vs (drop (at + length vs) now), sets-eq vs now at (omega (arith, e)))
 
   pub writing_start : LinesRoom form n lines memory out → Writing 3 0 0 out
   writing_start r =
@@ -68,16 +78,18 @@ module _ (form : Form) (n lines : ℕ) (memory out : List ℕ) where
     slot_long : length (take n (drop from memory)) ≡ n
     slot_long = length-take n (drop from memory) ∙ omega (arith, length-drop from memory, slot_within)
 
-    pub writing_turn : (after : List ℕ) → after ≡ sets now at (ended (all_written form (numbers (take (from + n - from) (drop from memory)))))
-        → Writing (at + long) (from + n) (k + 1) after
-    writing_turn after e =
+    pub writing_turn : (part : List ℕ) → part ≡ ended (all_written form (numbers (take (from + n - from) (drop from memory))))
+        → Writing (at + long) (from + n) (k + 1) (put_mid at (at + long - at) now part)
+    writing_turn part p =
+        let after = put_mid at (at + long - at) now part in
         let j = lines - (k + 1) in
         let count : lines - k ≡ suc j = omega arith in
         let line = ended (all_written form (numbers (take n (drop from memory)))) in
-        let put : after ≡ sets now at line = e ∙ ap (λ c. sets now at (ended (all_written form (numbers c)))) this_slot in
         let size : length line ≡ long =
         length-ended (all_written form (numbers (take n (drop from memory))))
-        ∙ ap (λ m. m + 1) (length-line form (take n (drop from memory)) now at) ∙ ap (λ m. 2 * m * number_digits form + 1) slot_long ∙ sym same in
+        ∙ ap (λ m. m + 1) (length-line form (take n (drop from memory))) ∙ ap (λ m. 2 * m * number_digits form + 1) slot_long ∙ sym same in
+        let here : part ≡ line = p ∙ ap (λ c. ended (all_written form (numbers c))) this_slot in
+        let put : after ≡ sets now at line = line_put at long now part (ap length here ∙ size) line-within ∙ ap (sets now at) here in
         record {
           upto = omega arith;
           left = omega (arith, same, w.left, left_over lines k L h);

@@ -4,17 +4,15 @@ use mathlib.Core.Path.{◌≡◌, refl, sym, ap, ap₂, subst, ◌∙◌}
 use mathlib.Core.Bool.{Bool, true, false, cond}
 use mathlib.Core.Logic.{inl, inr}
 use mathlib.Core.List.{List, [], ◌∷◌, ◌++◌}
-use native.Mathlib.Nat.{suc-mul, zero-add, mod-eq_of_lt, div-eq_of_lt, add-div_left, add-mod_left}
+use native.Mathlib.Nat.{suc-mul, mod-eq_of_lt, div-eq_of_lt, add-div_left, add-mod_left}
 use native.Mathlib.Omega.{arith}
 use borrow.Author.Tests.{eq-eqb, ne_eqb}
-use lib.ListN.{length, get_or, set, length-set, get_or-append}
-use lib.Seq.{sets, get_or-append-add}
+use lib.ListN.{length, get_or, set, length-append, get_or-append}
+use lib.Seq.{get_or-append-add}
 use lib.IntN.{ℤ, pos}
 use lib.Dec.{eqb}
-use Rattle.lists.specs.Lists.{table}
 use Rattle.lists.proofs.Counting.{below_or}
-use Rattle.lists.proofs.Tables.{length-table, table-add, table_is}
-use Rattle.component.proofs.Sets.{sets-append}
+use Rattle.lists.proofs.Tables.{Filled, filled_turn, filled_end, table_is}
 use Rattle.cellbytes.specs.TwosComplement.{modulo}
 use Rattle.cellbytes.specs.CellBytes.{signed, real_of, imaginary_of, number_at, numbers}
 use Rattle.cellbytes.proofs.TwosComplement.{lower, upper}
@@ -25,13 +23,6 @@ use Rattle.holdlines.specs.Hexadecimal.{digit, digits}
 use Rattle.holdlines.specs.Files.{number_digits, written, all_written, ended, LINE_FEED}
 use Rattle.holdwriting.specs.Clauses.{half_of}
 use Rattle.holdlines.proofs.Numbers.{length-written, length-all_written}
-
--- one value more of a table, stored from a place on
-pub sets-table_more : (d : List ℕ) (g : ℕ → ℕ) (at i : ℕ) → set (sets d at (table g 0 i)) (at + i) (g i) ≡ sets d at (table g 0 (i + 1))
-unfolding table
-sets-table_more d g at i =
-    sym (ap (sets d at) (table-add g 0 i 1) ∙ sets-append d at (table g 0 i) (table g (0 + i) 1)
-    ∙ ap₂ (λ j v. set (sets d at (table g 0 i)) (at + j) v) (length-table g 0 i) (ap g (zero-add i)))
 
 -- number k of cells by its half of a byte
 half_number : (cells : List ℕ) (k : ℕ) → signed (half_of (get_or cells (k / 2) 0) k) ≡ number_at cells k
@@ -160,36 +151,37 @@ module _ (form : Form) (cells : List ℕ) (k : ℕ) (h : k < 2 * length cells * 
       g ∙ ap (λ d. get_or d 0 0) (sym (new-written v l)) ∙ ap (λ z. get_or (written New z) 0 0) n
       ∙ sym (digit_at_lem New e (omega arith) ∙ ap₂ (λ i j. get_or (written New (number_at cells i)) j 0) q m)
 
--- the loop that writes a line's digits from a place on, and its end
-module _ (form : Form) (cells out : List ℕ) (at : ℕ) where
+-- the loop that writes a line's digits, and its end
+module _ (form : Form) (cells : List ℕ) where
   abbrev line : List ℕ
   line = all_written form (numbers cells)
 
   pub length-line : length line ≡ 2 * length cells * number_digits form
   length-line = length-all_written form (numbers cells) ∙ ap (λ m. m * number_digits form) (length-numbers cells)
 
-  pub record Putting (k : ℕ) (now : List ℕ) : Type 0 where
-    pub upto : k ≤ length line
-    pub there : now ≡ sets out at (table (λ j. get_or line j 0) 0 k)
-    pub long : length now ≡ length out
+  -- byte j of the line
+  abbrev pub byte : ℕ → ℕ
+  byte j = get_or (ended line) j 0
 
-  pub putting_start : Putting 0 out
-  unfolding table
-  putting_start = record { upto = omega arith; there = refl; long = refl }
-
-  pub putting_turn : (k d : ℕ) (now : List ℕ) → k < length line → d ≡ get_or line k 0 → Putting k now → Putting (k + 1) (set now (at + k) d)
-  putting_turn k d now h e p =
-      record {
-        upto = omega arith;
-        there = ap₂ (λ m v. set m (at + k) v) p.there e ∙ sets-table_more out (λ j. get_or line j 0) at k;
-        long = length-set now (at + k) d ∙ p.long;
-      }
-
-  pub putting_end : (k : ℕ) (now : List ℕ) → length line ≤ k → Putting k now → set now (at + length line) LINE_FEED ≡ sets out at (ended line)
+  pub byte_digit : (k : ℕ) → k < length line → get_or line k 0 ≡ byte k
   unfolding ended
-  putting_end k now h p =
-      let all : k ≡ length line = omega (arith, p.upto) in
-      let whole : now ≡ sets out at line =
-      p.there ∙ ap (λ m. sets out at (table (λ j. get_or line j 0) 0 m)) all
-      ∙ ap (sets out at) (table_is (λ j. get_or line j 0) 0 (length line) line refl (λ i l. refl)) in
-      ap (λ m. set m (at + length line) LINE_FEED) whole ∙ sym (sets-append out at line (LINE_FEED ∷ []))
+  byte_digit k h = sym (get_or-append line (LINE_FEED ∷ []) 0 k h)
+
+  byte_last : LINE_FEED ≡ byte (length line)
+  unfolding ended
+  byte_last =
+      let e : length line ≡ length line + 0 = omega arith in
+      sym (ap (λ j. get_or (line ++ (LINE_FEED ∷ [])) j 0) e ∙ get_or-append-add line (LINE_FEED ∷ []) 0 0)
+
+  length-whole : length (ended line) ≡ length line + 1
+  unfolding ended
+  length-whole = length-append line (LINE_FEED ∷ [])
+
+  pub line_filled : (out now : List ℕ) (k last : ℕ) → length out ≡ length line + 1 → k ≡ length line → last ≡ length line → Filled 0 byte out now k
+      → set now last LINE_FEED ≡ ended line
+  line_filled out now k last h e f w =
+      let there : Filled 0 byte out now (length line) = rw e at w in
+      let whole = filled_turn 0 byte out now (length line) LINE_FEED (omega (arith, h)) byte_last there in
+      ap (λ j. set now j LINE_FEED) f
+      ∙ filled_end 0 byte out (set now (length line) LINE_FEED) (length line + 1) h whole
+      ∙ table_is byte 0 (length line + 1) (ended line) length-whole (λ i l. refl)

@@ -12,10 +12,10 @@ use Rattle.holdlines.specs.Files.{number_digits, lines_of, Held, file_length}
 unfoldable pub half_of : ℕ → ℕ → ℕ
 half_of b k = cond (eqb (k % 2) 0) (b / 16) (b % 16)
 
--- Room for the line of some cells from a place on.
-pub record LineRoom (form : Form) (cells out : List ℕ) (at : ℕ) : Type 0 where
+-- Room for the line of some cells.
+pub record LineRoom (form : Form) (cells line : List ℕ) : Type 0 where
   pub few : length cells ≤ 6118
-  pub room : at + (2 * length cells * number_digits form + 1) ≤ length out
+  pub long : length line ≡ 2 * length cells * number_digits form + 1
 
 -- Lines of n cells each, and room for them after a heading of three bytes.
 unfoldable pub lines_from : Form → ℕ → ℕ → List ℕ → List ℕ

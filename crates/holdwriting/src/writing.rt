@@ -41,22 +41,23 @@ fn line_digit(form: Form, cells: &[u8], k: usize) -> u8
     requires { k < 2 * length cells.now * number_digits form }
     ensures { result ≡ get_or (all_written form (numbers cells.now)) k 0 }
 {
+    // Stays: the form comes from the command line, or with the name of a C call, as a value, and its digits are written here.
     match form {
         Form::Old => wide_digit(half(cells[k / 8], k / 4), k % 4),
         Form::New => digit(half(cells[k / 2], k)),
     }
 }
 
-// The line of some cells from a place on.
-fn put_line(form: Form, cells: &[u8], out: &mut [u8], at: usize)
-    requires { LineRoom form cells.now out.old at }
-    ensures { out.new ≡ sets out.old at (ended (all_written form (numbers cells.now))) }
+// The line of some cells.
+fn put_line(form: Form, cells: &[u8], line: &mut [u8])
+    requires { LineRoom form cells.now line.old }
+    ensures { line.new ≡ ended (all_written form (numbers cells.now)) }
 {
-    let last = line_bytes(form, cells.len()) - 1;
+    let last = line.len() - 1;
     for k in 0..last {
-        out[at + k] = line_digit(form, cells, k);
+        line[k] = line_digit(form, cells, k);
     }
-    out[at + last] = LINE_FEED;
+    line[last] = LINE_FEED;
 }
 
 // The lines of every slot after the heading.
@@ -67,7 +68,8 @@ fn put_lines(form: Form, n: usize, memory: &[u8], out: &mut [u8], lines: usize)
     let long = line_bytes(form, n);
     for k in 0..lines {
         let from = k * n;
-        put_line(form, &memory[from..from + n], out, 3 + k * long);
+        let at = 3 + k * long;
+        put_line(form, &memory[from..from + n], &mut out[at..at + long]);
     }
 }
 

@@ -2,13 +2,18 @@
 use Prim.Native.Nat.{ℕ}
 use mathlib.Core.Path.{◌≡◌}
 use mathlib.Core.List.{List, ◌++◌}
-use borrow.Author.Tests.{eq-eqb, ne_eqb}
+use native.Mathlib.Omega.{arith}
+use borrow.Author.Tests.{ne_eqb}
+use Rattle.refusal.specs.declared.Refusal.{Refusal}
+use Rattle.refusal.specs.Numbers.{number}
+use Rattle.refusal.proofs.Positive.{number_positive}
+use Rattle.superframe.specs.Answers.{done}
 use Rattle.superframe.specs.declared.State.{State}
 use Rattle.superframe.specs.Answers.{Reading}
 use Rattle.superframe.specs.Answers.{Answer}
 use Rattle.superframe.specs.Answers.{Finished, Refused as Answer-as-Refused}
 use Rattle.superframe.specs.Clauses.{read_yield}
-use Rattle.std.specs.Prelude.{Ok, Err}
+use Rattle.std.specs.Prelude.{Result, Ok, Err}
 use Rattle.turns.specs.declared.Failure.TheVariants.{Refused}
 use Rattle.jobs.specs.Output.{Joined, block_output}
 use Rattle.jobs.specs.SuperFrame.{job_yield, through, refused, answered, read_written}
@@ -18,15 +23,16 @@ joined-through : {n : ℕ} {bytes out : List ℕ} {r : ℕ} {out' : List ℕ} (s
 unfolding through
 joined-through state memory j = rw (j.long, j.written)
 
--- By the number of a refusal.
-pub answered-through : {n : ℕ} {bytes out : List ℕ} {r : ℕ} {out' : List ℕ} (number : ℕ) (state : State) (memory : List ℕ) → number ≡ 0 → Joined n bytes out r out'
-    → job_yield (record { made = Ok r; state = state }) memory out' ≡ answered number state memory bytes out
+-- By what a call gave, and the old state, which a refusal leaves.
+pub answered-through : {n : ℕ} {bytes out : List ℕ} {r : ℕ} {out' : List ℕ} (old state : State) (memory : List ℕ) {called : Result State Refusal} → called ≡ Ok state → Joined n bytes out r out'
+    → job_yield (record { made = Ok r; state = state }) memory out' ≡ answered (done old called).refusal (done old called).state memory bytes out
 unfolding answered
-answered-through number state memory e j = rw (eq-eqb number 0 e) (joined-through state memory j)
+answered-through old state memory e j = rw e (joined-through state memory j)
 
-pub answered-refused : (number : ℕ) (state : State) (memory : List ℕ) (bytes out : List ℕ) → (number ≡ 0 → ⊥) → refused number 0 state memory out ≡ answered number state memory bytes out
+pub answered-refused : (old : State) (refusal : Refusal) (memory : List ℕ) (bytes out : List ℕ) {called : Result State Refusal} → called ≡ Err refusal
+    → refused (number refusal) 0 old memory out ≡ answered (done old called).refusal (done old called).state memory bytes out
 unfolding answered
-answered-refused number state memory bytes out h = rw (ne_eqb number 0 h)
+answered-refused old refusal memory bytes out e = rw (e, ne_eqb (number refusal) 0 (omega (arith, number_positive refusal)))
 
 pub read_through : {n : ℕ} (reading : Reading) (lost fac sdc msc : List ℕ) (out : List ℕ) (k r : ℕ) (out' : List ℕ) (memory : List ℕ) (a : Answer) → a ≡ Finished k
     → Joined n (lost ++ block_output fac sdc k msc) out r out'

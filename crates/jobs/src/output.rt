@@ -1,4 +1,5 @@
 // A super frame as it goes to standard output: its bytes in one buffer.
+// Stays, in this module: buffers stand one by one, since a clause would name one in a struct `cells.now.fac.now` and not `fac.now`.
 ghost use Rattle.std.specs.Prelude.{◌≡◌, ◌++◌, ◌+◌, ◌*◌, ◌≤◌, length};
 ghost use Rattle.jobs.specs.Output.{Joined, frames_length, cell_output, block_output};
 

@@ -14,7 +14,7 @@ pub const FAC_LENGTH: usize = 3 * FAC_BYTES;
 pub const FAC_CELLS_LENGTH: usize = 3 * FAC_NUMBERS;
 
 // What `read-on` writes before each super frame: a byte for each block or finished frame.
-const LOST_BYTES: usize = 7;
+pub const LOST_BYTES: usize = 7;
 
 // What a program lends for a super frame of settings: bytes of input, and bytes of memory.
 #[derive(Clone, Copy)]
@@ -44,10 +44,7 @@ fn cells_length(z: Sizes) -> usize
 pub fn grid_length(s: Settings) -> usize
     ensures { result ≡ grid_length s }
 {
-    match grid::calls::sizes(s) {
-        Ok(z) => 2 * z.numbers as usize,
-        Err(_) => 0,
-    }
+    grid::calls::sizes(s).map_or(0, |z| 2 * z.numbers as usize)
 }
 
 // What comes in for a super frame, and the most that goes out.
@@ -55,6 +52,7 @@ pub fn grid_length(s: Settings) -> usize
 pub fn input_length(job: Job, z: Sizes, grid: usize) -> usize
     ensures { result ≡ input_length job (sizes_yield (Ok z)) grid }
 {
+    // Stays: the job comes from the command line as a value, so that a `match` says its length, as the definition does.
     match job {
         Job::Code => blocks_length(z),
         Job::Read | Job::ReadOn | Job::Grid => cells_length(z),
@@ -66,6 +64,7 @@ pub fn input_length(job: Job, z: Sizes, grid: usize) -> usize
 pub fn output_length(job: Job, z: Sizes, grid: usize) -> usize
     ensures { result ≡ output_length job (sizes_yield (Ok z)) grid }
 {
+    // Stays: the job comes from the command line as a value, so that a `match` says its length, as the definition does.
     match job {
         Job::Code | Job::Ungrid => cells_length(z),
         Job::Read => blocks_length(z) + 1,
@@ -79,17 +78,7 @@ pub fn output_length(job: Job, z: Sizes, grid: usize) -> usize
 fn sizes_or_none(s: Settings) -> Sizes
     ensures { unnumbered (sizes_yield (Ok result)) ≡ unnumbered (sizes_of s) }
 {
-    match answers::sizes(s) {
-        Ok(z) => z,
-        Err(_) => Sizes {
-            sdcbytes: 0,
-            mscbytes: 0,
-            facnumbers: 0,
-            sdcnumbers: 0,
-            mscnumbers: 0,
-            memory: 0,
-        },
-    }
+    answers::sizes(s).unwrap_or_default()
 }
 
 // The part of the largest buffers that settings need.

@@ -35,13 +35,11 @@ pub fn keep_cells(s: Scheme, cells: &[i16], out: &mut [i16])
 }
 
 // 1 for a lost block, else 0.
+#[tactic(auto, unfolding(crate::specs::ReadOn::lost_mark))]
 fn lost_mark(given: bool) -> u8
     ensures { result ≡ lost_mark given }
 {
-    if given {
-        return 0;
-    }
-    1
+    u8::from(!given)
 }
 
 // The marks of all blocks.

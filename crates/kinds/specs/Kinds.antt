@@ -1,9 +1,12 @@
 -- The kind of a place. 02, S-4.
-use Rattle.std.specs.Prelude.{ℕ, Bool, false, ◌||◌, List, [], ◌∷◌, eqb}
+use Rattle.std.specs.Prelude.{ℕ, ◌<◌, ◌≡◌, Bool, false, ◌||◌, List, [], ◌∷◌, eqb, Result, MatchResult}
 use Rattle.settings.specs.Refusal.{first}
 use Rattle.kinds.specs.Carriers.{unused}
 use Rattle.kinds.specs.References.{frequency, time, is_gain}
 use Rattle.kinds.specs.Control.{fac_carriers, is_sdc}
+use Rattle.kinds.specs.declared.Kind.{Kind}
+use Rattle.kinds.specs.declared.Kind.TheVariants.{Empty, Frequency, Time, Gain, Fac, Sdc, Msc}
+use Rattle.kinds.specs.declared.UnknownKind.{UnknownKind}
 
 -- Kinds: 0 empty, 1 frequency, 2 time and 3 gain reference, 4 FAC, 5 SDC, 6 MSC.
 unfoldable pub fac : ℕ
@@ -14,6 +17,20 @@ sdc = 5
 
 unfoldable pub msc : ℕ
 msc = 6
+
+-- The number of a kind in the code,
+abbrev pub number : Kind → ℕ
+number Empty = 0
+number Frequency = 1
+number Time = 2
+number Gain = 3
+number Fac = 4
+number Sdc = 5
+number Msc = 6
+
+-- and the kind of a number, or an error with a number that no kind has.
+abbrev pub Decodes : ℕ → Result Kind UnknownKind → Type 0
+Decodes n r = MatchResult r (λ kind. number kind ≡ n) (λ e. (e.0 ≡ n) × (6 < n))
 
 -- A list of carriers has this one.
 unfoldable pub has : List ℕ → ℕ → Bool

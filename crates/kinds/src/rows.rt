@@ -1,13 +1,14 @@
 // The kinds of the places of a super frame.
+// Stays, in this module: buffers stand one by one; with a struct of `&mut` a clause must also say that each reference is still the same one.
 ghost use Rattle.std.specs.Prelude.{◌≡◌, ◌<◌, replicate};
 ghost use Rattle.lists.specs.Lists.{table};
 ghost use Rattle.kinds.specs.Carriers.{lower, carriers};
 ghost use Rattle.kinds.specs.References.{time, is_gain};
-ghost use Rattle.kinds.specs.Kinds.{has, data_kind, kind_of};
+ghost use Rattle.kinds.specs.Kinds.{number, has, data_kind, kind_of};
 ghost use Rattle.kinds.specs.Places.{grid_kinds};
 ghost use Rattle.kinds.specs.Clauses.{carrier_list, painted, painted_symbol, Listed, Row, SymbolFits, KindsFit};
 
-use crate::tables;
+use crate::{Kind, tables};
 
 // Carriers -120 to 350.
 pub const ROW: usize = 471;
@@ -15,32 +16,18 @@ pub const ROW: usize = 471;
 // The places of the greatest grid, mode A with occupancy 5.
 pub const MOST_PLACES: usize = 20745;
 
-// Kinds of a row of places.
-pub const EMPTY: u8 = 0;
-
-pub const FREQUENCY: u8 = 1;
-
-pub const TIME: u8 = 2;
-
-pub const GAIN: u8 = 3;
-
-pub const FAC: u8 = 4;
-
-pub const SDC: u8 = 5;
-
-pub const MSC: u8 = 6;
-
 // Paints the carriers of one of the mode's lists.
-fn paint(mode: u8, list: usize, kind: u8, row: &mut [u8])
+fn paint(mode: u8, list: usize, kind: Kind, row: &mut [u8])
     requires { Listed mode list row.old }
-    ensures { row.new ≡ painted (has (carrier_list mode list)) kind row.old }
+    ensures { row.new ≡ painted (has (carrier_list mode list)) (number kind) row.old }
 {
     let carriers = tables::CARRIERS;
     let at = mode as usize * tables::LISTS + list;
     let start = tables::STARTS[at] as usize;
     let end = tables::STARTS[at + 1] as usize;
+    let number = kind.number();
     for i in start..end {
-        row[carriers[i] as usize] = kind;
+        row[carriers[i] as usize] = number;
     }
 }
 
@@ -49,8 +36,9 @@ fn paint_gain(mode: u8, symbol: usize, row: &mut [u8])
     requires { Row mode symbol row.old }
     ensures { row.new ≡ painted (is_gain mode symbol) 3 row.old }
 {
+    let number = Kind::Gain.number();
     for k in (tables::offset(mode, symbol)..row.len()).step_by(tables::spacing(mode)) {
-        row[k] = GAIN;
+        row[k] = number;
     }
 }
 
@@ -62,29 +50,29 @@ fn paint_time(mode: u8, symbol: usize, row: &mut [u8])
     if symbol != 0 {
         return;
     }
-    paint(mode, tables::TIME_LIST, TIME, row);
+    paint(mode, tables::TIME_LIST, Kind::Time, row);
 }
 
 // SDC in the SDC symbols, otherwise MSC.
-fn data_kind(mode: u8, frame: usize, symbol: usize) -> u8
+fn data_kind(mode: u8, frame: usize, symbol: usize) -> Kind
     requires { mode < 4 }
-    ensures { result ≡ data_kind mode frame symbol }
+    ensures { number result ≡ data_kind mode frame symbol }
 {
     if frame != 0 {
-        return MSC;
+        return Kind::Msc;
     }
     if symbol < tables::sdc_symbols(mode) {
-        SDC
+        Kind::Sdc
     } else {
-        MSC
+        Kind::Msc
     }
 }
 
 // A row of data, over which all else is painted.
-fn data_row(kind: u8) -> [u8; 471]
-    ensures { result ≡ replicate 471 kind }
+fn data_row(kind: Kind) -> [u8; 471]
+    ensures { result ≡ replicate 471 (number kind) }
 {
-    [kind; ROW]
+    [kind.number(); ROW]
 }
 
 // All that goes before data, what goes first painted last.
@@ -92,11 +80,11 @@ fn paint_symbol(mode: u8, symbol: usize, row: &mut [u8])
     requires { Row mode symbol row.old }
     ensures { row.new ≡ painted_symbol mode symbol row.old }
 {
-    paint(mode, tables::FAC_LISTS + symbol, FAC, row);
+    paint(mode, tables::FAC_LISTS + symbol, Kind::Fac, row);
     paint_gain(mode, symbol, row);
     paint_time(mode, symbol, row);
-    paint(mode, tables::FREQUENCY_LIST, FREQUENCY, row);
-    paint(mode, tables::UNUSED_LIST, EMPTY, row);
+    paint(mode, tables::FREQUENCY_LIST, Kind::Frequency, row);
+    paint(mode, tables::UNUSED_LIST, Kind::Empty, row);
 }
 
 // The kinds of a symbol's places.

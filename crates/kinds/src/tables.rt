@@ -118,6 +118,7 @@ pub fn sdc_symbols(mode: u8) -> usize
 }
 
 // k_min.
+// Stays: a look-up of k_min in table 82, no least of two numbers.
 pub fn lower(mode: u8, occupancy: u8) -> usize
     requires { Pairing mode occupancy }
     ensures { result ≡ lower mode occupancy }

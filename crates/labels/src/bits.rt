@@ -1,4 +1,5 @@
 // Level bits with their weights: interleaved and added to labels, taken out again and put back. 01 "Bit interleaving" and "Mapping".
+// Stays, in this module: buffers stand one by one; with a struct of `&mut` a clause must also say that each reference is still the same one.
 ghost use Rattle.std.specs.Prelude.{◌≡◌, ◌/◌, ◌%◌, length};
 ghost use Rattle.block.specs.Levels.{mixed};
 ghost use Rattle.block.specs.Reading.{taken, unmixed};
@@ -37,12 +38,12 @@ pub fn add_part(t: usize, weight: u8, places: &[u16], bits: &[u8], labels: &mut 
     gather(weight, places, bits, labels);
 }
 
-// The bit with that weight in a number.
-fn weighed_bit(number: u8, weight: u8) -> u8
+// The bit with that weight in a label.
+fn weighed_bit(label: u8, weight: u8) -> u8
     requires { Weight weight }
-    ensures { result ≡ number / weight % 2 }
+    ensures { result ≡ label / weight % 2 }
 {
-    if number & weight == 0 { 0 } else { 1 }
+    if label & weight == 0 { 0 } else { 1 }
 }
 
 // The bits with that weight in the labels, as they are.
@@ -67,6 +68,7 @@ fn scatter(weight: u8, places: &[u16], labels: &[u8], out: &mut [u8])
 }
 
 // The bits with that weight in the labels, put back to their places by the table of these or as they are.
+// Stays: the way back of `add_part`, with two functions of its own; one function for both ways would be lent them as closures.
 pub fn take_part(t: usize, weight: u8, places: &[u16], labels: &[u8], out: &mut [u8])
     requires { TakesPart t weight labels.now out.old × Ordered t (length labels.now) places.now }
     ensures { out.new ≡ unmixed t (taken weight labels.now) }

@@ -1,4 +1,5 @@
 // One level coded, its parts interleaved, and added to labels with its weight. 01 "Component code" and "Bit interleaving".
+// Stays, in this module: buffers stand one by one; with a struct of `&mut` a clause must also say that each reference is still the same one.
 ghost use Rattle.std.specs.Prelude.{◌≡◌};
 ghost use Rattle.std.proofs.lemmas.List.Edits.{sets};
 ghost use Rattle.component.specs.Codeword.{encode};
@@ -25,7 +26,8 @@ fn code_a(
     ensures coded_a { CodedA l weight a.now labels.old result.register result.at labels.new }
     ensures coded_after { coded.new ≡ sets coded.old 0 (encode (pattern_of l.patterna) 0 0 a.now) }
 {
-    let coder = encode(l.patterna, 0, a, coded, 0);
+    let start = Coder { register: 0, at: 0 };
+    let coder = encode(l.patterna, start, a, coded);
     let n = coder.at;
     add_part(l.t, weight, &places[0..n], &coded[0..n], &mut labels[0..n]);
     coder
@@ -37,8 +39,8 @@ fn encode_b(l: Level, register: u32, b: &[u8], out: &mut [u8])
     ensures { out.new ≡ sets out.old 0 (coded_with_tail l register b.now) }
 {
     let zeros = [0u8; 6];
-    let coder = encode(l.patternb, register, b, out, 0);
-    encode(l.tail, coder.register, &zeros, out, coder.at);
+    let coder = encode(l.patternb, Coder { register, at: 0 }, b, out);
+    encode(l.tail, coder, &zeros, out);
 }
 
 // Part B with its tail coded and added to the labels.

@@ -1,11 +1,12 @@
 // One level read from labels: its bits taken out, put back to their places and decoded. 01 "Operations".
+// Stays, in this module: buffers stand one by one; with a struct of `&mut` a clause must also say that each reference is still the same one.
 ghost use Rattle.std.specs.Prelude.{◌≡◌, length};
 ghost use Rattle.std.proofs.lemmas.List.Edits.{sets};
 ghost use Rattle.block.specs.Reading.{taken, unmixed};
 ghost use Rattle.level.specs.Clauses.{level_bits_over, taken_over, ReadsPart, PartRead, ReadsLevel};
 
 use block::Level;
-use component::code::coded_length;
+use component::code::{Coder, coded_length};
 use decoder::segment::decode;
 use labels::bits::take_part;
 use patterns::Pattern;
@@ -27,7 +28,7 @@ fn read_part(
 {
     let n = labels.len();
     take_part(t, weight, places, labels, &mut coded[0..n]);
-    let coder = decode(pattern, register, &coded[0..n], 0, out);
+    let coder = decode(pattern, Coder { register, at: 0 }, &coded[0..n], out);
     coder.register
 }
 

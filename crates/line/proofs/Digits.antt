@@ -1,7 +1,8 @@
 -- Digits of a line.
 use mathlib.Core.Path.{◌≡◌, ◌∙◌, sym, ap}
-use mathlib.Core.Bool.{true, false, ◌&&◌}
-use mathlib.Core.List.{List}
+use mathlib.Core.Bool.{Bool, true, false, not, ◌&&◌, true≢false}
+use mathlib.Core.List.{List, [], ◌∷◌}
+use mathlib.Core.Logic.{inl, inr}
 use Prim.Native.Nat.{ℕ, zero, suc, ◌+◌, ◌-◌, ◌*◌, ◌<◌, ◌≤◌}
 use native.Mathlib.Nat.{sub-zero, add-zero, add-suc, suc-add, zero-add, not-suc-le-zero, le_of_suc-le-suc}
 use native.Mathlib.Numerals.{add-one}
@@ -10,8 +11,11 @@ use lib.Dec.{ltb, eqb}
 use lib.ListN.{length, get_or}
 use borrow.Author.Tests.{lt-ltb, le-ltb, ltb-true, eq-eqb, ne_eqb}
 use Rattle.lists.proofs.Bools.{and_left, and_right}
-use Rattle.std.specs.Prelude.{Some, None}
-use Rattle.line.specs.Clauses.{HexByte}
+use Rattle.lists.proofs.Counting.{below_or}
+use Rattle.std.proofs.Common.{Option, Some, None}
+use Rattle.std.specs.Option.{unwrap_or, is_some}
+use Rattle.settingbytes.specs.Bytes.{settings_of}
+use Rattle.line.specs.Clauses.{HexByte, found}
 use Rattle.line.specs.Read.{digit_of, digits, is_line, byte_at, settings_in, parse_of}
 
 -- The value of a byte by the range that it lies in.
@@ -107,18 +111,8 @@ module _ (l : List ℕ) (n : ℕ) where
 pub settings_made : (l : List ℕ) (b₀ b₁ b₂ b₃ b₄ b₅ b₆ b₇ b₈ b₉ : ℕ)
     → b₀ ≡ byte_at l 0 → b₁ ≡ byte_at l 1 → b₂ ≡ byte_at l 2 → b₃ ≡ byte_at l 3 → b₄ ≡ byte_at l 4 → b₅ ≡ byte_at l 5
     → b₆ ≡ byte_at l 6 → b₇ ≡ byte_at l 7 → b₈ ≡ byte_at l 8 → b₉ ≡ byte_at l 9
-    → record {
-      mode = b₀;
-      occupancy = b₁;
-      msc = b₂;
-      levela = b₃;
-      levelb = b₄;
-      vspp = b₅;
-      x = 256 * b₆ + b₇;
-      sdc = b₈;
-      interleaving = b₉;
-    } ≡ settings_in l
-unfolding settings_in
+    → settings_of (b₀ ∷ b₁ ∷ b₂ ∷ b₃ ∷ b₄ ∷ b₅ ∷ b₆ ∷ b₇ ∷ b₈ ∷ b₉ ∷ []) ≡ settings_in l
+unfolding settings_in settings_of
 settings_made l b₀ b₁ b₂ b₃ b₄ b₅ b₆ b₇ b₈ b₉ e₀ e₁ e₂ e₃ e₄ e₅ e₆ e₇ e₈ e₉ = rw (e₀, e₁, e₂, e₃, e₄, e₅, e₆, e₇, e₈, e₉)
 
 pub parse_bad : (l : List ℕ) → is_line l ≡ false → parse_of l ≡ None
@@ -128,3 +122,29 @@ parse_bad l e = rw e
 pub parse_line : (l : List ℕ) → is_line l ≡ true → parse_of l ≡ Some (settings_in l)
 unfolding parse_of
 parse_line l e = rw e
+
+-- A digit that is found, and a byte that is none.
+pub found_there : (n : ℕ) → n < 16 → found n ≡ Some n
+unfolding found
+found_there n h = rw (lt-ltb n 16 h)
+
+pub found_none : (n : ℕ) → 16 ≤ n → found n ≡ None
+unfolding found
+found_none n h = rw (le-ltb n 16 h)
+
+pub found_or : (n r : ℕ) (o : Option ℕ) → n < 16 → o ≡ found n → r ≡ unwrap_or o 0 → r ≡ n
+found_or n r o h e f = f ∙ ap (λ (x : Option ℕ). unwrap_or x 0) (e ∙ found_there n h)
+
+pub none_digit : (n : ℕ) (o : Option ℕ) (b : Bool) → o ≡ found n → is_some o ≡ not b → b ≡ true → 16 ≤ n
+none_digit n o b e f t =
+    elim (below_or n 16) [
+      | inl l ↦ absurd (true≢false (sym (ap (λ (x : Option ℕ). is_some x) (e ∙ found_there n l)) ∙ f ∙ ap not t))
+      | inr l ↦ l
+    ]
+
+pub some_digit : (n : ℕ) (o : Option ℕ) (b : Bool) → o ≡ found n → is_some o ≡ not b → b ≡ false → n < 16
+some_digit n o b e f t =
+    elim (below_or n 16) [
+      | inl l ↦ l
+      | inr l ↦ absurd (true≢false (sym (ap not t) ∙ sym f ∙ ap (λ (x : Option ℕ). is_some x) (e ∙ found_none n l)))
+    ]

@@ -3,10 +3,13 @@ use mathlib.Core.Path.{◌≡◌, refl, ◌∙◌, sym, ap, ap₂}
 use mathlib.Core.List.{List, [], ◌∷◌, ◌++◌}
 use Prim.Native.Nat.{ℕ, zero, suc, ◌+◌, ◌*◌, ◌/◌, ◌%◌, ◌^◌, ◌<◌, ◌≤◌}
 use native.Mathlib.Nat.{mod-eq_of_lt, one-le-pow, pow-suc}
-use native.Mathlib.Numerals.{towards_suc}
 use native.Mathlib.Omega.{arith}
-use lib.ListN.{length, set}
-use lib.Seq.{sets}
+use lib.ListN.{length, set, length-set}
+use lib.Seq.{sets, sets-eq, length-sets}
+use borrow.Rule.Slice.PartMut.{put_mid, post_of}
+use Rattle.std.proofs.Common.{append_assoc}
+use Rattle.std.proofs.lemmas.List.Edits.{paste_all}
+use Rattle.std.proofs.lemmas.Slice.{put_mid-paste}
 use borrow.Author.Tests.{lt-ltb, le-ltb, ne_eqb}
 use Rattle.settings.specs.declared.Lengths.{Lengths}
 use Rattle.io.specs.Digits.{last_digits}
@@ -20,18 +23,64 @@ use Rattle.refusal.specs.declared.Refusal.{Refusal}
 use Rattle.refusal.specs.Numbers.{number}
 use Rattle.refusal.proofs.Positive.{number_positive}
 
--- Four stores are a group.
-pub four : (d : List ℕ) (n at a b c e : ℕ) → a ≡ glyph (n / 4096 % 16) → b ≡ glyph (n / 256 % 16) → c ≡ glyph (n / 16 % 16) → e ≡ glyph (n % 16)
-    → set (set (set (set d at a) (at + 1) b) (at + 2) c) (at + 3) e ≡ sets d at (group n)
+-- Four digits are a group, by the two bytes of the number.
+pub four : (n high low a b c e : ℕ) → a ≡ glyph (high / 16) → b ≡ glyph (high % 16) → c ≡ glyph (low / 16) → e ≡ glyph (low % 16) → high ≡ n / 256 % 256 → low ≡ n % 256
+    → n < 65536 → a ∷ b ∷ c ∷ e ∷ [] ≡ group n
 unfolding group
-four d n at a b c e ea eb ec ee = rw (ea, eb, ec, ee) (simp towards_suc)
+four n high low a b c e ea eb ec ee eh el h =
+    let p : high / 16 ≡ n / 4096 % 16 = omega arith in
+    let q : high % 16 ≡ n / 256 % 16 = omega arith in
+    let r : low / 16 ≡ n / 16 % 16 = omega arith in
+    let s : low % 16 ≡ n % 16 = omega arith in
+    rw (ea, eb, ec, ee, p, q, r, s)
+
+-- A group copied into a buffer.
+group_long : (n : ℕ) → 4 ≡ length (group n)
+unfolding group
+group_long n = refl
+
+copied : (d text : List ℕ) (a n : ℕ) → text ≡ group n → a + 4 ≤ length d → put_mid a 4 d text ≡ sets d a (group n)
+copied d text a n e h =
+    let k = group_long n in
+    rw e
+    (put_mid-paste a 4 d (group n) (group n) 4 refl refl k
+    ∙ paste_all d a (group n) 4 k
+    ∙ sym (rw (append_assoc, ← k) at (sets-eq (group n) d a (omega (arith, k, h)))))
+
+front : (d text : List ℕ) (n : ℕ) → text ≡ group n → 4 ≤ length d → text ++ post_of 0 4 d ≡ sets d 0 (group n)
+front d text n e h =
+    let k = group_long n in
+    rw e (sym (rw (← k) at (sets-eq (group n) d 0 (omega (arith, k, h)))))
+
+long : (d text : List ℕ) (a b v : ℕ) → length d ≡ 32 → length (set (sets d a text) b v) ≡ 32
+long d text a b v h = length-set (sets d a text) b v ∙ length-sets d a text ∙ h
 
 -- Five groups, four spaces and a line feed.
-pub five : (l : LengthsYield) (d d₁ d₂ d₃ d₄ d₅ : List ℕ) → d₁ ≡ sets d 0 (group l.n1) → d₂ ≡ sets (set d₁ 4 32) 5 (group l.n2)
+five : (l : LengthsYield) (d d₁ d₂ d₃ d₄ d₅ : List ℕ) → d₁ ≡ sets d 0 (group l.n1) → d₂ ≡ sets (set d₁ 4 32) 5 (group l.n2)
     → d₃ ≡ sets (set d₂ 9 32) 10 (group l.l1) → d₄ ≡ sets (set d₃ 14 32) 15 (group l.l2) → d₅ ≡ sets (set d₄ 19 32) 20 (group l.vspp)
     → set d₅ 24 10 ≡ sets d 0 (groups l)
 unfolding groups group space line_end
 five l d d₁ d₂ d₃ d₄ d₅ e₁ e₂ e₃ e₄ e₅ = rw (e₅, e₄, e₃, e₂, e₁)
+
+pub lined : (l : LengthsYield) (d y₁ y₂ y₃ y₄ y₅ : List ℕ) → length d ≡ 32 → y₁ ≡ group l.n1 → y₂ ≡ group l.n2 → y₃ ≡ group l.l1 → y₄ ≡ group l.l2 → y₅ ≡ group l.vspp
+    → set (put_mid 20 4 (set (put_mid 15 4 (set (put_mid 10 4 (set (put_mid 5 4 (set (y₁ ++ post_of 0 4 d) 4 32) y₂) 9 32) y₃) 14 32) y₄) 19 32) y₅) 24 10 ≡ sets d 0 (groups l)
+lined l d y₁ y₂ y₃ y₄ y₅ h e₁ e₂ e₃ e₄ e₅ =
+    let s₁ = set (sets d 0 (group l.n1)) 4 32 in
+    let k₁ : length s₁ ≡ 32 = long d (group l.n1) 0 4 32 h in
+    let s₂ = set (sets s₁ 5 (group l.n2)) 9 32 in
+    let k₂ : length s₂ ≡ 32 = long s₁ (group l.n2) 5 9 32 k₁ in
+    let s₃ = set (sets s₂ 10 (group l.l1)) 14 32 in
+    let k₃ : length s₃ ≡ 32 = long s₂ (group l.l1) 10 14 32 k₂ in
+    let s₄ = set (sets s₃ 15 (group l.l2)) 19 32 in
+    let k₄ : length s₄ ≡ 32 = long s₃ (group l.l2) 15 19 32 k₃ in
+    rw (
+      front d y₁ l.n1 e₁ (omega (arith, h)),
+      copied s₁ y₂ 5 l.n2 e₂ (omega (arith, k₁)),
+      copied s₂ y₃ 10 l.l1 e₃ (omega (arith, k₂)),
+      copied s₃ y₄ 15 l.l2 e₄ (omega (arith, k₃)),
+      copied s₄ y₅ 20 l.vspp e₅ (omega (arith, k₄)),
+    )
+    (five l d _ _ _ _ _ refl refl refl refl refl)
 
 -- A number in decimal by its size.
 last_digit : (f n : ℕ) → n < 10 → decimal_by (suc f) n ≡ (48 + n) ∷ []

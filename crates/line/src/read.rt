@@ -1,19 +1,20 @@
 // Reading a line of settings.
 ghost use Rattle.std.specs.Prelude.{◌≡◌, ◌≤◌, true, length};
 ghost use Rattle.line.specs.Read.{digit_of, digits, is_line, byte_at, settings_in, parse_of};
-ghost use Rattle.line.specs.Clauses.{HexByte};
+ghost use Rattle.line.specs.Clauses.{HexByte, found};
 
+use settingbytes::bytes::settings_of;
 use settings::Settings;
 
-// The value of a hexadecimal digit, 16 for any other byte.
-#[tactic(auto, unfolding(crate::specs::Read::digit_of))]
-fn digit(byte: u8) -> u8
-    ensures { result ≡ digit_of byte }
+// The value of a hexadecimal digit, or none for any other byte.
+#[tactic(auto, unfolding(crate::specs::Read::digit_of, crate::specs::Clauses::found))]
+fn digit(byte: u8) -> Option<u8>
+    ensures { result ≡ found (digit_of byte) }
 {
     match byte {
-        b'0'..=b'9' => byte - 48,
-        b'A'..=b'F' => byte - 55,
-        _ => 16,
+        b'0'..=b'9' => Some(byte - 48),
+        b'A'..=b'F' => Some(byte - 55),
+        _ => None,
     }
 }
 
@@ -23,7 +24,7 @@ pub fn are_digits(bytes: &[u8], n: usize) -> bool
     ensures { result ≡ digits bytes.now 0 n }
 {
     for i in 0..n {
-        if 16 <= digit(bytes[i]) {
+        if digit(bytes[i]).is_none() {
             return false;
         }
     }
@@ -44,7 +45,9 @@ pub fn byte_at(bytes: &[u8], k: usize) -> u8
     requires { HexByte bytes.now k }
     ensures { result ≡ byte_at bytes.now k }
 {
-    16 * digit(bytes[2 * k]) + digit(bytes[2 * k + 1])
+    let high = digit(bytes[2 * k]).unwrap_or(0);
+    let low = digit(bytes[2 * k + 1]).unwrap_or(0);
+    16 * high + low
 }
 
 fn settings_in(bytes: &[u8]) -> Settings
@@ -53,17 +56,18 @@ fn settings_in(bytes: &[u8]) -> Settings
 {
     let high = byte_at(bytes, 6);
     let low = byte_at(bytes, 7);
-    Settings {
-        mode: byte_at(bytes, 0),
-        occupancy: byte_at(bytes, 1),
-        msc: byte_at(bytes, 2),
-        levela: byte_at(bytes, 3),
-        levelb: byte_at(bytes, 4),
-        vspp: byte_at(bytes, 5),
-        x: 256 * high as u16 + low as u16,
-        sdc: byte_at(bytes, 8),
-        interleaving: byte_at(bytes, 9),
-    }
+    settings_of(&[
+        byte_at(bytes, 0),
+        byte_at(bytes, 1),
+        byte_at(bytes, 2),
+        byte_at(bytes, 3),
+        byte_at(bytes, 4),
+        byte_at(bytes, 5),
+        high,
+        low,
+        byte_at(bytes, 8),
+        byte_at(bytes, 9),
+    ])
 }
 
 // The settings of a line, or none for anything but twenty digits and a line end.

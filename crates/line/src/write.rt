@@ -1,5 +1,5 @@
 // Writing the line that answers a line of settings. The text is written from the start of a buffer, and its length given back.
-ghost use Rattle.std.specs.Prelude.{◌≡◌, ◌≤◌, ◌<◌, ◌++◌, length, Ok};
+ghost use Rattle.std.specs.Prelude.{◌≡◌, ◌<◌, ◌++◌, length, Ok};
 ghost use Rattle.settings.specs.Lengths.{lengths_yield};
 ghost use Rattle.std.proofs.lemmas.List.Edits.{sets};
 ghost use Rattle.line.specs.Written.{glyph, group, groups, decimal, line_end, written, bad_line, answer_of};
@@ -17,15 +17,17 @@ pub fn glyph(n: u8) -> u8
     if n < 10 { 48 + n } else { 55 + n }
 }
 
-// Four hexadecimal digits from place `at` on.
-fn put_group(n: u16, out: &mut [u8; 32], at: usize)
-    requires { at ≤ 28 }
-    ensures { out.new ≡ sets out.old at (group n) }
+// Four hexadecimal digits.
+fn group(n: u16) -> [u8; 4]
+    ensures { result ≡ group n }
 {
-    out[at] = glyph((n / 4096 % 16) as u8);
-    out[at + 1] = glyph((n / 256 % 16) as u8);
-    out[at + 2] = glyph((n / 16 % 16) as u8);
-    out[at + 3] = glyph((n % 16) as u8);
+    let [high, low] = n.to_be_bytes();
+    [
+        glyph(high / 16),
+        glyph(high % 16),
+        glyph(low / 16),
+        glyph(low % 16),
+    ]
 }
 
 // A number in decimal and a line feed.
@@ -56,16 +58,16 @@ fn put_groups(l: Lengths, out: &mut [u8; 32]) -> usize
     ensures out_after { out.new ≡ sets out.old 0 (groups (lengths_yield (Ok l))) }
     ensures value { result ≡ length (groups (lengths_yield (Ok l))) }
 {
-    put_group(l.n1, out, 0);
-    out[4] = 32;
-    put_group(l.n2, out, 5);
-    out[9] = 32;
-    put_group(l.l1, out, 10);
-    out[14] = 32;
-    put_group(l.l2, out, 15);
-    out[19] = 32;
-    put_group(l.vspp, out, 20);
-    out[24] = 10;
+    out[..4].copy_from_slice(&group(l.n1));
+    out[4] = b' ';
+    out[5..9].copy_from_slice(&group(l.n2));
+    out[9] = b' ';
+    out[10..14].copy_from_slice(&group(l.l1));
+    out[14] = b' ';
+    out[15..19].copy_from_slice(&group(l.l2));
+    out[19] = b' ';
+    out[20..24].copy_from_slice(&group(l.vspp));
+    out[24] = b'\n';
     25
 }
 

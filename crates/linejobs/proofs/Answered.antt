@@ -1,22 +1,19 @@
 -- What `fac-build` and `fac-read` say of a line, from what the calls yield.
 use Prim.Native.Nat.{ℕ, ◌≤◌, ◌<◌}
-use mathlib.Core.Path.{◌≡◌, sym, ap, ◌∙◌}
+use mathlib.Core.Path.{◌≡◌, ap, ◌∙◌}
 use mathlib.Core.Bool.{true, false}
 use mathlib.Core.List.{List, ◌++◌}
 use lib.ListN.{length, replicate}
 use Rattle.settings.specs.declared.Settings.{Settings}
 use Rattle.line.specs.Written.{line_end}
-use Rattle.words.specs.Clauses.{Put}
 use Rattle.words.proofs.Answers.{answered-refused, answered-through}
-use Rattle.console.specs.declared.LineJob.{LineJob}
 use Rattle.facfields.specs.Build.{build_yield, build_of}
 use Rattle.facfields.specs.Read.{read_yield, read_of}
 use Rattle.std.specs.Prelude.{Some, None}
 use borrow.Author.Tests.{lt-ltb, le-ltb}
-use Rattle.turns.specs.Yield.{MadeYield, made_yield, made_through, made_refused, made_bad, bad}
+use Rattle.turns.specs.Yield.{made_yield, made_refused, made_bad, through, bad}
 use Rattle.numerals.specs.Digits.{hex_digits, are_hex, bytes_in}
 use Rattle.numerals.specs.Numbers.{are_numbers, numbers_in, numbers_line}
-use Rattle.linejobs.specs.Lines.{line_of}
 use Rattle.linejobs.specs.Fields.{build_said, build_line, read_said, read_line}
 use Rattle.numerals.specs.Clauses.{Scanned}
 use Rattle.linejobs.proofs.Held.{build_held}
@@ -49,9 +46,9 @@ module _ (s : Settings) (line out block values : List ℕ) (answer : ℕ) (h : l
   unfolding build_said
   build_refused n = answered-refused answer (hex_digits block ++ line_end) out n ∙ said
 
-  pub build_through : answer ≡ 0 → (r : ℕ) (out' : List ℕ) → Put 19 (hex_digits block ++ line_end) out 0 r out' → made_yield (made_through r) out' ≡ build_line s line out
+  pub build_through : answer ≡ 0 → (text : List ℕ) → text ≡ hex_digits block ++ line_end → through text out ≡ build_line s line out
   unfolding build_said
-  build_through e r out' p = answered-through answer (hex_digits block ++ line_end) out e r out' p ∙ said
+  build_through h text e = ap (λ t. through t out) e ∙ answered-through answer (hex_digits block ++ line_end) out h ∙ said
 
 -- `fac-read`.
 pub read-bad : (s : Settings) (line out : List ℕ) → are_hex 9 line ≡ false → made_yield made_bad out ≡ read_line s line out
@@ -68,10 +65,6 @@ module _ (s : Settings) (line out block numbers : List ℕ) (answer : ℕ) (t : 
   unfolding read_said
   read-refused h = answered-refused answer (numbers_line numbers) out h ∙ said_read
 
-  pub read_through : answer ≡ 0 → (r : ℕ) (out' : List ℕ) → Put 400 (numbers_line numbers) out 0 r out' → made_yield (made_through r) out' ≡ read_line s line out
+  pub read_through : answer ≡ 0 → (text : List ℕ) → text ≡ numbers_line numbers → through text out ≡ read_line s line out
   unfolding read_said
-  read_through e r out' p = answered-through answer (numbers_line numbers) out e r out' p ∙ said_read
-
--- The line of a job.
-pub line_as : {r : MadeYield} (job was : LineJob) (line out : List ℕ) → was ≡ job → r ≡ line_of job line out → r ≡ line_of was line out
-line_as job was line out e f = f ∙ ap (λ j. line_of j line out) (sym e)
+  read_through h text e = ap (λ t. through t out) e ∙ answered-through answer (numbers_line numbers) out h ∙ said_read

@@ -1,4 +1,3 @@
 pub mod Nearest
 pub mod Fields
 pub mod Lines
-pub mod Clauses

@@ -1,57 +1,53 @@
 // Lines of FAC fields and of FAC blocks. 02, S-1: the desk types fields.
-ghost use Rattle.std.specs.Prelude.{◌≡◌, ◌++◌, ◌≤◌, length, IfOk};
-ghost use Rattle.superframe.specs.Call.{fac_bytes};
-ghost use Rattle.words.specs.Clauses.{Put};
+ghost use Rattle.std.specs.Prelude.{◌≡◌, ℕ, List, ◌++◌};
 ghost use Rattle.line.specs.Written.{line_end};
-ghost use Rattle.turns.specs.Yield.{made_yield};
+ghost use Rattle.turns.specs.Yield.{text_yield};
 ghost use Rattle.numerals.specs.Digits.{hex_digits};
 ghost use Rattle.linejobs.specs.Fields.{build_line, read_line};
 
 use facfields::calls::{build, read};
 use numerals::digits::{are_hex, put_hex, read_hex};
-use numerals::numbers::{numbers, put_numbers};
+use numerals::numbers::{numbers, numbers_line};
 use partlengths::tables::FAC_BYTES;
 use settings::Settings;
 use turns::Failure;
-use turns::answers::{bad, through};
-use words::report::put;
+use words::text::Text;
 
 // The line of a block.
-fn put_block(block: &[u8], out: &mut [u8]) -> usize
-    requires { (length block.now ≡ fac_bytes) × (64 ≤ length out.old) }
-    ensures { Put 19 (hex_digits block.now ++ line_end) out.old 0 result out.new }
+#[tactic(auto, unfolding(line::specs::Written::line_end))]
+fn block_text(block: &[u8; FAC_BYTES]) -> Text
+    ensures { result ≡ hex_digits block.now ++ line_end }
 {
-    put_hex(block, out);
-    put(b"\n", out, 18)
+    let mut text = Text::new();
+    put_hex(&mut text, block);
+    text.put(b"\n");
+    text
 }
 
 // `fac-build`: fourteen numbers to the digits of a block.
-pub fn build_line(s: Settings, line: &[u8], out: &mut [u8; 1024]) -> Result<usize, Failure>
-    ensures out_after { made_yield result out.new ≡ build_line s line.now out.old }
-    ensures length_bound { IfOk result (λ n. n ≤ 1024) }
+pub fn build_line(s: Settings, line: &[u8]) -> Result<Text, Failure>
+    ensures { (out : List ℕ) → text_yield result out ≡ build_line s line.now out }
 {
     if 256 <= line.len() {
-        return bad();
+        return Err(Failure::Bad);
     }
     let Some(fields) = numbers(line) else {
-        return bad();
+        return Err(Failure::Bad);
     };
     let mut block = [0u8; FAC_BYTES];
     build(s, &fields, &mut block)?;
-    through(put_block(&block, out))
+    Ok(block_text(&block))
 }
 
 // `fac-read`: the digits of a block to its fourteen numbers.
-pub fn read_line(s: Settings, line: &[u8], out: &mut [u8; 1024]) -> Result<usize, Failure>
-    ensures out_after { made_yield result out.new ≡ read_line s line.now out.old }
-    ensures length_bound { IfOk result (λ n. n ≤ 1024) }
+pub fn read_line(s: Settings, line: &[u8]) -> Result<Text, Failure>
+    ensures { (out : List ℕ) → text_yield result out ≡ read_line s line.now out }
 {
     if !are_hex(line, FAC_BYTES) {
-        return bad();
+        return Err(Failure::Bad);
     }
-    let mut block = [0u8; FAC_BYTES];
-    read_hex(line, &mut block);
+    let block = read_hex::<FAC_BYTES>(line);
     let mut fields = [0u32; 14];
     read(s, &block, &mut fields)?;
-    through(put_numbers(&fields, out))
+    Ok(numbers_line(&fields))
 }

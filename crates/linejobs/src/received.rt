@@ -1,17 +1,13 @@
 // A line of received bits, and the line of the block nearest to them. 02, S-9.
-ghost use Rattle.std.specs.Prelude.{◌≡◌, ◌≤◌, length, IfOk};
-ghost use Rattle.superframe.specs.Call.{fac_bytes, fac_numbers};
-ghost use Rattle.words.specs.Clauses.{Put};
-ghost use Rattle.turns.specs.Yield.{made_yield};
+ghost use Rattle.std.specs.Prelude.{◌≡◌, ℕ, List, length};
+ghost use Rattle.turns.specs.Yield.{text_yield};
 ghost use Rattle.linejobs.specs.Nearest.{value_of, values_in, block_line, nearest_line};
-ghost use Rattle.linejobs.specs.Clauses.{Found};
 
 use nearest::fac::fac_nearest;
 use numerals::digits::put_hex;
 use partlengths::tables::{FAC_BYTES, FAC_NUMBERS};
 use turns::Failure;
-use turns::answers::{bad, through};
-use words::report::{put, put_decimal};
+use words::text::Text;
 
 // The value of a character: 0, 1, 2 for unknown, and 3 for any that is none of them.
 #[tactic(auto, unfolding(crate::specs::Nearest::value_of))]
@@ -37,38 +33,31 @@ fn read_values(line: &[u8], values: &mut [u8])
 }
 
 // The line of a block and its number of disagreements.
-fn put_found(block: &[u8], count: u16, out: &mut [u8]) -> usize
-    requires { (length block.now ≡ fac_bytes) × (64 ≤ length out.old) }
-    ensures { Put 40 (block_line block.now count) out.old 0 result out.new }
+#[tactic(auto, using(std::proofs::Common::append_assoc), unfolding(crate::specs::Nearest::block_line, line::specs::Written::space, line::specs::Written::line_end))]
+fn found_text(block: &[u8; FAC_BYTES], count: u16) -> Text
+    ensures { result ≡ block_line block.now count }
 {
-    put_hex(block, out);
-    let a = put(b" ", out, 18);
-    let b = put_decimal(count as u64, out, a);
-    put(b"\n", out, b)
-}
-
-// The nearest block of a line of as many characters as an FAC block has received bits.
-fn find(line: &[u8], block: &mut [u8], count: &mut [u16]) -> bool
-    requires { (length line.now ≡ fac_numbers) × (length block.old ≡ fac_bytes) × (length count.old ≡ 1) }
-    ensures { Found line.now block.old count.old result block.new count.new }
-{
-    let mut values = [0u8; FAC_NUMBERS];
-    read_values(line, &mut values);
-    fac_nearest(&values, block, count).is_ok()
+    let mut text = Text::new();
+    put_hex(&mut text, block);
+    text.put(b" ");
+    text.put_decimal(u64::from(count));
+    text.put(b"\n");
+    text
 }
 
 // What `desk nearest` makes of a line.
-pub fn nearest_line(line: &[u8], out: &mut [u8; 1024]) -> Result<usize, Failure>
-    ensures out_after { made_yield result out.new ≡ nearest_line line.now out.old }
-    ensures length_bound { IfOk result (λ n. n ≤ 1024) }
+pub fn nearest_line(line: &[u8]) -> Result<Text, Failure>
+    ensures { (out : List ℕ) → text_yield result out ≡ nearest_line line.now out }
 {
+    if line.len() != FAC_NUMBERS {
+        return Err(Failure::Bad);
+    }
+    let mut values = [0u8; FAC_NUMBERS];
+    read_values(line, &mut values);
     let mut block = [0u8; FAC_BYTES];
     let mut count = [0u16; 1];
-    if line.len() != FAC_NUMBERS {
-        return bad();
-    }
-    if !find(line, &mut block, &mut count) {
-        return bad();
-    }
-    through(put_found(&block, count[0], out))
+    let Ok(()) = fac_nearest(&values, &mut block, &mut count) else {
+        return Err(Failure::Bad);
+    };
+    Ok(found_text(&block, count[0]))
 }

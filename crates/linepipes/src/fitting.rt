@@ -13,9 +13,8 @@ fn print(text: &[u8]) {
 
 // The answer to a number of bytes.
 fn answer(s: Settings, word: &[u8]) {
-    let mut out = [0u8; 1024];
-    match text::fit(s, word, &mut out) {
-        Ok(n) => print(&out[..n]),
+    match text::fit(s, word) {
+        Ok(said) => print(said.bytes()),
         Err(Failure::Refused(number, _)) => say_settings(number),
         Err(Failure::Bad) => say_usage(),
     }

@@ -7,9 +7,8 @@ use turns::{End, input, turn};
 
 // A line that has come.
 fn pass_line(job: LineJob, line: &[u8]) -> Result<(), End> {
-    let mut out = [0u8; 1024];
-    let n = steps::line_step(job, line, &mut out)?;
-    turn::after_write(io::write_all(STDOUT_FILENO, &out[..n]))
+    let said = steps::line_step(job, line)?;
+    turn::after_write(io::write_all(STDOUT_FILENO, said.bytes()))
 }
 
 // The next line.

@@ -4,29 +4,21 @@ ghost use Rattle.std.specs.Prelude.{◌≡◌, ◌≤◌, length, IfSome};
 use pipes::arguments::{argument, argument_count};
 use pipes::input::read_line;
 use pipes::output::{STDERR_FILENO, STDOUT_FILENO, say_line, say_usage};
-use plan::rules::WEEK_MINUTES;
+use plan::rules::{RULE_BYTES, WEEK_MINUTES};
 use planjobs::arguments::asked;
 use planjobs::{Asked, lines, week};
+use refusal::Refusal;
 use std::fs::File;
 use std::io::Error;
 use turns::{End, input};
-
-fn say_plan(number: u8) {
-    let text = week::refused_line(number);
-    io::write_all(STDERR_FILENO, text.bytes());
-}
+use words::text::Text;
 
 // The rule of a file's next line.
-fn next_rule(from: &mut File, rule: &mut [u8]) -> Result<(), End>
-    requires { length rule.old ≡ 14 }
-{
+fn next_rule(from: &mut File) -> Result<[u8; RULE_BYTES], End> {
     let mut line = [0u8; 256];
     let gathered = read_line(from, &mut line);
     input::after_line(gathered.count, gathered.seen)?;
-    if !lines::rule_line(&line[..gathered.count], rule) {
-        return Err(End::BadLine);
-    }
-    Ok(())
+    lines::rule_line(&line[..gathered.count]).ok_or(End::BadLine)
 }
 
 // How many rules a file has up to the first line that is none, if nothing is wrong with its lines. One more than a plan may have is enough to refuse it.
@@ -35,60 +27,61 @@ fn read_rules(from: &mut File, rules: &mut [u8]) -> Option<usize>
     ensures { IfSome result (λ count. count ≤ 65) }
 {
     for count in 0..65 {
-        let at = 14 * count;
-        if let Err(end) = next_rule(from, &mut rules[at..at + 14]) {
-            let wrong = say_line(end, count as u64 + 1);
-            return if wrong { None } else { Some(count) };
+        let at = RULE_BYTES * count;
+        match next_rule(from) {
+            Ok(rule) => rules[at..at + RULE_BYTES].copy_from_slice(&rule),
+            Err(end) => {
+                let wrong = say_line(end, count as u64 + 1);
+                return if wrong { None } else { Some(count) };
+            }
         }
     }
     Some(65)
 }
 
-// Place and mark of a super frame.
-fn print_answer(rules: &[u8], t: u32) {
-    let mut out = [0u8; 1024];
-    let printed = week::answer_line(rules, t, &mut out);
-    if printed.refusal != 0 {
-        say_plan(printed.refusal);
-        return;
-    }
-    if !io::write_all(STDOUT_FILENO, &out[..printed.length]) {
-        say_line(End::Unwritten, 1);
-    }
-}
-
-// The stretch that begins with a minute; the minute after it, unless it was not printed.
-fn print_stretch(rules: &[u8], minute: u16, index: u64) -> Option<u16> {
-    let mut out = [0u8; 1024];
-    let printed = week::stretch_line(rules, minute, &mut out);
-    if printed.refusal != 0 {
-        say_plan(printed.refusal);
-        return None;
-    }
-    if !io::write_all(STDOUT_FILENO, &out[..printed.length]) {
+// Writes a line; where that fails, says so with the line's number, and answers false.
+fn print(line: &Text, index: u64) -> bool {
+    let written = io::write_all(STDOUT_FILENO, line.bytes());
+    if !written {
         say_line(End::Unwritten, index);
-        return None;
     }
-    Some(printed.next)
+    written
 }
 
-// The week's stretches, at most one for each rule.
-fn print_week(rules: &[u8]) {
+fn say_plan(refusal: Refusal) {
+    let text = week::refused_line(refusal.number());
+    io::write_all(STDERR_FILENO, text.bytes());
+}
+
+// Place and mark of a super frame.
+fn print_answer(rules: &[u8], t: u32) -> Result<(), Refusal> {
+    let line = week::answer_line(rules, t)?;
+    print(&line, 1);
+    Ok(())
+}
+
+// The week's stretches, at most one for each rule, up to the first that is not written.
+fn print_week(rules: &[u8]) -> Result<(), Refusal> {
     let mut minute = 0;
     for index in 1..65 {
-        match print_stretch(rules, minute, index) {
-            Some(next) if next != WEEK_MINUTES => minute = next,
-            _ => return,
+        let stretch = week::stretch_line(rules, minute)?;
+        if !print(&stretch.line, index) || stretch.next == WEEK_MINUTES {
+            break;
         }
+        minute = stretch.next;
     }
+    Ok(())
 }
 
 // What is asked of a plan.
 fn print_plan(asked: Asked, rules: &[u8]) {
-    match asked {
+    // Stays: what is asked comes from the command line as a value, so what is printed is found by a `match`.
+    let printed = match asked {
         Asked::Week => print_week(rules),
         Asked::SuperFrame(t) => print_answer(rules, t),
-        Asked::Bad => say_usage(),
+    };
+    if let Err(refusal) = printed {
+        say_plan(refusal);
     }
 }
 
@@ -97,7 +90,7 @@ fn plan_from(asked: Asked, from: File) {
     let mut from = from;
     let mut bytes = [0u8; 910];
     if let Some(count) = read_rules(&mut from, &mut bytes) {
-        print_plan(asked, &bytes[..14 * count]);
+        print_plan(asked, &bytes[..RULE_BYTES * count]);
     }
 }
 
@@ -142,8 +135,9 @@ fn plan_named(rt: HostRuntime, asked: Asked) {
 pub fn begin(rt: HostRuntime) {
     let mut frame = [0u8; 32];
     let n = argument(rt, 3, &mut frame);
-    match asked(argument_count(rt), &frame[..n]) {
-        Asked::Bad => say_usage(),
-        what => plan_named(rt, what),
-    }
+    let Some(what) = asked(argument_count(rt), &frame[..n]) else {
+        say_usage();
+        return;
+    };
+    plan_named(rt, what);
 }

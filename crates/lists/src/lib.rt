@@ -1,4 +1,5 @@
-// Lists by their places, and buffers compared.
+// Lists by their places, working buffers, and buffers compared.
 #![tactic(auto)]
 
+pub mod buffers;
 pub mod numbers;

@@ -3,20 +3,20 @@ ghost use Rattle.std.specs.Prelude.{◌≡◌, ◌<◌, length, get_or, eqb, ltb
 ghost use Rattle.lists.specs.Lists.{table, total};
 ghost use Rattle.lists.specs.Bools.{every};
 ghost use Rattle.patterns.specs.Patterns.{RX, entry};
-ghost use Rattle.patterns.specs.Loaded.{table_size, numbers_of, rate_passes, passes};
+ghost use Rattle.patterns.specs.Loaded.{numbers_of, rate_passes, passes};
 
 use patterns::table::{TABLE_SIZE, begins, denominator, numerator};
 
 // Every number is 0 or 1.
-fn bits_only(kept: &[u8]) -> bool
+fn bits_only(kept: &[u8; TABLE_SIZE]) -> bool
     ensures { result ≡ every (table (λ k. ltb (get_or kept.now k 0) 2) 0 (length kept.now)) }
 {
     kept.iter().all(|number| *number < 2)
 }
 
 // Row B0 of a rate is all ones.
-fn first_row(kept: &[u8], rate: usize) -> bool
-    requires { (length kept.now ≡ table_size) × (rate < 13) }
+fn first_row(kept: &[u8; TABLE_SIZE], rate: usize) -> bool
+    requires { rate < 13 }
     ensures { result ≡ every (table (λ i. eqb (entry kept.now rate 0 i) 1) 0 (RX rate)) }
 {
     let width = numerator(rate);
@@ -25,8 +25,8 @@ fn first_row(kept: &[u8], rate: usize) -> bool
 }
 
 // The sum of a rate's numbers.
-fn count(kept: &[u8], rate: usize) -> usize
-    requires { (length kept.now ≡ table_size) × (rate < 13) }
+fn count(kept: &[u8; TABLE_SIZE], rate: usize) -> usize
+    requires { rate < 13 }
     ensures { result ≡ total (numbers_of kept.now rate) }
 {
     let at = begins(rate);
@@ -39,16 +39,15 @@ fn count(kept: &[u8], rate: usize) -> usize
 }
 
 // Row B0 of a rate is all ones, and it keeps as many bits as its denominator says.
-fn rate_passes(kept: &[u8], rate: usize) -> bool
-    requires { (length kept.now ≡ table_size) × (rate < 13) }
+fn rate_passes(kept: &[u8; TABLE_SIZE], rate: usize) -> bool
+    requires { rate < 13 }
     ensures { result ≡ rate_passes kept.now rate }
 {
     first_row(kept, rate) && count(kept, rate) == denominator(rate)
 }
 
 // Every rate passes.
-fn rates_pass(kept: &[u8]) -> bool
-    requires { length kept.now ≡ table_size }
+fn rates_pass(kept: &[u8; TABLE_SIZE]) -> bool
     ensures { result ≡ every (table (rate_passes kept.now) 0 13) }
 {
     (0..13).all(|rate| rate_passes(kept, rate))
@@ -58,8 +57,8 @@ fn rates_pass(kept: &[u8]) -> bool
 pub fn passes(kept: &[u8]) -> bool
     ensures { result ≡ passes kept.now }
 {
-    if kept.len() != TABLE_SIZE {
-        return false;
+    match <&[u8; TABLE_SIZE]>::try_from(kept) {
+        Ok(whole) => bits_only(whole) && rates_pass(whole),
+        Err(_) => false,
     }
-    bits_only(kept) && rates_pass(kept)
 }

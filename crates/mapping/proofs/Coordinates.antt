@@ -12,7 +12,8 @@ use lib.IntN.{ℤ, pos}
 use Rattle.lists.proofs.Tables.{Filled, filled-start, filled_turn, filled_end}
 use Rattle.block.specs.declared.Constellation.{Constellation}
 use Rattle.block.specs.declared.Constellation.TheVariants.{Qam4, Qam16, Sm64, HmSym, HmMix}
-use Rattle.block.specs.Mapping.{Labellings, constellation, is_mixed, axis, weave}
+use Rattle.block.specs.Mapping.{Labellings, qam4, qam16, standard64, symmetric64, constellation, is_mixed, axis, weave}
+use Rattle.mapping.specs.Labellings.{of_axis}
 use Rattle.mapping.specs.Labels.{coordinates}
 use Rattle.block.proofs.Mapping.{get_or-weave}
 
@@ -54,6 +55,18 @@ alike Qam16 h = one_labelling (constellation Qam16) _ refl refl
 alike Sm64 h = one_labelling (constellation Sm64) _ refl refl
 alike HmSym h = one_labelling (constellation HmSym) _ refl refl
 alike HmMix h = absurd (cc)
+
+-- what holds of each rule's thing and its labelling, holds of an axis's
+pub axis_holds : {A : Type 0} (P : A → List ℤ → Type 0) (c : Constellation) (a : ℕ) → a < 2 → (x y z w : A)
+    → P x qam4 → P y qam16 → P z standard64 → P w symmetric64 → P (of_axis c a x y z w) (axis (constellation c) a)
+unfolding of_axis axis constellation
+axis_holds P Qam4 a h x y z w p q r s = rw (one_labelling (constellation Qam4) _ refl refl a) p
+axis_holds P Qam16 a h x y z w p q r s = rw (one_labelling (constellation Qam16) _ refl refl a) q
+axis_holds P Sm64 a h x y z w p q r s = rw (one_labelling (constellation Sm64) _ refl refl a) r
+axis_holds P HmSym a h x y z w p q r s = rw (one_labelling (constellation HmSym) _ refl refl a) s
+axis_holds P HmMix zero h x y z w p q r s = s
+axis_holds P HmMix (suc zero) h x y z w p q r s = r
+axis_holds P HmMix (suc (suc a)) h x y z w p q r s = absurd (omega arith)
 
 -- before the turn at cell k of the coordinates of labels
 pub record Placing (c : Constellation) (labels : List ℕ) (d out : List ℤ) (k : ℕ) : Type 0 where

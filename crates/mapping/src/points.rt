@@ -3,7 +3,7 @@ ghost use Rattle.std.specs.Prelude.{◌≡◌, ◌<◌};
 ghost use Rattle.block.specs.Mapping.{constellation, axis, weave};
 ghost use Rattle.block.specs.Reading.{place_of, labels_of};
 ghost use Rattle.mapping.specs.Labels.{coordinates, axis_labels};
-ghost use Rattle.mapping.specs.Labellings.{coordinate_by, LabellingFits, Labels};
+ghost use Rattle.mapping.specs.Labellings.{of_axis, coordinate_by, LabellingFits, Labels};
 ghost use Rattle.mapping.specs.Clauses.{labels_by, label_by, Maps, MapsAxes, Unmaps, UnmapsAxis};
 
 use block::Constellation;
@@ -41,23 +41,27 @@ const SYMMETRIC64: Labelling = Labelling {
     odd: 1,
 };
 
-// The labelling of a constellation's axis: axis 0 is the real, axis 1 the imaginary one.
+// What belongs to a constellation's axis, of one thing for each rule: axis 0 is the real, axis 1 the imaginary one.
+#[tactic(auto, unfolding(crate::specs::Labellings::of_axis))]
+fn of_axis<T: Copy>(c: Constellation, a: usize, qam4: T, qam16: T, standard: T, symmetric: T) -> T
+    ensures { result ≡ of_axis c a qam4 qam16 standard symmetric }
+{
+    match c {
+        Constellation::Qam4 => qam4,
+        Constellation::Qam16 => qam16,
+        Constellation::Sm64 => standard,
+        Constellation::HmSym => symmetric,
+        Constellation::HmMix if a == 0 => symmetric,
+        Constellation::HmMix => standard,
+    }
+}
+
+// The labelling of a constellation's axis.
 fn axis_labelling(c: Constellation, a: usize) -> Labelling
     requires { a < 2 }
     ensures { Labels result.size result.twice result.odd (axis (constellation c) a) }
 {
-    match c {
-        Constellation::Qam4 => QAM4,
-        Constellation::Qam16 => QAM16,
-        Constellation::Sm64 => STANDARD64,
-        Constellation::HmSym => SYMMETRIC64,
-        Constellation::HmMix => {
-            if a == 0 {
-                return SYMMETRIC64;
-            }
-            STANDARD64
-        }
-    }
+    of_axis(c, a, QAM4, QAM16, STANDARD64, SYMMETRIC64)
 }
 
 // The coordinate of a label: worked out, not looked up, so that many labels are mapped at once.
@@ -104,23 +108,19 @@ const LABELS_STANDARD64: [u8; 16] = [8, 3, 8, 2, 8, 1, 8, 0, 8, 7, 8, 6, 8, 5, 8
 
 const LABELS_SYMMETRIC64: [u8; 16] = [8, 6, 8, 4, 8, 2, 8, 0, 8, 7, 8, 5, 8, 3, 8, 1];
 
-// The labels of a constellation's axis: axis 0 is the real, axis 1 the imaginary one.
+// The labels of a constellation's axis.
 fn axis_labels(c: Constellation, a: usize) -> [u8; 16]
     requires { a < 2 }
     ensures { result ≡ labels_by (axis (constellation c) a) }
 {
-    match c {
-        Constellation::Qam4 => LABELS4,
-        Constellation::Qam16 => LABELS16,
-        Constellation::Sm64 => LABELS_STANDARD64,
-        Constellation::HmSym => LABELS_SYMMETRIC64,
-        Constellation::HmMix => {
-            if a == 0 {
-                return LABELS_SYMMETRIC64;
-            }
-            LABELS_STANDARD64
-        }
-    }
+    of_axis(
+        c,
+        a,
+        LABELS4,
+        LABELS16,
+        LABELS_STANDARD64,
+        LABELS_SYMMETRIC64,
+    )
 }
 
 // The number of a coordinate's level bits. By a table, since a processor does not foresee jumps that follow cells.
@@ -138,8 +138,7 @@ pub fn axis_label(c: Constellation, a: usize, v: i16) -> u8
     requires { a < 2 }
     ensures { result ≡ place_of (axis (constellation c) a) v }
 {
-    let labels = axis_labels(c, a);
-    label_of(&labels, v)
+    label_of(&axis_labels(c, a), v)
 }
 
 // Coordinates, real before imaginary, back to labels, where both axes have one labelling.

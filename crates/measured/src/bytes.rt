@@ -1,4 +1,5 @@
 // The call with the bytes of settings that a caller lends.
+// Stays, in this module: buffers stand one by one; with a struct of `&mut` a clause must also say that each reference is still the same one.
 ghost use Rattle.std.specs.Prelude.{◌≡◌};
 ghost use Rattle.refusal.specs.Numbers.{answer};
 ghost use Rattle.measured.specs.Calls.{decide_yield};

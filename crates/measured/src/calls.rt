@@ -1,4 +1,5 @@
 // The call: cells as kinds and values to points and bits. 02, S-10.
+// Stays, in this module: buffers stand one by one, since a clause would name one in a struct `cells.now.kinds.now` and not `kinds.now`.
 ghost use Rattle.std.specs.Prelude.{◌≡◌, ◌*◌, ◌≤◌, eqb};
 ghost use Rattle.refusal.specs.Numbers.{answer};
 ghost use Rattle.settings.specs.Accepted.{Accepted};
@@ -27,6 +28,7 @@ fn constellation_of(channel: Channel, s: Settings) -> Constellation
 }
 
 // The level bits of an axis, by constellation.
+// Stays: bits here and first places in `decision` are two tables by constellation; one table would give pairs of which each caller drops one.
 #[tactic(auto, unfolding(crate::specs::Calls::axis_bits))]
 fn axis_bits(c: Constellation) -> usize
     ensures { result ≡ axis_bits c }

@@ -1,4 +1,5 @@
 // The levels of a block coded and added up as labels. 01 "Partition" and "Mapping".
+// Stays, in this module: buffers stand one by one; with a struct of `&mut` a clause must also say that each reference is still the same one.
 ghost use Rattle.std.specs.Prelude.{◌≡◌, length};
 ghost use Rattle.blockplaces.specs.Clauses.{shared, digits};
 ghost use Rattle.multilevel.specs.Clauses.{stream_at, coded_over_at, labels_from, levels_over, CodesAt, CodesLevels};

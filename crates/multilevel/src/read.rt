@@ -1,4 +1,5 @@
 // The levels of a block read from labels, each from the bits with its weight. 01 "Operations".
+// Stays, in this module: buffers stand one by one; with a struct of `&mut` a clause must also say that each reference is still the same one.
 ghost use Rattle.std.specs.Prelude.{◌≡◌};
 ghost use Rattle.block.specs.Reading.{taken};
 ghost use Rattle.blockplaces.specs.Clauses.{level_at, shared, digits};

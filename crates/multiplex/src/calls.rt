@@ -1,4 +1,5 @@
 // The calls that build a multiplex frame and split one into its streams. 02, S-8.
+// Stays, in this module: buffers stand one by one; with a struct of `&mut` a clause must also say that each reference is still the same one.
 ghost use Rattle.std.specs.Prelude.{◌≡◌};
 ghost use Rattle.refusal.specs.Numbers.{answer};
 ghost use Rattle.multiplex.specs.Build.{build_yield, build_refusal, build_of};
@@ -84,6 +85,7 @@ fn check_read(s: Settings, description: &[u16], frame: &[u8], streams: &[u8]) ->
 }
 
 // The logical frames of the streams of a multiplex frame.
+// Stays: building writes the frame and reading the streams, so that one function for both would take a closure over both buffers.
 #[tactic(auto, using(refusal::proofs::Positive::number_positive), unfolding(crate::specs::Read::read_of))]
 pub fn read(
     s: Settings,

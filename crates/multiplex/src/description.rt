@@ -52,6 +52,7 @@ pub fn layout(s: Settings, description: &[u16]) -> Layout
     let first = uncounted(s.msc);
     let head = head_bytes(s.msc, description);
     let all = sums(&description[first..]);
+    // Stays: a field `parts: Share` saves one line here, and every `l.a` and `l.b` in code and definitions would read `l.parts.a` and `l.parts.b`.
     Layout {
         vspp: l.vspp as usize,
         rest: l.l1 as usize + l.l2 as usize,

@@ -4,6 +4,7 @@
 ghost use Rattle.multiplexruns.specs.SameStreams.{SameStreams};
 
 // Between closed runs streams and fillings are equal exactly when the MSC cells are.
+// Stays: a theorem on frames of the same streams; nothing is compared.
 pub fn same_streams()
     ensures { SameStreams }
 {}

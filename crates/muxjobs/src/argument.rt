@@ -1,81 +1,85 @@
 // DESCRIPTION, the third argument of `desk mux` and `desk demux`.
-ghost use Rattle.std.specs.Prelude.{◌≡◌, ◌+◌, ◌*◌, ◌<◌, ◌≤◌};
+ghost use Rattle.std.specs.Prelude.{◌≡◌, ◌<◌, ◌≤◌, IfSome};
 ghost use Rattle.muxjobs.specs.Argument.{with_digit, read, read_word, description_of};
 
-use crate::{Description, Reading};
+use crate::Description;
 use multiplex::description::described;
 use numerals::numbers::is_digit;
 
-// A number with a digit more.
-fn grown(value: u16, digit: u8) -> u32
-    requires { digit < 10 }
-    ensures { result ≡ 10 * value + digit }
-{
-    10 * value as u32 + digit as u32
+// A word of decimal numbers joined by commas, as far as it is read.
+// Stays: `at` is the place of the number at hand, and a `Vec` would take the numbers from the heap, from which this project takes nothing.
+#[derive(Clone, Copy)]
+pub struct Reading {
+    pub values: [u16; 8],
+    pub at: usize,
+    // Whether the number at hand has a digit.
+    pub digit: bool,
 }
 
-// A digit behind those of the number at hand.
-fn with_digit(c: Reading, digit: u8) -> Reading
-    requires at_bound { c.at < 8 }
-    requires digit_bound { digit < 10 }
-    ensures value { result ≡ with_digit c digit }
-    ensures at_bound_2 { result.at < 8 }
-{
-    let mut next = c;
-    let n = grown(c.values[c.at], digit);
-    if n < 65536 {
-        next.values[c.at] = n as u16;
-        next.digit = true;
-        return next;
+impl Reading {
+    // A digit behind those of the number at hand, unless 16 bits do not hold the number.
+    #[tactic(auto, unfolding(crate::specs::Argument::with_digit, crate::specs::Argument::placed))]
+    fn with_digit(mut self, digit: u8) -> Option<Reading>
+        requires at_bound { self.at < 8 }
+        requires digit_bound { digit < 10 }
+        ensures value { result ≡ with_digit self digit }
+        ensures kept { IfSome result (λ r. r.at < 8) }
+    {
+        let tens = self.values[self.at].checked_mul(10)?;
+        self.values[self.at] = tens.checked_add(u16::from(digit))?;
+        self.digit = true;
+        Some(self)
     }
-    next.good = false;
-    next
-}
 
-// One byte: a digit goes behind those of the number at hand, a comma begins the next, anything else is out of place.
-fn read(c: Reading, byte: u8) -> Reading
-    requires { c.at < 8 }
-    ensures value { result ≡ read c byte }
-    ensures at_bound { result.at < 8 }
-{
-    if is_digit(byte) {
-        return with_digit(c, byte - b'0');
+    // One byte: a digit goes behind those of the number at hand, a comma begins the next, anything else is out of place.
+    #[tactic(auto, using(numerals::proofs::Scanning::digit_range), unfolding(crate::specs::Argument::read, crate::specs::Argument::with_comma))]
+    fn read(mut self, byte: u8) -> Option<Reading>
+        requires { self.at < 8 }
+        ensures value { result ≡ read self byte }
+        ensures kept { IfSome result (λ r. r.at < 8) }
+    {
+        if is_digit(byte) {
+            return self.with_digit(byte - b'0');
+        }
+        if (byte == b',') & (self.digit & (self.at < 7)) {
+            self.at += 1;
+            self.digit = false;
+            return Some(self);
+        }
+        None
     }
-    let mut next = c;
-    if (byte == b',') & (c.digit & (c.at < 7)) {
-        next.at = c.at + 1;
-        next.digit = false;
-        return next;
-    }
-    next.good = false;
-    next
 }
 
 // The numbers of a word.
-fn read_word(word: &[u8]) -> Reading
+fn read_word(word: &[u8]) -> Option<Reading>
     ensures value { result ≡ read_word word.now }
-    ensures at_bound { result.at < 8 }
+    ensures kept { IfSome result (λ r. r.at < 8) }
 {
-    let mut c = Reading {
+    let mut reading = Reading {
         values: [0; 8],
         at: 0,
         digit: false,
-        good: true,
     };
     for byte in word {
-        c = read(c, *byte);
+        reading = reading.read(*byte)?;
     }
-    c
+    Some(reading)
 }
 
 // The description that a word is.
-pub fn description(word: &[u8]) -> Description
+#[tactic(auto, using(crate::proofs::Told::word_long, crate::proofs::Told::word_unread, crate::proofs::Told::word_whole, crate::proofs::Told::word_none))]
+pub fn description(word: &[u8]) -> Option<Description>
     ensures value { result ≡ description_of word.now }
-    ensures count_bound { result.count ≤ 8 }
+    ensures count_bound { IfSome result (λ d. d.count ≤ 8) }
 {
-    let c = read_word(word);
-    let whole = (word.len() < 64) & ((c.good & c.digit) & described(c.at + 1));
-    let values = c.values;
-    let count = if whole { c.at + 1 } else { 0 };
-    Description { values, count }
+    if 64 <= word.len() {
+        return None;
+    }
+    let reading = read_word(word)?;
+    let count = reading.at + 1;
+    if !(reading.digit & described(count)) {
+        return None;
+    }
+    let values = reading.values;
+    Some(Description { values, count })
 }

@@ -1,13 +1,14 @@
 // A multiplex frame of a job: bytes in, bytes out.
+// Stays, in this module: buffers stand one by one, since a clause would name one in a struct `run.now.bytes.now` and not `bytes.now`.
 ghost use Rattle.std.specs.Prelude.{◌≡◌, ◌≤◌, IfOk, length as ListN·length};
 ghost use Rattle.refusal.specs.Numbers.{answer};
 ghost use Rattle.turns.specs.Yield.{made_yield};
 ghost use Rattle.multiplex.specs.Clauses.{Fitting};
-ghost use Rattle.muxjobs.specs.Frames.{stopped, taking, planned, plan_of, made_by, frame_of};
+ghost use Rattle.muxjobs.specs.Frames.{taking, planned, plan_of, plan_yield, made_by, frame_of};
 ghost use Rattle.muxjobs.specs.Clauses.{Room};
 
-use crate::{Begun, Plan};
-use console::MuxJob;
+use crate::Plan;
+use console::{MuxJob, NotStarted};
 use multiplex::Layout;
 use multiplex::calls::{build, read};
 use multiplex::description::{described, fits, layout};
@@ -17,66 +18,55 @@ use settings::answers::bytes_for;
 use settings::refusals::check;
 use turns::Failure;
 
-// No frame is taken.
-fn stopped(begun: Begun) -> Plan
-    ensures { result ≡ stopped begun }
-{
-    Plan {
-        begun,
-        input: 0,
-        output: 0,
-    }
-}
-
 // A run that takes streams of so many bytes: none where they have no byte, since it would never end.
-fn taking(streams: usize, frame: usize) -> Plan
+#[tactic(auto, unfolding(crate::specs::Frames::taking, crate::specs::Frames::stopped))]
+fn taking(streams: usize, frame: usize) -> Result<Plan, NotStarted>
     requires streams_bound { streams ≤ 4589 }
     requires frame_bound { frame ≤ 4589 }
-    ensures value { result ≡ taking streams frame }
-    ensures room { Room result }
+    ensures value { plan_yield result ≡ taking streams frame }
+    ensures room { IfOk result Room }
 {
     if streams == 0 {
-        return stopped(Begun::Usage);
+        return Err(NotStarted::Usage);
     }
-    Plan {
-        begun: Begun::Frames,
+    Ok(Plan {
         input: streams,
         output: frame,
-    }
+    })
 }
 
 // A run with a description that fits.
-fn planned(job: MuxJob, l: Layout) -> Plan
+#[tactic(auto, using(crate::proofs::Told::frame_room, crate::proofs::Told::streams_room), unfolding(crate::specs::Frames::planned, multiplex::specs::Description::stream_bytes))]
+fn planned(job: MuxJob, l: Layout) -> Result<Plan, NotStarted>
     requires { Fitting l }
-    ensures value { result ≡ planned job l }
-    ensures room { Room result }
+    ensures value { plan_yield result ≡ planned job l }
+    ensures room { IfOk result Room }
 {
     let streams = l.head + (l.a + l.b);
     let frame = bytes_for(l.vspp + l.rest);
+    // Stays: the job comes from the command line as a value, so what it does is found by a `match`.
     match job {
         MuxJob::Mux => taking(streams, frame),
-        MuxJob::Demux => Plan {
-            begun: Begun::Frames,
+        MuxJob::Demux => Ok(Plan {
             input: frame,
             output: streams,
-        },
+        }),
     }
 }
 
 // How a run begins with settings and a description.
-pub fn plan(job: MuxJob, s: Settings, description: &[u16]) -> Plan
-    ensures value { result ≡ plan_of job s description.now }
-    ensures room { Room result }
+#[tactic(auto, using(multiplex::proofs::Layouts::fitting, refusal::proofs::Positive::number_positive), unfolding(crate::specs::Frames::plan_of, crate::specs::Frames::stopped))]
+pub fn plan(job: MuxJob, s: Settings, description: &[u16]) -> Result<Plan, NotStarted>
+    ensures value { plan_yield result ≡ plan_of job s description.now }
+    ensures room { IfOk result Room }
 {
     if !described(description.len()) {
-        return stopped(Begun::Usage);
+        return Err(NotStarted::Usage);
     }
-    if let Err(refusal) = check(s) {
-        return stopped(Begun::Refused(refusal.number()));
-    }
+    check(s)?;
     let l = layout(s, description);
     if !fits(l, s.x) {
-        return stopped(Begun::Refused(Refusal::StreamParts.number()));
+        return Err(NotStarted::Refused(Refusal::StreamParts));
     }
     planned(job, l)
 }
@@ -103,6 +93,7 @@ pub fn frame(
     ensures length_bound { IfOk result (λ n. n ≤ ListN·length out.old) }
 {
     let n = out.len();
+    // Stays: the job comes from the command line as a value, so what it does is found by a `match`.
     match job {
         MuxJob::Mux => made_by(build(s, description, bytes, out), n),
         MuxJob::Demux => made_by(read(s, description, bytes, out), n),

@@ -14,10 +14,7 @@ fn value_or(kept: u8, received: &[u8], at: usize) -> u8
     if kept != 1 {
         return 2;
     }
-    if at < received.len() {
-        return received[at];
-    }
-    2
+    received.get(at).copied().unwrap_or(2)
 }
 
 // The four values of a column, written to out from `to` on; the place behind those received.

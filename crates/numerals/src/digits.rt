@@ -1,10 +1,10 @@
 // Bytes as hexadecimal digits, 0 to 9 and A to F, and back.
-ghost use Rattle.std.specs.Prelude.{◌≡◌, true, ◌*◌, ◌≤◌, length};
-ghost use Rattle.std.proofs.lemmas.List.Edits.{sets};
+ghost use Rattle.std.specs.Prelude.{◌≡◌, true, ◌+◌, ◌*◌, ◌≤◌, ◌++◌, length};
 ghost use Rattle.numerals.specs.Digits.{hex_digit, hex_digits, are_hex, bytes_in};
 
 use line::read::{are_digits, byte_at};
 use line::write::glyph;
+use words::text::Text;
 
 // A digit of a byte: the high one is digit 0.
 #[tactic(auto, unfolding(crate::specs::Digits::hex_digit))]
@@ -14,13 +14,14 @@ fn digit(byte: u8, half: usize) -> u8
     glyph(if half == 0 { byte / 16 } else { byte % 16 })
 }
 
-// The digits of bytes from the start of a buffer on.
-pub fn put_hex(bytes: &[u8], out: &mut [u8])
-    requires { 2 * length bytes.now ≤ length out.old }
-    ensures { out.new ≡ sets out.old 0 (hex_digits bytes.now) }
+// The digits of bytes, behind a text.
+pub fn put_hex(text: &mut Text, bytes: &[u8])
+    requires { length text.old + 2 * length bytes.now ≤ 1024 }
+    ensures put { text.new ≡ text.old ++ hex_digits bytes.now }
+    ensures room { length text.new ≡ length text.old + 2 * length bytes.now }
 {
-    for k in 0..2 * bytes.len() {
-        out[k] = digit(bytes[k / 2], k % 2);
+    for byte in bytes {
+        text.put(&[digit(*byte, 0), digit(*byte, 1)]);
     }
 }
 
@@ -34,11 +35,13 @@ pub fn are_hex(line: &[u8], count: usize) -> bool
 }
 
 // The bytes of their digits.
-pub fn read_hex(line: &[u8], bytes: &mut [u8])
-    requires { are_hex (length bytes.old) line.now ≡ true }
-    ensures { bytes.new ≡ bytes_in (length bytes.old) line.now }
+pub fn read_hex<const N: usize>(line: &[u8]) -> [u8; N]
+    requires { are_hex N line.now ≡ true }
+    ensures { result ≡ bytes_in N line.now }
 {
+    let mut bytes = [0; N];
     for (k, byte) in bytes.iter_mut().enumerate() {
         *byte = byte_at(line, k);
     }
+    bytes
 }

@@ -1,11 +1,9 @@
 // Fourteen decimal numbers in a line, separated by single spaces.
-ghost use Rattle.std.specs.Prelude.{◌≡◌, ◌++◌, ◌+◌, ◌*◌, ◌<◌, ◌≤◌, IfSome, length, drop};
-ghost use Rattle.line.specs.Written.{decimal, space};
-ghost use Rattle.words.specs.Clauses.{Put};
-ghost use Rattle.numerals.specs.Numbers.{is_digit, numbers_rest, numbers_line};
+ghost use Rattle.std.specs.Prelude.{◌≡◌, ◌+◌, ◌*◌, ◌<◌, IfSome};
+ghost use Rattle.numerals.specs.Numbers.{is_digit, numbers_line};
 ghost use Rattle.numerals.specs.Clauses.{held, stepped, Kept, Scanned};
 
-use words::report::{put, put_decimal};
+use words::text::Text;
 
 // Whether a byte is a decimal digit.
 #[tactic(auto, unfolding(crate::specs::Numbers::is_digit))]
@@ -25,6 +23,7 @@ pub fn grown(value: u32, digit: u8) -> u32
 }
 
 // The decimal numbers of a line, as far as it is read.
+// Stays: `at` is the place of the number at hand, and counts no values: a line that is read to its end gives all fourteen.
 #[derive(Clone, Copy)]
 pub struct Scan {
     pub values: [u32; 14],
@@ -72,40 +71,16 @@ pub fn numbers(line: &[u8]) -> Option<[u32; 14]>
     None
 }
 
-// A space and a number.
-fn put_next(n: u32, out: &mut [u8], at: usize) -> usize
-    requires { at + 21 ≤ length out.old }
-    ensures { Put 21 (space ++ decimal n) out.old at result out.new }
+// The line of fourteen numbers.
+pub fn numbers_line(numbers: &[u32; 14]) -> Text
+    ensures { result ≡ numbers_line numbers.now }
 {
-    let a = put(b" ", out, at);
-    put_decimal(n as u64, out, a)
-}
-
-// The thirteen numbers after the first, and where their line ends.
-fn put_rest(numbers: &[u32], out: &mut [u8], start: usize) -> usize
-    requires { (length numbers.now ≡ 14) × (start + 300 ≤ length out.old) }
-    ensures { Put 300 (numbers_rest (drop 1 numbers.now)) out.old start result out.new }
-{
-    let mut at = start;
-    for k in 1..14 {
-        at = put_next(numbers[k], out, at);
+    let mut text = Text::new();
+    text.put_decimal(u64::from(numbers[0]));
+    for n in &numbers[1..] {
+        text.put(b" ");
+        text.put_decimal(u64::from(*n));
     }
-    put(b"\n", out, at)
-}
-
-// A number of 32 bits in decimal.
-fn put_first(n: u32, out: &mut [u8]) -> usize
-    requires { 20 ≤ length out.old }
-    ensures { Put 20 (decimal n) out.old 0 result out.new }
-{
-    put_decimal(n as u64, out, 0)
-}
-
-// Fourteen numbers, and where their line ends.
-pub fn put_numbers(numbers: &[u32], out: &mut [u8]) -> usize
-    requires { (length numbers.now ≡ 14) × (400 ≤ length out.old) }
-    ensures { Put 400 (numbers_line numbers.now) out.old 0 result out.new }
-{
-    let at = put_first(numbers[0], out);
-    put_rest(numbers, out, at)
+    text.put(b"\n");
+    text
 }

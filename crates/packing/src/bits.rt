@@ -1,5 +1,5 @@
 // Packed bytes to bits, one bit a byte, and back. 01 "Buffers and state".
-ghost use Rattle.std.specs.Prelude.{◌≡◌, ◌+◌, ◌*◌, ◌^◌, ◌≤◌, ◌<◌, length, get_or};
+ghost use Rattle.std.specs.Prelude.{◌≡◌, ◌+◌, ◌^◌, ◌≤◌, ◌<◌, length, get_or};
 ghost use Rattle.component.specs.Bits.{Bits};
 ghost use Rattle.lists.specs.Lists.{table};
 ghost use Rattle.block.specs.Packing.{bit_at, unpacked, digits, packed, spare_zero};
@@ -17,6 +17,7 @@ fn half_bits() -> [u8; 64]
 }
 
 // The bits of a half byte, from place `at` on. All four are read before one is stored, so that a processor moves them at once.
+// Stays: out is lent, and a slice of four in place of it would say the place twice, as its start and its end.
 fn put_half(bits: &[u8; 64], half: usize, out: &mut [u8], at: usize)
     requires { (half < 16) × (at + 4 ≤ length out.old) }
     ensures { out.new ≡ half_put bits.now half out.old at }
@@ -86,6 +87,7 @@ fn bit_or_zero(bits: &[u8], i: usize) -> u8
 }
 
 // The byte whose bits, highest first, are those from place `at` on; past the end they are zero.
+// Stays: bits are bytes that `pack` is lent, whose type must stay; a slice of another type would be a copy.
 fn last_byte(bits: &[u8], at: usize) -> u8
     requires { Bits bits.now × (at < 2 ^ 32) }
     ensures { result ≡ digits bits.now at 8 }
@@ -97,32 +99,20 @@ fn last_byte(bits: &[u8], at: usize) -> u8
     byte as u8
 }
 
-// The byte of eight bits, highest first.
-fn byte_of(a: u8, b: u8, c: u8, d: u8, e: u8, f: u8, g: u8, h: u8) -> u8
-    requires { (a < 2) × (b < 2) × (c < 2) × (d < 2) × (e < 2) × (f < 2) × (g < 2) × (h < 2) }
-    ensures { result ≡ ((((((a * 2 + b) * 2 + c) * 2 + d) * 2 + e) * 2 + f) * 2 + g) * 2 + h }
-{
-    ((((((a * 2 + b) * 2 + c) * 2 + d) * 2 + e) * 2 + f) * 2 + g) * 2 + h
-}
-
-// The same of the bits from place `at` on, which are all there.
+// The same of bits that are all there.
+// Stays: bits are bytes that `pack` is lent, whose type must stay; a slice of another type would be a copy.
+#[tactic(auto, using(crate::proofs::Bytes::eight_digits))]
 fn whole_byte(bits: &[u8], at: usize) -> u8
     requires { Bits bits.now × (at + 8 ≤ length bits.now) }
     ensures { result ≡ digits bits.now at 8 }
 {
-    byte_of(
-        bits[at],
-        bits[at + 1],
-        bits[at + 2],
-        bits[at + 3],
-        bits[at + 4],
-        bits[at + 5],
-        bits[at + 6],
-        bits[at + 7],
-    )
+    let high = 8 * bits[at] + 4 * bits[at + 1] + 2 * bits[at + 2] + bits[at + 3];
+    let low = 8 * bits[at + 4] + 4 * bits[at + 5] + 2 * bits[at + 6] + bits[at + 7];
+    16 * high + low
 }
 
 // The byte whose bits are those from place `at` on.
+// Stays: bits are bytes that `pack` is lent, whose type must stay; a slice of another type would be a copy.
 fn byte_from(bits: &[u8], at: usize) -> u8
     requires { Bits bits.now × (at < 2 ^ 32) }
     ensures { result ≡ digits bits.now at 8 }

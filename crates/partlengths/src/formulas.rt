@@ -50,6 +50,7 @@ pub fn less_tail(coded: usize) -> usize
 }
 
 // The bits of n cells of part A.
+// Stays: part A, part B and the very strong part each have a level and a count of cells of their own, so a struct would serve one call.
 pub fn part_a(msc: u8, level: u8, n: usize) -> usize
     requires { Whole msc level n }
     ensures { result ≡ part_a msc level n }
@@ -58,6 +59,7 @@ pub fn part_a(msc: u8, level: u8, n: usize) -> usize
 }
 
 // The bits of n cells of part B.
+// Stays: part B has a level and cells of its own, and a struct of the three would be made for this call alone.
 pub fn part_b(msc: u8, level: u8, n: usize) -> usize
     requires { n ≤ 65535 }
     ensures { result ≡ part_b msc level n }
@@ -66,6 +68,7 @@ pub fn part_b(msc: u8, level: u8, n: usize) -> usize
 }
 
 // The bits of the very strongly protected part of a frame of n cells.
+// Stays: the very strong part has a level of its own, and a struct of the three would be made for this call alone.
 pub fn part_vspp(msc: u8, level: u8, n: usize) -> usize
     requires { n ≤ 65535 }
     ensures { result ≡ part_vspp msc level n }

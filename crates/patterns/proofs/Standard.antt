@@ -9,8 +9,8 @@ use borrow.Author.Tests.{eqb-true, eqb-false}
 use lib.ListN.{length, get_or}
 use Rattle.lists.specs.Lists.{table}
 use Rattle.lists.proofs.Rules.{each, at, less}
-use Rattle.lists.proofs.Tables.{Filled, filled_end, table_is}
-use Rattle.patterns.specs.Patterns.{RX, numerators, printed65, rows, table65, begins, entry}
+use Rattle.lists.proofs.Tables.{Filled, filled_end, get_or-table, table_is}
+use Rattle.patterns.specs.Patterns.{RX, RY, numerators, printed65, rows, table65, begins, entry}
 use Rattle.patterns.specs.declared.table.Place.{Place}
 use Rattle.patterns.specs.Clauses.{IsPlace, number_at}
 
@@ -36,6 +36,14 @@ unfolding digits_right
 digit rate j i h hj hi =
     let f : ℕ → ℕ → ℕ → Bool = λ rate j i. eqb (get_or (get_or words rate []) j 0 / 2 ^ (RX rate - 1 - i) % 2) (entry table65 rate j i) in
     eqb→eq _ _ (at (f rate j) (RX rate) (at (λ j. each (f rate j) (RX rate)) 4 (at (λ rate. each (λ j. each (f rate j) (RX rate)) 4) 13 digits-right rate h) j hj) i hi)
+
+-- the code's table of rates, and what it has of a rate
+unfoldable pub rates : List (ℕ × ℕ × ℕ × List ℕ)
+rates = table (λ k. (RX k, RY k, begins k, get_or words k [])) 0 13
+
+pub rate_is : (rate : ℕ) (z : ℕ × ℕ × ℕ × List ℕ) → rate < 13 → get_or rates rate z ≡ (RX rate, RY rate, begins rate, get_or words rate [])
+unfolding rates
+rate_is rate z h = get_or-table z (λ k. (RX k, RY k, begins k, get_or words k [])) 13 rate h
 
 -- the place after a place: in the same row, in the next one, in the next rate
 pub next-column : (p : Place) → IsPlace p → p.column + 1 < RX p.rate

@@ -7,6 +7,7 @@ ghost use Rattle.patterns.specs.Clauses.{pattern_of, Held};
 pub mod table;
 
 // A puncturing pattern: the kept bits of its columns, filled up with zeros, and how many columns it has.
+// Stays: no heap, so a pattern has room for eight columns; `columns` lends those that it has.
 #[derive(Clone, Copy)]
 pub struct Pattern {
     pub columns: [u8; 8],

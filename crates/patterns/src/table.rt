@@ -1,5 +1,5 @@
 // The table of thirteen patterns, the standard's or one that was loaded, and the tail's twelve. 001 tables 65 and 66; 02 S-11.
-ghost use Rattle.std.specs.Prelude.{◌≡◌, ◌+◌, ◌*◌, ◌≤◌, ◌<◌, get_or};
+ghost use Rattle.std.specs.Prelude.{◌≡◌, ◌+◌, ◌*◌, ◌≤◌, ◌<◌};
 ghost use Rattle.lists.specs.Buffers.{Long};
 ghost use Rattle.patterns.specs.Patterns.{RX, RY, table65, begins, entry, pattern, tail_pattern};
 ghost use Rattle.patterns.specs.Loaded.{table_size, Allowed};
@@ -10,36 +10,30 @@ use crate::Pattern;
 // The numbers of a table.
 pub const TABLE_SIZE: usize = 196;
 
-// Table 65: of each rate, smallest first, which bits its rows B0 to B3 keep, first column highest.
-const ROWS: [[u8; 4]; 13] = [
-    [0b1, 0b1, 0b1, 0b1],
-    [0b111, 0b111, 0b111, 0b100],
-    [0b1, 0b1, 0b1, 0b0],
-    [0b1111, 0b1111, 0b1110, 0b0000],
-    [0b1, 0b1, 0b0, 0b0],
-    [0b1111, 0b1010, 0b0100, 0b0000],
-    [0b111, 0b101, 0b000, 0b000],
-    [0b11, 0b10, 0b00, 0b00],
-    [0b11111111, 0b10010010, 0b00000000, 0b00000000],
-    [0b111, 0b100, 0b000, 0b000],
-    [0b1111, 0b1000, 0b0000, 0b0000],
-    [0b1111111, 0b1000000, 0b0000000, 0b0000000],
-    [0b11111111, 0b10000000, 0b00000000, 0b00000000],
+// Stays: a tuple for each rate, since a struct would take a line for each of its fields.
+// Table 65, smallest rate first: numerator, denominator, where the numbers of a rate begin, and which bits its rows B0 to B3 keep, first column highest.
+const RATES: [(usize, usize, usize, [u8; 4]); 13] = [
+    (1, 4, 0, [0b1, 0b1, 0b1, 0b1]),
+    (3, 10, 4, [0b111, 0b111, 0b111, 0b100]),
+    (1, 3, 16, [0b1, 0b1, 0b1, 0b0]),
+    (4, 11, 20, [0b1111, 0b1111, 0b1110, 0b0000]),
+    (1, 2, 36, [0b1, 0b1, 0b0, 0b0]),
+    (4, 7, 40, [0b1111, 0b1010, 0b0100, 0b0000]),
+    (3, 5, 56, [0b111, 0b101, 0b000, 0b000]),
+    (2, 3, 68, [0b11, 0b10, 0b00, 0b00]),
+    (8, 11, 76, [0b11111111, 0b10010010, 0b00000000, 0b00000000]),
+    (3, 4, 108, [0b111, 0b100, 0b000, 0b000]),
+    (4, 5, 120, [0b1111, 0b1000, 0b0000, 0b0000]),
+    (7, 8, 136, [0b1111111, 0b1000000, 0b0000000, 0b0000000]),
+    (8, 9, 164, [0b11111111, 0b10000000, 0b00000000, 0b00000000]),
 ];
-
-// Stays: four tables side by side, since a struct for each rate takes a line for each of its fields, and a rate's row is one line here.
-const NUMERATORS: [usize; 13] = [1, 3, 1, 4, 1, 4, 3, 2, 8, 3, 4, 7, 8];
-
-const DENOMINATORS: [usize; 13] = [4, 10, 3, 11, 2, 7, 5, 3, 11, 4, 5, 8, 9];
-
-const BEGINS: [usize; 13] = [0, 4, 16, 20, 36, 40, 56, 68, 76, 108, 120, 136, 164];
 
 // RX: the columns of a rate's pattern.
 #[tactic(auto, using(crate::proofs::Loaded::width_high), unfolding(crate::specs::Patterns::RX, crate::specs::Patterns::numerators))]
 pub fn numerator(rate: usize) -> usize
     ensures { (result ≡ RX rate) × (result ≤ 8) }
 {
-    NUMERATORS.get(rate).copied().unwrap_or(1)
+    RATES.get(rate).map_or(1, |r| r.0)
 }
 
 // RY: the bits that a rate's pattern keeps.
@@ -47,7 +41,7 @@ pub fn numerator(rate: usize) -> usize
 pub fn denominator(rate: usize) -> usize
     ensures { result ≡ RY rate }
 {
-    DENOMINATORS.get(rate).copied().unwrap_or(1)
+    RATES.get(rate).map_or(1, |r| r.1)
 }
 
 // Where the numbers of a rate begin.
@@ -55,7 +49,7 @@ pub fn begins(rate: usize) -> usize
     requires { rate < 13 }
     ensures { (result ≡ begins rate) × (result + 4 * RX rate ≤ table_size) }
 {
-    BEGINS[rate]
+    RATES[rate].2
 }
 
 // A place of a table: rate, row and column.
@@ -71,7 +65,7 @@ fn standard_number(rate: usize, row: usize, column: usize) -> u8
     requires { (rate < 13) × ((row < 4) × (column < RX rate)) }
     ensures { result ≡ entry table65 rate row column }
 {
-    let rows = ROWS[rate];
+    let rows = RATES[rate].3;
     let width = numerator(rate);
     (rows[row] >> (width - 1 - column)) % 2
 }
@@ -84,16 +78,15 @@ fn next_place(p: Place) -> Place
     let width = numerator(p.rate);
     if p.column + 1 < width {
         return Place {
-            rate: p.rate,
-            row: p.row,
             column: p.column + 1,
+            ..p
         };
     }
     if p.row < 3 {
         return Place {
-            rate: p.rate,
             row: p.row + 1,
             column: 0,
+            ..p
         };
     }
     Place {
@@ -127,23 +120,14 @@ pub fn standard_table() -> [u8; TABLE_SIZE]
     kept
 }
 
-// A number of a table that passes.
-#[tactic(auto, using(crate::proofs::Loaded::low))]
-fn bit(kept: &[u8; TABLE_SIZE], k: usize) -> u8
-    requires { Allowed kept.now × (k < table_size) }
-    ensures { (result ≡ get_or kept.now k 0) × (result < 2) }
-{
-    kept[k]
-}
-
 // A column from its numbers, which stand `width` apart.
-#[tactic(auto, unfolding(crate::specs::Clauses::column_from))]
+#[tactic(auto, using(crate::proofs::Loaded::low), unfolding(crate::specs::Clauses::column_from))]
 fn column(kept: &[u8; TABLE_SIZE], at: usize, width: usize) -> u8
     requires { Allowed kept.now × (at + 3 * width < table_size) }
     ensures { result ≡ column_from kept.now at width }
 {
-    let low = bit(kept, at) + 2 * bit(kept, at + width);
-    let high = bit(kept, at + 2 * width) + 2 * bit(kept, at + 3 * width);
+    let low = kept[at] + 2 * kept[at + width];
+    let high = kept[at + 2 * width] + 2 * kept[at + 3 * width];
     low + 4 * high
 }
 

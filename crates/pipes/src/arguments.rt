@@ -7,10 +7,7 @@ use std::env::{Env, FillError};
 pub fn argument(rt: HostRuntime, i: usize, bytes: &mut [u8]) -> usize
     ensures { result ≤ length bytes.new }
 {
-    match rt.arg(i, bytes) {
-        Ok(n) => n,
-        Err(_) => 0,
-    }
+    rt.arg(i, bytes).unwrap_or(0)
 }
 
 // Whether there is an argument i.

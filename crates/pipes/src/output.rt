@@ -2,6 +2,7 @@
 
 use endings::{Lost, lines};
 use turns::End;
+use words::text::Text;
 use words::{Counted, report};
 
 // The descriptors of what goes out.
@@ -13,29 +14,29 @@ pub fn say_usage() {
     io::write_all(STDERR_FILENO, report::usage());
 }
 
-pub fn say_settings(number: u8) {
-    let text = report::settings_refused(number);
+fn say(text: &Text) {
     io::write_all(STDERR_FILENO, text.bytes());
 }
 
+// Stays: a job's `Failure` has its refusal as a number (the line in `turns` says why), and so has what is said here.
+pub fn say_settings(number: u8) {
+    say(&report::settings_refused(number));
+}
+
 pub fn say_run(unit: Counted, end: End, count: u64) {
-    let text = report::report(unit, end, count);
-    io::write_all(STDERR_FILENO, text.bytes());
+    say(&report::report(unit, end, count));
 }
 
 // Says what is wrong with a line, and answers whether anything is.
 pub fn say_line(end: End, index: u64) -> bool {
-    let text = report::line_said(end, index);
-    io::write_all(STDERR_FILENO, text.bytes());
+    say(&report::line_said(end, index));
     report::failed(end)
 }
 
 pub fn say_lost(lost: Lost) {
-    let text = lines::lost_said(lost);
-    io::write_all(STDERR_FILENO, text.bytes());
+    say(&lines::lost_said(lost));
 }
 
 pub fn say_file(end: End) {
-    let text = lines::file_said(end);
-    io::write_all(STDERR_FILENO, text.bytes());
+    say(&lines::file_said(end));
 }

@@ -1,6 +1,6 @@
 -- What inner functions require and promise: nothing of 001 or 02 is stated here.
-use Rattle.std.specs.Prelude.{ℕ, ◌*◌, ◌≤◌, ◌<◌, ◌≡◌, List, length, ℤ}
-use Rattle.placing.specs.Cells.{Cells, count, before}
+use Rattle.std.specs.Prelude.{ℕ, ◌*◌, ◌≤◌, ◌≡◌, List, length, ℤ}
+use Rattle.placing.specs.Cells.{Cells, count}
 
 -- Cells from the three buffers.
 abbrev pub cells_from : List ℤ → List ℤ → List ℤ → Cells
@@ -21,7 +21,3 @@ pub record AllFit (kinds : List ℕ) (grid : List ℤ) (cells : Cells) : Type 0 
   pub fac_fits : TakeFits 4 kinds grid cells.fac
   pub sdc_fits : TakeFits 5 kinds grid cells.sdc
   pub msc_fits : TakeFits 6 kinds grid cells.msc
-
--- A place of a kind is still to come.
-pub record Ahead (kind : ℕ) (kinds : List ℕ) (p : ℕ) : Type 0 where
-  pub some : before kind kinds p < count kind kinds

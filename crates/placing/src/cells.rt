@@ -1,9 +1,11 @@
 // Cells placed on a grid, and taken off it.
+// Stays, in this module: buffers stand one by one; with a struct of `&mut` a clause must also say that each reference is still the same one.
 ghost use Rattle.std.specs.Prelude.{◌≡◌, get_or, pos};
+ghost use Rattle.kinds.specs.Kinds.{number};
 ghost use Rattle.placing.specs.Cells.{of_kind, placed, taken_of, taken};
 ghost use Rattle.placing.specs.Clauses.{cells_from, GridFits, TakeFits, AllFit};
 
-use kinds::rows::{FAC, MSC, SDC};
+use kinds::Kind;
 
 // A number of a buffer, 0 past its end.
 fn number_at(cells: &[i16], n: usize) -> i16
@@ -17,10 +19,10 @@ fn number_at(cells: &[i16], n: usize) -> i16
 fn number_of(kind: u8, n: usize, fac: &[i16], sdc: &[i16], msc: &[i16]) -> i16
     ensures { result ≡ get_or (of_kind kind (cells_from fac.now sdc.now msc.now)) n (pos 0) }
 {
-    match kind {
-        FAC => number_at(fac, n),
-        SDC => number_at(sdc, n),
-        MSC => number_at(msc, n),
+    match Kind::try_from(kind) {
+        Ok(Kind::Fac) => number_at(fac, n),
+        Ok(Kind::Sdc) => number_at(sdc, n),
+        Ok(Kind::Msc) => number_at(msc, n),
         _ => 0,
     }
 }
@@ -41,13 +43,14 @@ pub fn place_cells(kinds: &[u8], fac: &[i16], sdc: &[i16], msc: &[i16], grid: &m
 }
 
 // The cells of the places of a kind.
-fn take_cells(kinds: &[u8], kind: u8, grid: &[i16], out: &mut [i16])
-    requires { TakeFits kind kinds.now grid.now out.old }
-    ensures { out.new ≡ taken_of kind kinds.now grid.now }
+fn take_cells(kinds: &[u8], kind: Kind, grid: &[i16], out: &mut [i16])
+    requires { TakeFits (number kind) kinds.now grid.now out.old }
+    ensures { out.new ≡ taken_of (number kind) kinds.now grid.now }
 {
+    let mark = kind.number();
     let mut n = 0;
     for (p, &there) in kinds.iter().enumerate() {
-        if there == kind {
+        if there == mark {
             out[n] = grid[3 * p + 1];
             out[n + 1] = grid[3 * p + 2];
             n += 2;
@@ -60,7 +63,7 @@ pub fn take_all(kinds: &[u8], grid: &[i16], fac: &mut [i16], sdc: &mut [i16], ms
     requires { AllFit kinds.now grid.now (cells_from fac.old sdc.old msc.old) }
     ensures { cells_from fac.new sdc.new msc.new ≡ taken kinds.now grid.now }
 {
-    take_cells(kinds, FAC, grid, fac);
-    take_cells(kinds, SDC, grid, sdc);
-    take_cells(kinds, MSC, grid, msc);
+    take_cells(kinds, Kind::Fac, grid, fac);
+    take_cells(kinds, Kind::Sdc, grid, sdc);
+    take_cells(kinds, Kind::Msc, grid, msc);
 }

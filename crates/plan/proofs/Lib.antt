@@ -3,4 +3,3 @@ pub mod Loops
 pub mod Minutes
 pub mod Chain
 pub mod WeekPlans
-pub mod Stored

@@ -8,6 +8,8 @@ use Rattle.plan.specs.declared.Rule.{Rule}
 use Rattle.refusal.specs.declared.Refusal.{Refusal}
 use Rattle.refusal.specs.Numbers.{number}
 use Rattle.plan.specs.declared.Answer.{Answer}
+use Rattle.plan.specs.declared.Mark.{Mark}
+use Rattle.plan.specs.declared.Mark.TheVariants.{Other, Closing, First}
 use Rattle.plan.specs.Rules.{most_rules, week_minutes, week_frames, rules_with, place_of, minute_of, mark_of}
 
 -- The first of some numbers that is not 0.
@@ -58,7 +60,13 @@ answer_of plan t = cond (eqb (plan_refusal plan t) 0) (accepted plan t) (refused
 unfoldable pub plan_into : Answered → List ℕ → Numbers
 plan_into a bytes = cond (eqb a.refusal 0) (yielded 0 (a.place ∷ a.mark ∷ [])) (yielded a.refusal bytes)
 
+-- The numbers of the marks.
+abbrev pub mark_number : Mark → ℕ
+mark_number Other = 0
+mark_number Closing = 1
+mark_number First = 2
+
 -- What the function answers, in the same numbers.
 abbrev pub answered : Result Answer Refusal → Answered
-answered (Ok a) = record { refusal = 0; place = a.place; mark = a.mark }
+answered (Ok a) = record { refusal = 0; place = a.place; mark = mark_number a.mark }
 answered (Err r) = refused (number r)

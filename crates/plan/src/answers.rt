@@ -25,13 +25,13 @@ pub fn answer(rules: &[u8], t: u32) -> Result<Answer, Refusal>
 }
 
 // An answer into the caller's two bytes, which a refusal leaves as they were.
+// Stays: `put_grid_sizes` writes other fields; one function for both would be handed them as an array, and save `copy_from_slice` alone.
 #[tactic(auto, using(refusal::proofs::Positive::number_positive), unfolding(crate::specs::Answers::plan_into, crate::specs::Answers::refused))]
 pub fn put_answer(found: Result<Answer, Refusal>, bytes: &mut [u8]) -> Result<(), Refusal>
     requires { length bytes.old ≡ 2 }
     ensures { yielded (answer result) bytes.new ≡ plan_into (answered found) bytes.old }
 {
     let a = found?;
-    bytes[0] = a.place;
-    bytes[1] = a.mark;
+    bytes.copy_from_slice(&[a.place, a.mark.number()]);
     Ok(())
 }

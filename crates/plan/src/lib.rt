@@ -8,7 +8,7 @@ pub mod rules;
 pub mod theorems;
 
 ghost use Rattle.std.specs.Prelude.{◌≡◌};
-ghost use Rattle.plan.specs.Answers.{ordered};
+ghost use Rattle.plan.specs.Answers.{ordered, mark_number};
 ghost use Rattle.plan.specs.Rules.{has};
 
 use crate::rules::WEEK_MINUTES;
@@ -47,9 +47,29 @@ pub struct Found {
     pub place: usize,
 }
 
+// What a super frame is beside unequal settings.
+#[derive(Clone, Copy, Debug, PartialEq, Eq)]
+pub enum Mark {
+    // Neither of the two below.
+    Other = 0,
+    // One of the last two before unequal settings.
+    Closing = 1,
+    // The first with unequal settings.
+    First = 2,
+}
+
+impl Mark {
+    // The number by which a caller in C knows a mark.
+    fn number(self) -> u8
+        ensures { result ≡ mark_number self }
+    {
+        self as u8
+    }
+}
+
 // The answer for a super frame: the rule's place and the mark.
 #[derive(Clone, Copy)]
 pub struct Answer {
     pub place: u8,
-    pub mark: u8,
+    pub mark: Mark,
 }

@@ -1,8 +1,10 @@
 // Settings in force, and where they change.
 ghost use Rattle.std.specs.Prelude.{◌≡◌, ◌<◌};
-ghost use Rattle.plan.specs.Rules.{rules_of, settings_at, same_settings, changes, mark_of};
+ghost use Rattle.plan.specs.Rules.{rules_of, settings_at, changes, mark_of};
+ghost use Rattle.plan.specs.Answers.{mark_number};
 ghost use Rattle.plan.specs.Clauses.{Covered};
 
+use crate::Mark;
 use crate::refusals::WEEK_FRAMES;
 use crate::rules::{find, rule_at};
 use settings::Settings;
@@ -19,39 +21,26 @@ fn settings_at(rules: &[u8], t: u32) -> Settings
     rule_at(rules, place).settings
 }
 
-// Whether all nine numbers are equal.
-fn same_settings(a: Settings, b: Settings) -> bool
-    ensures { result ≡ same_settings a b }
-{
-    (a.mode == b.mode)
-        & ((a.occupancy == b.occupancy)
-            & ((a.msc == b.msc)
-                & ((a.levela == b.levela)
-                    & ((a.levelb == b.levelb)
-                        & ((a.vspp == b.vspp)
-                            & ((a.x == b.x)
-                                & ((a.sdc == b.sdc) & (a.interleaving == b.interleaving))))))))
-}
-
 // Whether two super frames have unequal settings.
+#[tactic(auto, unfolding(crate::specs::Rules::changes, crate::specs::Rules::same_settings))]
 fn changes(rules: &[u8], t: u32, u: u32) -> bool
     requires { Covered rules.now }
     ensures { result ≡ changes (rules_of rules.now) t u }
 {
-    !same_settings(settings_at(rules, t), settings_at(rules, u))
+    settings_at(rules, t) != settings_at(rules, u)
 }
 
-// 1 for the last two super frames before unequal settings, 2 for the first with them, else 0.
-pub fn mark(rules: &[u8], t: u32) -> u8
+// Closing for the last two super frames before unequal settings, First for the first with them, otherwise Other.
+pub fn mark(rules: &[u8], t: u32) -> Mark
     requires covered { Covered rules.now }
     requires t_bound { t < 504000 }
-    ensures { result ≡ mark_of (rules_of rules.now) t }
+    ensures { mark_number result ≡ mark_of (rules_of rules.now) t }
 {
     if changes(rules, t, t + 1) | changes(rules, t, t + 2) {
-        return 1;
+        return Mark::Closing;
     }
     if changes(rules, t, t + (WEEK_FRAMES - 1)) {
-        return 2;
+        return Mark::First;
     }
-    0
+    Mark::Other
 }

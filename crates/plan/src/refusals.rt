@@ -4,9 +4,8 @@ ghost use Rattle.lists.specs.Bools.{every};
 ghost use Rattle.refusal.specs.Numbers.{answer};
 ghost use Rattle.plan.specs.Rules.{rules_of};
 ghost use Rattle.plan.specs.Answers.{settings_refusal, ordered, all_covered, plan_refusal};
-ghost use Rattle.plan.specs.Clauses.{after_covered, afters_covered, first_once, firsts_once};
+ghost use Rattle.plan.specs.Clauses.{afters_covered, firsts_once};
 
-use crate::Rule;
 use crate::rules::{WEEK_MINUTES, count, find, rule_at};
 use refusal::Refusal;
 
@@ -32,34 +31,21 @@ fn all_ordered(rules: &[u8]) -> bool
     (0..count(rules)).all(|k| rule_at(rules, k).is_ordered())
 }
 
-// Whether the minute after a rule is past the week or has a rule.
-#[tactic(auto, unfolding(crate::specs::Clauses::after_covered, crate::specs::Clauses::found_in))]
-fn after_covered(rules: &[u8], rule: Rule) -> bool
-    ensures { result ≡ after_covered (rules_of rules.now) rule }
-{
-    WEEK_MINUTES <= rule.after || 0 < find(rules, rule.after).count
-}
-
 // Whether each `after` below 10,080 has a rule.
 fn afters_covered(rules: &[u8]) -> bool
     ensures { result ≡ afters_covered (rules_of rules.now) }
 {
-    (0..count(rules)).all(|k| after_covered(rules, rule_at(rules, k)))
-}
-
-// Whether a rule's first minute has no other rule.
-#[tactic(auto, unfolding(crate::specs::Clauses::first_once, crate::specs::Clauses::found_in))]
-fn first_once(rules: &[u8], rule: Rule) -> bool
-    ensures { result ≡ first_once (rules_of rules.now) rule }
-{
-    find(rules, rule.first).count < 2
+    (0..count(rules)).all(|k| {
+        let after = rule_at(rules, k).after;
+        WEEK_MINUTES <= after || 0 < find(rules, after).count
+    })
 }
 
 // Whether no `first` has two rules.
 fn firsts_once(rules: &[u8]) -> bool
     ensures { result ≡ firsts_once (rules_of rules.now) }
 {
-    (0..count(rules)).all(|k| first_once(rules, rule_at(rules, k)))
+    (0..count(rules)).all(|k| find(rules, rule_at(rules, k).first).count < 2)
 }
 
 // Whether every minute has a rule: minute 0 and each `after` below 10,080 tell.

@@ -1,34 +1,35 @@
--- Lines printed by what they say. Assumes nothing.
+-- Lines printed by what they say, and plans that are refused. Assumes nothing.
 use Prim.Native.Nat.{ℕ}
-use native.Mathlib.Nat.{zero-add}
-use mathlib.Core.Path.{◌≡◌, sym, ◌∙◌}
+use native.Mathlib.Omega.{arith}
+use mathlib.Core.Path.{◌≡◌, sym}
 use mathlib.Core.Bool.{cond}
-use mathlib.Core.List.{List, [], ◌∷◌}
+use mathlib.Core.List.{List}
 use borrow.Author.Tests.{eq-eqb, ne_eqb}
 use lib.Dec.{eqb}
-use Rattle.line.specs.Written.{decimal}
-use Rattle.words.specs.Clauses.{Put}
-use Rattle.planjobs.specs.declared.Printed.{Printed}
-use Rattle.planjobs.specs.Week.{PrintYield, print_yield, printing, print_refused, closing_text}
+use Rattle.std.specs.Prelude.{Result, Ok, Err}
+use Rattle.std.specs.Result.{IsErrAnd}
+use Rattle.refusal.specs.declared.Refusal.{Refusal}
+use Rattle.refusal.specs.Numbers.{number}
+use Rattle.refusal.proofs.Positive.{number_positive}
+use Rattle.plan.specs.Answers.{Answered, refused}
+use Rattle.planjobs.specs.declared.Stretch.{Stretch}
+use Rattle.planjobs.specs.Week.{PrintYield, print_refused, line_yield, stretch_yield}
 
--- a line of a plan that is refused
-pub printed_refused : (number n : ℕ) (whole : PrintYield) (p : Printed) (out : List ℕ) → number ≡ n → (number ≡ 0 → ⊥) → p ≡ record { refusal = number; length = 0; next = 0 }
-    → print_yield p out ≡ cond (eqb n 0) whole (print_refused n out)
-unfolding print_refused
-printed_refused number n whole p out e h ep = rw (ep, ← e, ne_eqb number 0 h)
+-- a line of a plan that is refused, and one of a plan that is not
+printed_refused : (r : Refusal) (a : Answered) (whole : PrintYield) (out : List ℕ) → refused (number r) ≡ a
+    → print_refused (number r) out ≡ cond (eqb a.refusal 0) whole (print_refused a.refusal out)
+unfolding refused
+printed_refused r a whole out e = rw (← e, ne_eqb (number r) 0 (λ z. omega (arith, z, number_positive r)))
 
--- and of one that is not
-pub printed_line : (number n next next' r : ℕ) (other : PrintYield) (text text' out out' : List ℕ) → number ≡ n → number ≡ 0 → next ≡ next' → text ≡ text' → Put 1024 text out 0 r out'
-    → print_yield (record { refusal = 0; length = r; next = next }) out' ≡ cond (eqb n 0) (printing next' text' out) other
-unfolding printing
-printed_line number n next next' r other text text' out out' e h en et w =
-    rw (eq-eqb n 0 (sym e ∙ h), ← en, ← et, w.written, w.end, zero-add)
+pub printed_line : (a : Answered) (whole other : PrintYield) → 0 ≡ a.refusal → whole ≡ cond (eqb a.refusal 0) whole other
+printed_line a whole other e = rw (eq-eqb a.refusal 0 (sym e))
 
--- a closing's text
-pub no_closing : (frame : ℕ) → frame ≡ 0 → 45 ∷ [] ≡ closing_text frame
-unfolding closing_text
-no_closing frame e = rw (eq-eqb frame 0 e)
+-- the same of what is passed on
+module _ (q : Refusal) (a : Answered) (whole : PrintYield) (out : List ℕ) (e : refused (number q) ≡ a) where
+  pub line_refused : (r : Result (List ℕ) Refusal) → IsErrAnd r (λ f. f ≡ q) → line_yield r out ≡ cond (eqb a.refusal 0) whole (print_refused a.refusal out)
+  line_refused (Ok n) f = absurd f
+  line_refused (Err g) f = rw f (printed_refused q a whole out e)
 
-pub some_closing : (frame : ℕ) → (frame ≡ 0 → ⊥) → decimal frame ≡ closing_text frame
-unfolding closing_text
-some_closing frame h = rw (ne_eqb frame 0 h)
+  pub stretch_refused : (r : Result Stretch Refusal) → IsErrAnd r (λ f. f ≡ q) → stretch_yield r out ≡ cond (eqb a.refusal 0) whole (print_refused a.refusal out)
+  stretch_refused (Ok n) f = absurd f
+  stretch_refused (Err g) f = rw f (printed_refused q a whole out e)

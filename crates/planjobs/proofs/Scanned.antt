@@ -1,36 +1,23 @@
 -- Digits of a line, and the parts of a rule. Assumes nothing.
-use Prim.Native.Nat.{ℕ, ◌+◌, ◌-◌, ◌*◌, ◌/◌, ◌%◌, ◌≤◌, ◌<◌}
+use Prim.Native.Nat.{ℕ, ◌+◌, ◌-◌, ◌*◌, ◌≤◌, ◌<◌}
 use native.Mathlib.Numerals.{add-one}
 use native.Mathlib.Omega.{arith}
-use borrow.Author.Tests.{lt-ltb, le-ltb, eqb-true}
+use borrow.Author.Tests.{eqb-true}
 use mathlib.Core.Path.{◌≡◌, refl, sym, ap, ◌∙◌}
 use mathlib.Core.Bool.{Bool, true, false, ◌&&◌}
-use mathlib.Core.List.{List, [], ◌∷◌}
+use mathlib.Core.List.{List}
 use lib.ListN.{length, get_or, take, drop, drop_of_length-le, get_or-eq_default}
 use lib.Seq.{drop-cons}
 use lib.Dec.{eqb, ltb}
 use Rattle.lists.proofs.Bools.{and_left, and_right}
 use Rattle.lists.specs.Lists.{table}
-use Rattle.lists.proofs.Parts.{to_end}
+use Rattle.lists.proofs.Parts.{to_end, length_end}
+use Rattle.numerals.specs.Digits.{are_hex}
 use Rattle.line.specs.Read.{digits}
 use Rattle.numerals.specs.Numbers.{is_digit}
 use Rattle.numerals.specs.Clauses.{held}
 use Rattle.planjobs.specs.declared.Number.{Number}
-use Rattle.planjobs.specs.Lines.{minute_of, scanned, number_in, first_in, after_in, settings_from, is_rule, rule_byte, rule_in}
-
-pub minute_low : (n : ℕ) → n < 65535 → n ≡ minute_of n
-unfolding minute_of
-minute_low n h = rw (lt-ltb n 65535 h)
-
-pub minute_high : (n : ℕ) → 65535 ≤ n → 65535 ≡ minute_of n
-unfolding minute_of
-minute_high n h = rw (le-ltb n 65535 h)
-
--- a byte of the minutes
-pub minutes_byte : (first after from to k : ℕ) (settings : List ℕ) → from ≡ minute_of first → to ≡ minute_of after → k < 4
-    → get_or (from / 256 ∷ from % 256 ∷ to / 256 ∷ to % 256 ∷ []) k 0 ≡ rule_byte first after settings k
-unfolding rule_byte
-minutes_byte first after from to k settings e g h = rw (lt-ltb k 4 h, ← e, ← g)
+use Rattle.planjobs.specs.Lines.{scanned, number_in, first_in, after_in, settings_from, is_rule, rule_byte, rule_in}
 
 -- before the byte at a place: the value of the digits before it, and what the rest leads to
 pub record Scanning (line : List ℕ) (from value next : ℕ) : Type 0 where
@@ -83,13 +70,19 @@ after_is line f g ef eg = eg ∙ ap (λ m. number_in line (m.next + 1)) ef
 
 -- the part of a line with its settings, and the bytes made of it
 module _ (line : List ℕ) (g : Number) (e : g ≡ after_in line) (h : is_rule line ≡ true) where
-  pub part-digits : digits (take (length line - (g.next + 1)) (drop (g.next + 1) line)) 0 20 ≡ true
+  part-digits : digits (take (length line - (g.next + 1)) (drop (g.next + 1) line)) 0 20 ≡ true
   unfolding settings_from
   part-digits = ap (λ l. digits l 0 20) (to_end (g.next + 1) line) ∙ ap (λ m. digits (drop (m.next + 1) line) 0 20) e ∙ (rule_digits line h).0
 
   pub part_there : length line ≡ g.next + 1 + 20
   unfolding settings_from
   part_there = (rule_digits line h).1 ∙ ap (λ m. m.next + 1 + 20) (sym e)
+
+  pub part_hex : are_hex 10 (take (length line - (g.next + 1)) (drop (g.next + 1) line)) ≡ true
+  unfolding are_hex
+  part_hex =
+      let l : length (take (length line - (g.next + 1)) (drop (g.next + 1) line)) ≡ 20 = omega (arith, part_there, length_end (g.next + 1) line) in
+      rw (l, part-digits)
 
   pub rule_made : (f : Number) (out : List ℕ) → f ≡ number_in line 0
       → out ≡ table (rule_byte f.value g.value (take (length line - (g.next + 1)) (drop (g.next + 1) line))) 0 14 → out ≡ rule_in line

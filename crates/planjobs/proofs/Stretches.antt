@@ -9,8 +9,10 @@ use lib.ListN.{length, get_or}
 use lib.Dec.{eqb, ltb, leb}
 use Rattle.lists.proofs.Bools.{and_left, and_right}
 use Rattle.plan.specs.declared.Rule.{Rule}
+use Rattle.plan.specs.declared.Mark.{Mark}
+use Rattle.plan.specs.declared.Mark.TheVariants.{Other, Closing, First}
 use Rattle.plan.specs.Rules.{week_minutes, no_rule, rules_of}
-use Rattle.plan.specs.Answers.{ordered, plan_refusal, Answered, accepted, refused, answer_of}
+use Rattle.plan.specs.Answers.{ordered, plan_refusal, Answered, accepted, refused, answer_of, mark_number}
 use Rattle.plan.specs.Clauses.{Covered}
 use Rattle.plan.proofs.Minutes.{at_rule}
 use Rattle.plan.proofs.Chain.{good}
@@ -24,6 +26,12 @@ answer_number_lem plan t = go (eqb (plan_refusal plan t) 0) refl
     go : (b : Bool) → eqb (plan_refusal plan t) 0 ≡ b → (cond b (accepted plan t) (refused (plan_refusal plan t))).refusal ≡ plan_refusal plan t
     go true e = sym (eqb-true (plan_refusal plan t) 0 e)
     go false e = refl
+
+-- the mark with number 1
+pub closing_mark : (m : Mark) → mark_number m ≡ 1 → m ≡ Closing
+closing_mark Other e = absurd (omega (arith, e))
+closing_mark Closing e = refl
+closing_mark First e = absurd (omega (arith, e))
 
 module _ (bytes : List ℕ) (t : ℕ) (a : Answered) (e : a ≡ answer_of (rules_of bytes) t) (z : a.refusal ≡ 0) where
   abbrev plan : List Rule

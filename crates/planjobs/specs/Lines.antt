@@ -10,6 +10,10 @@ use Rattle.planjobs.specs.declared.Number.{Number}
 unfoldable pub minute_of : ℕ → ℕ
 minute_of n = cond (ltb n 65535) n 65535
 
+-- It stands in two bytes, high byte first.
+abbrev pub minute_bytes : ℕ → List ℕ
+minute_bytes n = minute_of n / 256 ∷ minute_of n % 256 ∷ []
+
 -- The digits from a place on, behind those of a value.
 unfoldable pub scanned : ℕ → ℕ → List ℕ → Number
 scanned value next [] = record { value = value; next = next }

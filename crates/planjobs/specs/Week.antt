@@ -1,5 +1,5 @@
 -- What the desk prints of a plan. 02, S-12.
-use Rattle.std.specs.Prelude.{ℕ, ◌-◌, ◌*◌, cond, List, [], ◌∷◌, ◌++◌, length, get_or, eqb}
+use Rattle.std.specs.Prelude.{ℕ, ◌-◌, ◌*◌, cond, Result, Ok, Err, List, [], ◌∷◌, ◌++◌, length, get_or, eqb}
 use Rattle.std.proofs.lemmas.List.Edits.{sets}
 use Rattle.line.specs.Written.{decimal, space, line_end}
 use Rattle.console.specs.Text.{bytes_in}
@@ -7,7 +7,15 @@ use Rattle.words.specs.Report.{refused_part}
 use Rattle.plan.specs.declared.Rule.{Rule}
 use Rattle.plan.specs.Rules.{minute_frames, no_rule, mark_of}
 use Rattle.plan.specs.Answers.{answer_of}
-use Rattle.planjobs.specs.declared.Printed.{Printed}
+use Rattle.refusal.specs.declared.Refusal.{Refusal}
+use Rattle.refusal.specs.Numbers.{number}
+use Rattle.planjobs.specs.declared.Stretch.{Stretch}
+
+-- What is printed: the refusal, or 0 and the bytes of a line; and the minute with which the next line begins.
+pub record Printed : Type 0 where
+  pub refusal : ℕ
+  pub length : ℕ
+  pub next : ℕ
 
 -- All that a line yields: what is printed of it, and the lent buffer, which it begins.
 pub record PrintYield : Type 0 where
@@ -22,6 +30,15 @@ printing next text out = print_yield (record { refusal = 0; length = length text
 
 unfoldable pub print_refused : ℕ → List ℕ → PrintYield
 print_refused number out = print_yield (record { refusal = number; length = 0; next = 0 }) out
+
+-- What the functions answer, in the same words, with the line at the start of a buffer.
+abbrev pub line_yield : Result (List ℕ) Refusal → List ℕ → PrintYield
+line_yield (Ok line) out = printing 0 line out
+line_yield (Err r) out = print_refused (number r) out
+
+abbrev pub stretch_yield : Result Stretch Refusal → List ℕ → PrintYield
+stretch_yield (Ok s) out = printing s.next s.line out
+stretch_yield (Err r) out = print_refused (number r) out
 
 -- `plan FILE SUPERFRAME`: place and mark.
 unfoldable pub answer_text : ℕ → ℕ → List ℕ

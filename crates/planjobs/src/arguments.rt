@@ -6,15 +6,15 @@ use crate::Asked;
 use crate::lines::number;
 
 // What so many arguments ask for, of which the fourth may be a super frame.
-pub fn asked(count: usize, frame: &[u8]) -> Asked
+pub fn asked(count: usize, frame: &[u8]) -> Option<Asked>
     ensures { result ≡ asked_of count frame.now }
 {
     if count == 3 {
-        return Asked::Week;
+        return Some(Asked::Week);
     }
     let t = number(frame, 0);
     if (frame.len() < 32) & ((0 < t.next) & (t.next == frame.len())) {
-        return Asked::SuperFrame(t.value);
+        return Some(Asked::SuperFrame(t.value));
     }
-    Asked::Bad
+    None
 }

@@ -5,6 +5,8 @@ pub mod arguments;
 pub mod lines;
 pub mod week;
 
+use words::text::Text;
+
 // A number in decimal: its value, and the place after its digits.
 #[derive(Clone, Copy)]
 pub struct Number {
@@ -13,17 +15,16 @@ pub struct Number {
 }
 
 // What the arguments ask for: a plan's week, or a super frame of it.
+// Stays: `Option<u32>` would say the week by `None`, and `asked` says by `None` already that the arguments ask for nothing.
 #[derive(Clone, Copy)]
 pub enum Asked {
     Week,
     SuperFrame(u32),
-    Bad,
 }
 
-// What is printed: the refusal, or 0 and the bytes of a line; and the minute with which the next line begins.
-#[derive(Clone, Copy)]
-pub struct Printed {
-    pub refusal: u8,
-    pub length: usize,
+// The line of a stretch, and the minute with which the next one begins.
+#[derive(Drop)]
+pub struct Stretch {
+    pub line: Text,
     pub next: u16,
 }

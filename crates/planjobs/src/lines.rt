@@ -1,15 +1,15 @@
 // Lines of a plan's file.
-ghost use Rattle.std.specs.Prelude.{◌≡◌, true, cond, ◌&&◌, ◌+◌, ◌≤◌, ◌<◌, length, get_or, drop, eqb};
+ghost use Rattle.std.specs.Prelude.{◌≡◌, true, cond, ◌&&◌, ◌+◌, ◌≤◌, Some, None, length, get_or, drop, eqb};
 ghost use Rattle.lists.specs.Lists.{table};
 ghost use Rattle.line.specs.Read.{digits};
-ghost use Rattle.planjobs.specs.Lines.{number_in, minute_of, is_rule, rule_byte, rule_in};
+ghost use Rattle.numerals.specs.Digits.{are_hex};
+ghost use Rattle.planjobs.specs.Lines.{number_in, minute_bytes, is_rule, rule_byte, rule_in};
 
 use crate::Number;
-use line::read::{are_digits, byte_at};
+use line::read::are_digits;
+use numerals::digits::read_hex;
 use numerals::numbers::{grown, is_digit};
-
-// The greatest number of two bytes.
-const GREATEST_MINUTE: u32 = 65535;
+use plan::rules::RULE_BYTES;
 
 // Whether a space stands at a place.
 #[tactic(auto, using(crate::proofs::Scanned::no_space))]
@@ -38,45 +38,24 @@ pub fn number(line: &[u8], from: usize) -> Number
     }
 }
 
-// A minute that goes into two bytes.
+// A minute in two bytes, high byte first; one that they do not hold is the greatest of them.
 #[tactic(auto, unfolding(crate::specs::Lines::minute_of))]
-fn minute(n: u32) -> u16
-    ensures { result ≡ minute_of n }
+fn bytes_of(minute: u32) -> [u8; 2]
+    ensures { result ≡ minute_bytes minute }
 {
-    n.min(GREATEST_MINUTE) as u16
+    u16::try_from(minute).unwrap_or(u16::MAX).to_be_bytes()
 }
 
-// Byte k of a rule from its minutes and the digits of its settings.
-fn rule_byte(first: u32, after: u32, settings: &[u8], k: usize) -> u8
-    requires settings_value { digits settings.now 0 20 ≡ true }
-    requires in_bounds { 20 ≤ length settings.now }
-    requires k_bound { k < 14 }
-    ensures { result ≡ rule_byte first after settings.now k }
+// The fourteen bytes of a rule from its minutes and the digits of its settings.
+fn rule_of(first: u32, after: u32, settings: &[u8]) -> [u8; RULE_BYTES]
+    requires { are_hex 10 settings.now ≡ true }
+    ensures { result ≡ table (rule_byte first after settings.now) 0 14 }
 {
-    if 4 <= k {
-        return byte_at(settings, k - 4);
-    }
-    let from = minute(first);
-    let to = minute(after);
-    let minutes = [
-        (from / 256) as u8,
-        (from % 256) as u8,
-        (to / 256) as u8,
-        (to % 256) as u8,
-    ];
-    minutes[k]
-}
-
-// The fourteen bytes of a rule.
-fn put_rule(first: u32, after: u32, settings: &[u8], out: &mut [u8])
-    requires settings_value { digits settings.now 0 20 ≡ true }
-    requires in_bounds { 20 ≤ length settings.now }
-    requires out_len { length out.old ≡ 14 }
-    ensures { out.new ≡ table (rule_byte first after settings.now) 0 14 }
-{
-    for (k, byte) in out.iter_mut().enumerate() {
-        *byte = rule_byte(first, after, settings, k);
-    }
+    let mut rule = [0; RULE_BYTES];
+    rule[..2].copy_from_slice(&bytes_of(first));
+    rule[2..4].copy_from_slice(&bytes_of(after));
+    rule[4..].copy_from_slice(&read_hex::<10>(settings));
+    rule
 }
 
 // Whether twenty hexadecimal digits stand from a place to the end of the line.
@@ -90,12 +69,10 @@ fn ends_in_digits(line: &[u8], from: usize) -> bool
     are_digits(&line[from..], 20)
 }
 
-// The fourteen bytes of a line's rule; a line that is none leaves the bytes as they were.
-pub fn rule_line(line: &[u8], out: &mut [u8]) -> bool
-    requires line_len_bound { length line.now ≤ 256 }
-    requires out_len { length out.old ≡ 14 }
-    ensures value { result ≡ is_rule line.now }
-    ensures out_after { out.new ≡ cond (is_rule line.now) (rule_in line.now) out.old }
+// The fourteen bytes of a line's rule.
+pub fn rule_line(line: &[u8]) -> Option<[u8; RULE_BYTES]>
+    requires { length line.now ≤ 256 }
+    ensures { result ≡ cond (is_rule line.now) (Some (rule_in line.now)) None }
 {
     let first = number(line, 0);
     let a = first.next;
@@ -105,8 +82,7 @@ pub fn rule_line(line: &[u8], out: &mut [u8]) -> bool
     let minutes = (0 < a) & (is_space(line, a) & ((a + 1 < b) & ends));
     let good = (line.len() < 256) & minutes;
     if !good {
-        return false;
+        return None;
     }
-    put_rule(first.value, after.value, &line[b + 1..], out);
-    true
+    Some(rule_of(first.value, after.value, &line[b + 1..]))
 }

@@ -1,79 +1,66 @@
 // What is printed of a plan.
-ghost use Rattle.std.specs.Prelude.{◌≡◌, ◌+◌, ◌≤◌, length};
-ghost use Rattle.words.specs.Clauses.{Put};
+ghost use Rattle.std.specs.Prelude.{◌≡◌, ℕ, ◌+◌, ◌≤◌, List, ◌++◌, length};
 ghost use Rattle.plan.specs.Rules.{rules_of};
+ghost use Rattle.plan.specs.Answers.{mark_number};
 ghost use Rattle.plan.specs.Clauses.{Covered};
-ghost use Rattle.planjobs.specs.Week.{print_yield, answer_text, answer_printed, closing_frame, closing_text, stretch_text, stretch_printed, refused_line};
+ghost use Rattle.planjobs.specs.Week.{line_yield, answer_text, answer_printed, closing_frame, closing_text, stretch_text, stretch_yield, stretch_printed, refused_line};
 
-use crate::Printed;
-use plan::Answer;
+use crate::Stretch;
 use plan::answers::answer;
 use plan::marks::{MINUTE_FRAMES, mark};
 use plan::rules::rule_at;
-use words::report::{put, put_decimal, say_refused};
+use plan::{Answer, Mark};
+use refusal::Refusal;
+use words::report::refused_said;
 use words::text::Text;
 
-// Nothing printed.
-fn refused(number: u8) -> Printed
-    ensures { result ≡ record { refusal = number; length = 0; next = 0 } }
-{
-    Printed {
-        refusal: number,
-        length: 0,
-        next: 0,
-    }
-}
-
 // Place and mark.
-fn put_answer(a: Answer, out: &mut [u8]) -> usize
-    requires { 1024 ≤ length out.old }
-    ensures { Put 1024 (answer_text a.place a.mark) out.old 0 result out.new }
+#[tactic(auto, using(std::proofs::Common::append_assoc), unfolding(crate::specs::Week::answer_text, line::specs::Written::space, line::specs::Written::line_end))]
+fn answer_text(a: Answer) -> Text
+    ensures { result ≡ answer_text a.place (mark_number a.mark) }
 {
-    let a1 = put_decimal(a.place as u64, out, 0);
-    let b = put(b" ", out, a1);
-    let c = put_decimal(a.mark as u64, out, b);
-    put(b"\n", out, c)
+    let mut text = Text::new();
+    text.put_decimal(a.place as u64);
+    text.put(b" ");
+    text.put_decimal(a.mark as u64);
+    text.put(b"\n");
+    text
 }
 
 // `plan FILE SUPERFRAME`.
-pub fn answer_line(rules: &[u8], t: u32, out: &mut [u8; 1024]) -> Printed
-    ensures out_after { print_yield result out.new ≡ answer_printed (rules_of rules.now) t out.old }
-    ensures length_bound { result.length ≤ 1024 }
+pub fn answer_line(rules: &[u8], t: u32) -> Result<Text, Refusal>
+    ensures { (out : List ℕ) → line_yield result out ≡ answer_printed (rules_of rules.now) t out }
 {
-    let a = match answer(rules, t) {
-        Ok(a) => a,
-        Err(refusal) => return refused(refusal.number()),
-    };
-    let n = put_answer(a, out);
-    Printed {
-        refusal: 0,
-        length: n,
-        next: 0,
-    }
+    Ok(answer_text(answer(rules, t)?))
 }
 
 // The first super frame of a closing, or a hyphen.
-fn put_closing(frame: u32, out: &mut [u8], at: usize) -> usize
-    requires { at + 20 ≤ length out.old }
-    ensures { Put 20 (closing_text frame) out.old at result out.new }
+#[tactic(auto, unfolding(crate::specs::Week::closing_text))]
+fn put_closing(text: &mut Text, frame: u32)
+    requires { length text.old + 20 ≤ 1024 }
+    ensures put { text.new ≡ text.old ++ closing_text frame }
+    ensures room { length text.new ≤ length text.old + 20 }
 {
     if frame == 0 {
-        return put(b"-", out, at);
+        text.put(b"-");
+    } else {
+        text.put_decimal(frame as u64);
     }
-    put_decimal(frame as u64, out, at)
 }
 
 // A stretch: its first super frame, its rule's place, its closing.
-fn put_stretch(frame: u32, place: u8, closing: u32, out: &mut [u8]) -> usize
-    requires { 1024 ≤ length out.old }
-    ensures { Put 1024 (stretch_text frame place closing) out.old 0 result out.new }
+#[tactic(auto, using(std::proofs::Common::append_assoc), unfolding(crate::specs::Week::stretch_text, line::specs::Written::space, line::specs::Written::line_end))]
+fn stretch_text(frame: u32, place: u8, closing: u32) -> Text
+    ensures { result ≡ stretch_text frame place closing }
 {
-    let a = put_decimal(frame as u64, out, 0);
-    let b = put(b" ", out, a);
-    let c = put_decimal(place as u64, out, b);
-    let d = put(b" ", out, c);
-    let e = put_closing(closing, out, d);
-    put(b"\n", out, e)
+    let mut text = Text::new();
+    text.put_decimal(frame as u64);
+    text.put(b" ");
+    text.put_decimal(place as u64);
+    text.put(b" ");
+    put_closing(&mut text, closing);
+    text.put(b"\n");
+    text
 }
 
 // The first super frame of the closing with which a rule ends, 0 where it has none.
@@ -84,40 +71,29 @@ fn closing_frame(rules: &[u8], after: u16) -> u32
     ensures { result ≡ closing_frame (rules_of rules.now) after }
 {
     let end = MINUTE_FRAMES * after as u32;
-    if mark(rules, end - 1) == 1 {
+    if mark(rules, end - 1) == Mark::Closing {
         return end - 2;
     }
     0
 }
 
 // `plan FILE`: the stretch that begins with a minute.
-pub fn stretch_line(rules: &[u8], minute: u16, out: &mut [u8; 1024]) -> Printed
-    ensures out_after { print_yield result out.new ≡ stretch_printed (rules_of rules.now) minute out.old }
-    ensures length_bound { result.length ≤ 1024 }
+pub fn stretch_line(rules: &[u8], minute: u16) -> Result<Stretch, Refusal>
+    ensures { (out : List ℕ) → stretch_yield result out ≡ stretch_printed (rules_of rules.now) minute out }
 {
     let frame = MINUTE_FRAMES * minute as u32;
-    let a = match answer(rules, frame) {
-        Ok(a) => a,
-        Err(refusal) => return refused(refusal.number()),
-    };
-    let after = rule_at(rules, a.place as usize).after;
-    let closing = closing_frame(rules, after);
-    let n = put_stretch(frame, a.place, closing, out);
-    Printed {
-        refusal: 0,
-        length: n,
-        next: after,
-    }
+    let a = answer(rules, frame)?;
+    let next = rule_at(rules, a.place as usize).after;
+    let closing = closing_frame(rules, next);
+    let line = stretch_text(frame, a.place, closing);
+    Ok(Stretch { line, next })
 }
 
 // What is said of a plan that is refused.
-#[tactic(auto, using(std::proofs::Common::append_assoc), unfolding(crate::specs::Week::refused_line, console::specs::Text::bytes_in, lists::specs::Lists::table))]
+// Stays: docs/PROMISES.md names this function, which says any number, also one that no refusal has.
+#[tactic(auto, unfolding(crate::specs::Week::refused_line, words::specs::Report::refused_text, console::specs::Text::bytes_in, lists::specs::Lists::table))]
 pub fn refused_line(number: u8) -> Text
     ensures { result ≡ refused_line number }
 {
-    let mut text = Text::new();
-    text.put(b"plan: ");
-    say_refused(&mut text, number, 0);
-    text.put(b"\n");
-    text
+    refused_said(b"plan: ", number)
 }

@@ -3,7 +3,7 @@ use Rattle.std.specs.Prelude.{ℕ, ◌+◌, ◌*◌, ◌/◌, ◌%◌, Bool, fal
 use Rattle.lists.specs.Lists.{table}
 use Rattle.lists.specs.Bools.{every}
 use Rattle.block.specs.declared.Constellation.{Constellation}
-use Rattle.block.specs.Mapping.{constellation}
+use Rattle.block.specs.Mapping.{constellation, numbered}
 use Rattle.block.specs.Points.{is_empty, is_point}
 use Rattle.pointtests.specs.declared.PointTest.{PointTest}
 
@@ -25,3 +25,7 @@ all_cells c blank = record { constellation = c; depth = 1; count = 0; blank = bl
 -- The test that every cell is a point.
 abbrev pub points_only : Constellation → PointTest
 points_only c = all_cells c false
+
+-- The same test of the constellation with a number.
+abbrev pub of_number : ℕ → PointTest → PointTest
+of_number c test = record { constellation = numbered c; depth = test.depth; count = test.count; blank = test.blank }

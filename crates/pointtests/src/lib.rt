@@ -3,6 +3,7 @@
 
 use block::Constellation;
 
+pub mod numbered;
 pub mod tests;
 
 // A test of cells: which constellation they must be of, the depth and the count by which cells are ignored, and whether (0, 0) passes too.

@@ -1,5 +1,5 @@
 // The one test of points: FAC and SDC cells, sent rows (refusal 13) and memory (refusal 12). 01 "Operations".
-ghost use Rattle.std.specs.Prelude.{◌≡◌, ◌+◌, ◌*◌, ◌%◌, ◌<◌, length};
+ghost use Rattle.std.specs.Prelude.{◌≡◌, ◌+◌, ◌*◌, ◌%◌, ◌<◌, length, pos, ◌-ℤ◌};
 ghost use Rattle.cellbytes.specs.CellBytes.{numbers};
 ghost use Rattle.pointtests.specs.PointTests.{points_pass, all_cells};
 ghost use Rattle.pointtests.specs.Clauses.{by_mask, Masks, Finds, half_passes, byte_passes, Reaches};
@@ -7,15 +7,24 @@ ghost use Rattle.pointtests.specs.Clauses.{by_mask, Masks, Finds, half_passes, b
 use crate::PointTest;
 use block::Constellation;
 
+// The largest coordinate of a constellation.
+// Stays: `measured` and `decision` have other values by constellation; a match for each shows the values.
+fn largest(c: Constellation) -> u8
+    ensures reaches { Reaches c result }
+    ensures masks { Masks c (pos 0 -ℤ pos result) }
+{
+    match c {
+        Constellation::Qam4 => 1,
+        Constellation::Qam16 => 3,
+        Constellation::Sm64 | Constellation::HmSym | Constellation::HmMix => 7,
+    }
+}
+
 // The mask by which the coordinates of a constellation are told: in its places they have 1, or all that is there.
 fn mask_of(c: Constellation) -> i16
     ensures { Masks c result }
 {
-    match c {
-        Constellation::Qam4 => -1,
-        Constellation::Qam16 => -3,
-        Constellation::Sm64 | Constellation::HmSym | Constellation::HmMix => -7,
-    }
+    -i16::from(largest(c))
 }
 
 // A number is one of the coordinates. By its binary digits and without a table, so that a processor tests eight at once.
@@ -82,17 +91,6 @@ pub fn points_pass(test: PointTest, cells: &[i16]) -> bool
         return all_pass(test.constellation, test.blank, cells);
     }
     some_pass(test, cells)
-}
-
-// The largest coordinate of a constellation.
-fn largest(c: Constellation) -> u8
-    ensures { Reaches c result }
-{
-    match c {
-        Constellation::Qam4 => 1,
-        Constellation::Qam16 => 3,
-        Constellation::Sm64 | Constellation::HmSym | Constellation::HmMix => 7,
-    }
 }
 
 // Four bits are a coordinate: with the largest one added they are even and at most twice that.

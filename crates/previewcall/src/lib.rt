@@ -1,4 +1,5 @@
 // The call preview: what Code would give, on a copy of the memory. 02 S-3.
+// Stays, in this module: buffers stand one by one; with a struct of `&mut` a clause must also say that each reference is still the same one.
 #![tactic(auto)]
 
 ghost use Rattle.std.specs.Prelude.{◌≡◌};

@@ -13,6 +13,7 @@ use turns::{End, turn};
 use words::Counted;
 
 // A super frame whose bytes have come, and no more.
+// Stays: the parameters are those of `shown::show`, to which they go as they are and whose clauses name each buffer.
 fn show_bytes(state: State, bytes: &[u8], memory: &mut [u8]) -> Result<(), End> {
     let mut out = buffers::bytes::<MOST_GRID_BYTES>();
     let n = shown::show(state, bytes, memory, &mut out)?;

@@ -1,4 +1,5 @@
 // What `preview` shows. 02, S-3.
+// Stays, in this module: buffers stand one by one; with a struct of `&mut` a clause must also say that each reference is still the same one.
 ghost use Rattle.std.specs.Prelude.{◌≡◌, ◌≤◌, length, IfOk};
 ghost use Rattle.turns.specs.Yield.{made_yield};
 ghost use Rattle.jobs.specs.SuperFrame.{job_yield, job_of};
@@ -20,7 +21,7 @@ fn code_step(state: State, bytes: &[u8], memory: &mut [u8], out: &mut [u8]) -> S
 {
     match check_job(Job::Code, state, bytes, memory, out) {
         Ok(z) => code_bytes(state, z, bytes, memory, out),
-        Err(refusal) => refused(refusal.number(), state),
+        Err(refusal) => refused(refusal, state),
     }
 }
 

@@ -7,7 +7,6 @@ use native.Mathlib.Omega.{arith}
 use lib.ListN.{length, get_or, length-append, length-map, length-replicate}
 use lib.Seq.{drop-length}
 use lib.IntN.{ℤ}
-use Rattle.lists.specs.Lists.{table}
 use Rattle.lists.proofs.Tables.{length-table}
 use Rattle.settings.specs.Sizes.{sdc_bytes}
 use Rattle.block.specs.declared.Block.{Block}

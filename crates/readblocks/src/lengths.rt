@@ -1,4 +1,5 @@
 // The numbers of the lengths, of a call that reads. 01 "Operations".
+// Stays, in this module: buffers stand one by one, since a clause would name one in a struct `cells.now.fac.now` and not `faccells.now`.
 ghost use Rattle.std.specs.Prelude.{◌≡◌};
 ghost use Rattle.refusal.specs.Numbers.{answer};
 ghost use Rattle.superframe.specs.Code.{byte_lengths, cell_lengths};
@@ -9,6 +10,7 @@ use channels::Scheme;
 use refusal::Refusal;
 
 // 1 to 10: the cells come in, and bytes go out.
+// Stays: cells come in (9) and bytes go out (10), in Code the other way round; one function for both would have to be told which.
 #[tactic(auto, using(callrefusals::proofs::Chains::then_refused))]
 pub fn check_buffers(
     s: Scheme,

@@ -41,7 +41,7 @@ use Rattle.std.proofs.Common.{Option, Some, None, Err}
 use Rattle.refusal.specs.declared.Refusal.{Refusal}
 use Rattle.refusal.specs.Numbers.{number}
 use Rattle.refusal.proofs.Positive.{number_positive}
-use Rattle.superframe.specs.Answers.{reading}
+use Rattle.superframe.specs.Answers.{read_done}
 use Rattle.faults.specs.Clauses.{fault_of, point_test, CellsLent}
 use Rattle.readblocks.specs.Clauses.{facs_of, frames_of, blocks_of, BlocksLent, BlocksRead}
 use Rattle.readcall.specs.Clauses.{ReadPasses}
@@ -133,7 +133,7 @@ module _ (state : State) (memory : List ℕ) (c : ReadCall) where
 
 pub refused_order : (state : State) (memory : List ℕ) (faccells sdccells msccells : List ℤ) (fac sdc msc : List ℕ) (r : Refusal)
     → number r ≡ order_refusal state memory (read_call faccells sdccells msccells fac sdc msc)
-    → read_yield (reading state (Err (record { refusal = r; block = 0 }))) memory fac sdc msc ≡ read_of state memory (read_call faccells sdccells msccells fac sdc msc)
+    → read_yield (read_done state (Err (record { refusal = r; block = 0 }))) memory fac sdc msc ≡ read_of state memory (read_call faccells sdccells msccells fac sdc msc)
 refused_order state memory faccells sdccells msccells fac sdc msc r e =
     refused_is state memory _ (number r) 0 (answer_order state memory _ (number r) (sym e) (number_positive r)) (number_positive r)
 

@@ -1,8 +1,8 @@
 // The call Read. 01 "Buffers and state" and "Operations".
+// Stays, in this module: buffers stand one by one; with a struct of `&mut` a clause must also say that each reference is still the same one.
 ghost use Rattle.std.specs.Prelude.{◌≡◌};
 ghost use Rattle.refusal.specs.Numbers.{answer};
-ghost use Rattle.superframe.specs.Answers.{reading};
-ghost use Rattle.lists.specs.Buffers.{Long};
+ghost use Rattle.superframe.specs.Answers.{read_done};
 ghost use Rattle.superframe.specs.Read.{order_refusal, read_of};
 ghost use Rattle.superframe.specs.Clauses.{read_call, read_yield};
 ghost use Rattle.readcall.specs.Clauses.{ReadPasses};
@@ -11,6 +11,7 @@ use block::buffers::{MOST_MSC_BYTES, MOST_SDC_BYTES};
 use callrefusals::refusals::in_order;
 use cellmemory::buffers::memory_buffer;
 use faults::lowest::{lost_fault, point_fault};
+use lists::buffers::buffer;
 use partlengths::tables::FAC_BYTES;
 use readblocks::lengths::check_buffers;
 use readblocks::places::read_blocks;
@@ -40,25 +41,6 @@ fn check_order(
     Ok(())
 }
 
-// Working buffers for the largest settings, each from a function of its own: proofs then take its length and do not write it out.
-fn fac_buffer() -> [u8; 3 * FAC_BYTES]
-    ensures { Long 27 result }
-{
-    [0u8; 3 * FAC_BYTES]
-}
-
-fn sdc_buffer() -> [u8; MOST_SDC_BYTES]
-    ensures { Long 210 result }
-{
-    [0u8; MOST_SDC_BYTES]
-}
-
-fn msc_buffer() -> [u8; MOST_MSC_BYTES]
-    ensures { Long 13767 result }
-{
-    [0u8; MOST_MSC_BYTES]
-}
-
 // A call that no number up to 13 refuses: all blocks are read first, on a copy of memory and into buffers; then 14, or everything is handed out.
 fn read_whole(
     state: State,
@@ -71,14 +53,14 @@ fn read_whole(
     msc: &mut [u8],
 ) -> Result<Finished, ReadRefusal>
     requires { ReadPasses state memory.old (read_call faccells.now sdccells.now msccells.now fac.old sdc.old msc.old) }
-    ensures { read_yield (reading state result) memory.new fac.new sdc.new msc.new
+    ensures { read_yield (read_done state result) memory.new fac.new sdc.new msc.new
         ≡ read_of state memory.old
         (read_call faccells.now sdccells.now msccells.now fac.old sdc.old msc.old) }
 {
     let mut work = memory_buffer();
-    let mut facwork = fac_buffer();
-    let mut sdcwork = sdc_buffer();
-    let mut mscwork = msc_buffer();
+    let mut facwork: [u8; 3 * FAC_BYTES] = buffer(0);
+    let mut sdcwork: [u8; MOST_SDC_BYTES] = buffer(0);
+    let mut mscwork: [u8; MOST_MSC_BYTES] = buffer(0);
     let n = memory.len();
     let b = sdc.len();
     let m = msc.len();
@@ -121,7 +103,7 @@ pub fn read(
     sdc: &mut [u8],
     msc: &mut [u8],
 ) -> Result<Finished, ReadRefusal>
-    ensures { read_yield (reading state result) memory.new fac.new sdc.new msc.new
+    ensures { read_yield (read_done state result) memory.new fac.new sdc.new msc.new
         ≡ read_of state memory.old
         (read_call faccells.now sdccells.now msccells.now fac.old sdc.old msc.old) }
 {

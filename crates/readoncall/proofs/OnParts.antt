@@ -18,7 +18,7 @@ use Rattle.std.proofs.Common.{Err}
 use Rattle.refusal.specs.declared.Refusal.{Refusal}
 use Rattle.refusal.specs.Numbers.{number}
 use Rattle.refusal.proofs.Positive.{number_positive}
-use Rattle.superframe.specs.Answers.{Finished, reading}
+use Rattle.superframe.specs.Answers.{Finished, read_done}
 use Rattle.superframe.specs.Call.{in_order, memory_length}
 use Rattle.superframe.specs.Code.{byte_lengths, cell_lengths}
 use Rattle.keptcells.specs.ReadOn.{ReadOnCall, lost_bytes, read_on_refusal, kept_cells, lost_mark, read_on_accepted, read_on_refused, read_on_of}
@@ -85,12 +85,12 @@ module _ (state : State) (memory : List ℕ) (faccells sdccells msccells : List 
   order_is = rw (two-tests (byte_lengths state.scheme.settings fac sdc msc) (eqb (length lost) lost_bytes) 10 (first (not (in_order true state memory)) 12 0))
 
   refused_is : (r : Refusal) → number r ≡ read_on_refusal state memory call
-      → read_on_yield (reading state (Err (record { refusal = r; block = 0 }))) memory fac sdc msc lost ≡ read_on_of state memory call
+      → read_on_yield (read_done state (Err (record { refusal = r; block = 0 }))) memory fac sdc msc lost ≡ read_on_of state memory call
   unfolding read_on_refused
   refused_is r e = sym (on_refuses state memory _ (number r) (sym e) (number_positive r))
 
   pub refused_early : (r : Refusal) → number r ≡ lengths 0
-      → read_on_yield (reading state (Err (record { refusal = r; block = 0 }))) memory fac sdc msc lost ≡ read_on_of state memory call
+      → read_on_yield (read_done state (Err (record { refusal = r; block = 0 }))) memory fac sdc msc lost ≡ read_on_of state memory call
   refused_early r e = refused_is r (then_stops _ _ _ _ _ e _ (λ h. absurd (omega (arith, number_positive r, h))) ∙ order_is)
 
   module _ (g : 0 ≡ lengths 0) where
@@ -98,7 +98,7 @@ module _ (state : State) (memory : List ℕ) (faccells sdccells msccells : List 
     after_is n e = e ∙ sym (then_goes_on _ _ _ _ 0 g _ refl) ∙ order_is
 
     pub refused_late : (r : Refusal) → number r ≡ refusal_after state memory lost
-        → read_on_yield (reading state (Err (record { refusal = r; block = 0 }))) memory fac sdc msc lost ≡ read_on_of state memory call
+        → read_on_yield (read_done state (Err (record { refusal = r; block = 0 }))) memory fac sdc msc lost ≡ read_on_of state memory call
     refused_late r e = refused_is r (after_is (number r) e)
 
     module _ (e : 0 ≡ refusal_after state memory lost) where

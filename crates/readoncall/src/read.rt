@@ -1,8 +1,8 @@
 // The call that reads on. 02, S-13.
+// Stays, in this module: buffers stand one by one; with a struct of `&mut` a clause must also say that each reference is still the same one.
 ghost use Rattle.std.specs.Prelude.{◌≡◌};
 ghost use Rattle.refusal.specs.Numbers.{answer};
-ghost use Rattle.superframe.specs.Answers.{reading};
-ghost use Rattle.lists.specs.Buffers.{Long};
+ghost use Rattle.superframe.specs.Answers.{read_done};
 ghost use Rattle.keptcells.specs.ReadOn.{kept_cells, read_on_of};
 ghost use Rattle.superframe.specs.Clauses.{Fits, read_call};
 ghost use Rattle.readblocks.specs.Clauses.{BlocksLent, BlocksRead};
@@ -11,6 +11,7 @@ ghost use Rattle.readoncall.specs.Clauses.{read_on_call, read_on_yield, refusal_
 use block::buffers::MOST_NUMBERS;
 use callrefusals::refusals::in_order;
 use keptcells::kept::{keep_cells, mark_lost};
+use lists::buffers::buffer;
 use readblocks::Blocks;
 use readblocks::lengths::check_buffers;
 use readblocks::places::read_blocks;
@@ -38,13 +39,6 @@ fn check_order(state: State, memory: &[u8], lost: &[u8]) -> Result<(), Refusal>
     Ok(())
 }
 
-// Room for the MSC cells of the largest settings, from a function of its own: proofs then take its length and do not write it out.
-fn cell_buffer() -> [i16; MOST_MSC_NUMBERS]
-    ensures { Long 36712 result }
-{
-    [0i16; MOST_MSC_NUMBERS]
-}
-
 // Every block of a call that no number refuses into its place, over the cells that are kept; a lost one leaves its bytes zero.
 fn read_kept(
     state: State,
@@ -62,7 +56,7 @@ fn read_kept(
         fac.old sdc.old msc.old)
         result memory.new fac.new sdc.new msc.new }
 {
-    let mut kept = cell_buffer();
+    let mut kept: [i16; MOST_MSC_NUMBERS] = buffer(0);
     let n = msccells.len();
     keep_cells(state.scheme, msccells, &mut kept[0..n]);
     read_blocks(
@@ -90,7 +84,7 @@ pub fn read_on(
     msc: &mut [u8],
     lost: &mut [u8],
 ) -> Result<Finished, ReadRefusal>
-    ensures { read_on_yield (reading state result) memory.new fac.new sdc.new msc.new lost.new
+    ensures { read_on_yield (read_done state result) memory.new fac.new sdc.new msc.new lost.new
         ≡ read_on_of state memory.old
         (read_on_call faccells.now sdccells.now msccells.now
         fac.old sdc.old msc.old lost.old) }

@@ -1,5 +1,7 @@
 -- Settings as the bytes that a caller lends.
-use Rattle.std.specs.Prelude.{ℕ, ◌+◌, ◌*◌, ◌/◌, ◌%◌, List, [], ◌∷◌, get_or}
+use Rattle.std.specs.Prelude.{ℕ, ◌+◌, ◌*◌, ◌/◌, ◌%◌, cond, List, [], ◌∷◌, length, get_or, eqb, Result, Ok, Err}
+use Rattle.refusal.specs.declared.Refusal.{Refusal}
+use Rattle.refusal.specs.declared.Refusal.TheVariants.{FixedLength}
 use Rattle.settings.specs.declared.Settings.{Settings}
 
 -- Two bytes, high byte first.
@@ -20,6 +22,10 @@ settings_of bytes =
       sdc = get_or bytes 8 0;
       interleaving = get_or bytes 9 0;
     }
+
+-- The settings of ten bytes; any other number of bytes is of the wrong length.
+unfoldable pub taken : List ℕ → Result Settings Refusal
+taken bytes = cond (eqb (length bytes) 10) (Ok (settings_of bytes)) (Err FixedLength)
 
 unfoldable pub settings_bytes : Settings → List ℕ
 settings_bytes s =

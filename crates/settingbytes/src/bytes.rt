@@ -1,14 +1,15 @@
 // Settings from their bytes.
 ghost use Rattle.std.specs.Prelude.{◌≡◌, length, ◌≤◌};
-ghost use Rattle.settingbytes.specs.Bytes.{word, settings_of};
+ghost use Rattle.settingbytes.specs.Bytes.{word, settings_of, taken};
 
+use refusal::Refusal;
 use settings::Settings;
 
 // Two bytes, high byte first.
 pub fn word(high: u8, low: u8) -> u16
     ensures { result ≡ word high low }
 {
-    256 * high as u16 + low as u16
+    u16::from_be_bytes([high, low])
 }
 
 // Settings from their ten bytes, with which the slice begins.
@@ -27,4 +28,15 @@ pub fn settings_of(bytes: &[u8]) -> Settings
         sdc: bytes[8],
         interleaving: bytes[9],
     }
+}
+
+// Settings that a caller lends, which are ten bytes and no other number of them.
+#[tactic(auto, unfolding(crate::specs::Bytes::taken))]
+pub fn taken(bytes: &[u8]) -> Result<Settings, Refusal>
+    ensures { result ≡ taken bytes.now }
+{
+    if bytes.len() != 10 {
+        return Err(Refusal::FixedLength);
+    }
+    Ok(settings_of(bytes))
 }

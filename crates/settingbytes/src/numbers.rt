@@ -19,6 +19,8 @@ pub fn put_lengths(lengths: Result<Lengths, Refusal>, numbers: &mut [u16]) -> Re
     Ok(())
 }
 
+// Sizes into the caller's numbers, which a refusal leaves as they were.
+// Stays: `put_lengths` writes other fields; one function for both would be handed them as an array, and save `copy_from_slice` alone.
 #[tactic(auto, using(crate::proofs::Stores::sizes_refused), unfolding(crate::specs::Numbers::sizes_into))]
 pub fn put_sizes(sizes: Result<Sizes, Refusal>, numbers: &mut [u32]) -> Result<(), Refusal>
     requires { length numbers.old ≡ 6 }

@@ -5,7 +5,8 @@ pub mod answers;
 pub mod refusals;
 
 // 01 "Settings". All are unsigned numbers; any value may come in.
-#[derive(Clone, Copy)]
+// Stays: modes and levels are numbers, since the C interface hands in any byte, and refusals 1 to 7 say which is out of range.
+#[derive(Clone, Copy, PartialEq, Eq)]
 pub struct Settings {
     // robustness mode, 0 to 3 for A to D
     pub mode: u8,

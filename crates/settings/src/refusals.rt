@@ -63,10 +63,3 @@ pub fn check(s: Settings) -> Result<(), Refusal>
     }
     Ok(())
 }
-
-// The number of the refusal, 0 for acceptance.
-pub fn refusal(s: Settings) -> u8
-    ensures { result ≡ refusal s }
-{
-    refusal::answer(check(s))
-}

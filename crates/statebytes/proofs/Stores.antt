@@ -1,26 +1,18 @@
 -- A state stored in its bytes, and read from them.
-use Prim.Native.Nat.{ℕ, ◌-◌, ◌/◌, ◌%◌}
+use Prim.Native.Nat.{ℕ, ◌-◌}
 use mathlib.Core.Path.{◌≡◌, ap, ap₂, ◌∙◌}
-use mathlib.Core.List.{List, [], ◌∷◌, ◌++◌, append-nil}
+use mathlib.Core.List.{List, ◌++◌, append-nil}
 use native.Mathlib.Omega.{arith}
 use lib.ListN.{length, get_or, take, drop, length-append, length-drop}
-use lib.Seq.{sets, take_at, take_all, length-take-le, drop-length}
+use lib.Seq.{take_at, take_all, length-take-le, drop-length}
 use borrow.Rule.Slice.PartMut.{put_mid, post_of, Post-is}
-use Rattle.lists.proofs.Parts.{sets-whole}
 use Rattle.settings.specs.declared.Settings.{Settings}
 use Rattle.channels.specs.declared.Scheme.{Scheme}
 use Rattle.channels.specs.Scheme.{scheme_of}
 use Rattle.superframe.specs.declared.State.{State}
 use Rattle.statebytes.specs.Bytes.{settings_of, settings_bytes, state_of, front_bytes, state_bytes}
 
--- The twelve bytes of a state before its table.
-pub front-stored : (state : State) (d : List ℕ) (high low : ℕ) → length d ≡ 12 → high ≡ state.scheme.settings.x / 256 → low ≡ state.scheme.settings.x % 256
-    → let s = state.scheme.settings in
-    sets d 0 (s.mode ∷ s.occupancy ∷ s.msc ∷ s.levela ∷ s.levelb ∷ s.vspp ∷ high ∷ low ∷ s.sdc ∷ s.interleaving ∷ state.position ∷ state.count ∷ []) ≡ front_bytes state
-unfolding front_bytes settings_bytes
-front-stored state d high low e eh el = rw (eh, el) (sets-whole d (settings_bytes state.scheme.settings ++ (state.position ∷ state.count ∷ [])) e)
-
--- Then the table.
+-- The table after the twelve bytes before it.
 module _ (state : State) (bytes front : List ℕ) (h : length bytes ≡ 208) (e : front ≡ front_bytes state) where
   abbrev after : List ℕ
   after = front ++ post_of 0 12 bytes

@@ -2,7 +2,7 @@
 ghost use Rattle.std.specs.Prelude.{◌≡◌, length, ◌+◌, ◌*◌};
 ghost use Rattle.refusal.specs.Numbers.{number, answer};
 ghost use Rattle.superframe.specs.declared.State.{State};
-ghost use Rattle.superframe.specs.Answers.{done, reading};
+ghost use Rattle.superframe.specs.Answers.{done, read_done};
 ghost use Rattle.statebytes.specs.Answers.{state_after, state_read, answer_word};
 
 use crate::bytes::put_state;
@@ -21,19 +21,20 @@ pub fn finish(outcome: Result<State, Refusal>, bytes: &mut [u8]) -> Result<(), R
 }
 
 // 256 times the refusal's number plus its block.
+// Stays: 256 stands in the clause alone, which says what it promised before; the body joins the two bytes by std.
 pub fn refusal_word(refusal: Refusal, block: u8) -> u16
     ensures { result ≡ 256 * number refusal + block }
 {
-    256 * refusal.number() as u16 + block as u16
+    u16::from_be_bytes([refusal.number(), block])
 }
 
 // The answer of Read, with the state written where the call is accepted.
 #[tactic(auto, unfolding(crate::specs::Answers::answer_word, crate::specs::Answers::state_read, superframe::specs::Read::answer_number, superframe::specs::Read::answer_block, superframe::specs::Read::answer_frames))]
 pub fn finish_read(outcome: Result<Finished, ReadRefusal>, bytes: &mut [u8]) -> u16
     requires { length bytes.old ≡ 208 }
-    ensures value { (old : State) → result ≡ answer_word (reading old outcome).answer }
+    ensures value { (old : State) → result ≡ answer_word (read_done old outcome).answer }
     ensures bytes_after { (old : State) → bytes.new
-        ≡ state_read (reading old outcome).answer (reading old outcome).state bytes.old }
+        ≡ state_read (read_done old outcome).answer (read_done old outcome).state bytes.old }
 {
     match outcome {
         Ok(read) => {

@@ -1,22 +1,10 @@
 // A state as bytes.
-ghost use Rattle.std.specs.Prelude.{◌≡◌, length, ◌/◌, ◌%◌};
+ghost use Rattle.std.specs.Prelude.{◌≡◌, length};
 ghost use Rattle.statebytes.specs.Bytes.{state_of, front_bytes, state_bytes};
 
 use channels::tables::scheme_of;
 use settingbytes::bytes::settings_of;
 use superframe::State;
-
-fn high_byte(x: u16) -> u8
-    ensures { result ≡ x / 256 }
-{
-    (x / 256) as u8
-}
-
-fn low_byte(x: u16) -> u8
-    ensures { result ≡ x % 256 }
-{
-    (x % 256) as u8
-}
 
 // A state from its 208 bytes.
 pub fn state_of(bytes: &[u8]) -> State
@@ -36,18 +24,21 @@ fn put_front(state: State, bytes: &mut [u8])
     ensures { bytes.new ≡ front_bytes state }
 {
     let s = state.scheme.settings;
-    bytes[0] = s.mode;
-    bytes[1] = s.occupancy;
-    bytes[2] = s.msc;
-    bytes[3] = s.levela;
-    bytes[4] = s.levelb;
-    bytes[5] = s.vspp;
-    bytes[6] = high_byte(s.x);
-    bytes[7] = low_byte(s.x);
-    bytes[8] = s.sdc;
-    bytes[9] = s.interleaving;
-    bytes[10] = state.position;
-    bytes[11] = state.count;
+    let [high, low] = s.x.to_be_bytes();
+    bytes.copy_from_slice(&[
+        s.mode,
+        s.occupancy,
+        s.msc,
+        s.levela,
+        s.levelb,
+        s.vspp,
+        high,
+        low,
+        s.sdc,
+        s.interleaving,
+        state.position,
+        state.count,
+    ]);
 }
 
 pub fn put_state(state: State, bytes: &mut [u8])

@@ -26,6 +26,6 @@ abbrev pub done : State → Result State Refusal → Done
 done old (Ok after) = record { refusal = 0; state = after }
 done old (Err r) = record { refusal = number r; state = old }
 
-abbrev pub reading : State → Result Read ReadRefusal → Reading
-reading old (Ok read) = record { answer = Finished read.frames; state = read.state }
-reading old (Err e) = record { answer = Refused (number e.refusal) e.block; state = old }
+abbrev pub read_done : State → Result Read ReadRefusal → Reading
+read_done old (Ok read) = record { answer = Finished read.frames; state = read.state }
+read_done old (Err e) = record { answer = Refused (number e.refusal) e.block; state = old }

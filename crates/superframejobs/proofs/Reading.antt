@@ -2,6 +2,7 @@
 use Prim.Native.Nat.{ℕ, ◌+◌, ◌-◌}
 use mathlib.Core.Path.{◌≡◌, refl, sym, ap, ◌∙◌}
 use mathlib.Core.Bool.{Bool, true, false}
+use Rattle.std.specs.Prelude.{cond}
 use mathlib.Core.List.{List}
 use native.Mathlib.Nat.{zero-add}
 use native.Mathlib.Omega.{arith}
@@ -39,32 +40,22 @@ unfolding job_call read_on_lent
 read_on_called state z memory cells bytes out c y e f g h = h ∙ rw (g, f, e)
 
 -- The same for either job that reads, as it is asked.
-pub either_called : (on b : Bool) → on ≡ b → (state : State) (z : SizesYield) (memory : List ℕ) (cells : List ℤ) (bytes out : List ℕ) (fac sdc msc : List ℕ) (y : JobYield)
+pub either_called : (on : Bool) (state : State) (z : SizesYield) (memory : List ℕ) (cells : List ℤ) (bytes out : List ℕ) (fac sdc msc : List ℕ) (y : JobYield)
     → z ≡ sizes_of state.scheme.settings → cells ≡ bytes_cells bytes → Enough z → fac ≡ replicate 27 0 → sdc ≡ replicate 210 0 → msc ≡ replicate 13767 0
-    → y ≡ read_by b state memory (read_at (fac_cells_length + z.sdcnumbers) cells fac (take (z.sdcbytes - 0) sdc) (take (z.mscbytes - 0) msc)) out
+    → y ≡ read_by on state memory (read_at (fac_cells_length + z.sdcnumbers) cells fac (take (z.sdcbytes - 0) sdc) (take (z.mscbytes - 0) msc)) out
     → y ≡ job_call (read_job on) state memory bytes out
-either_called on b eb state z memory cells bytes out fac sdc msc y e f h ef es em g = rw eb (go b g)
-  where
-    call : read_at (fac_cells_length + z.sdcnumbers) cells fac (take (z.sdcbytes - 0) sdc) (take (z.mscbytes - 0) msc) ≡ read_lent z cells
-    call = read-call z cells fac sdc msc h ef es em
-
-    go : (b : Bool) → y ≡ read_by b state memory (read_at (fac_cells_length + z.sdcnumbers) cells fac (take (z.sdcbytes - 0) sdc) (take (z.mscbytes - 0) msc)) out
-        → y ≡ job_call (read_job b) state memory bytes out
-    go true g = read_on_called state z memory cells bytes out _ y e f call g
-    go false g = read_called state z memory cells bytes out _ y e f call g
+either_called true state z memory cells bytes out fac sdc msc y e f h ef es em g = read_on_called state z memory cells bytes out _ y e f (read-call z cells fac sdc msc h ef es em) g
+either_called false state z memory cells bytes out fac sdc msc y e f h ef es em g = read_called state z memory cells bytes out _ y e f (read-call z cells fac sdc msc h ef es em) g
 
 -- What the calls require of the buffers: the jobs that read, with so many bytes that tell what is lost.
 pub record Reads (job : Job) (lost : ℕ) : Type 0 where
   pub input : (z : SizesYield) (g : ℕ) → input_length job z g ≡ cells_length z
   pub output : (z : SizesYield) (g : ℕ) → output_length job z g ≡ lost + (blocks_length z + 1)
 
-pub reads : (on : Bool) → on ≡ false → Reads (read_job on) 0
+pub reads : (on : Bool) → Reads (read_job on) (cond on 7 0)
 unfolding input_length output_length
-reads on e = rw e (record { input = λ z g. refl; output = λ z g. sym (zero-add (blocks_length z + 1)) })
-
-pub reads_on_lem : (on : Bool) → on ≡ true → Reads (read_job on) 7
-unfolding input_length output_length
-reads_on_lem on e = rw e (record { input = λ z g. refl; output = λ z g. refl })
+reads true = record { input = λ z g. refl; output = λ z g. refl }
+reads false = record { input = λ z g. refl; output = λ z g. sym (zero-add (blocks_length z + 1)) }
 
 pub read_room : {job : Job} {lost : ℕ} → Reads job lost → (state : State) (z : SizesYield) (bytes : List ℕ) (cells : List ℤ) (out fac sdc msc : List ℕ) → Lent job state z bytes out → cells ≡ bytes_cells bytes
     → fac ≡ replicate 27 0 → sdc ≡ replicate 210 0 → msc ≡ replicate 13767 0

@@ -1,18 +1,20 @@
 // The calls Read and, 02 S-13, `read_on` on a super frame's cells.
-ghost use Rattle.std.specs.Prelude.{◌≡◌, true, false, ◌≤◌, length, IfOk};
+// Stays, in this module: buffers stand one by one; with a struct of `&mut` a clause must also say that each reference is still the same one.
+ghost use Rattle.std.specs.Prelude.{◌≡◌, ◌≤◌, cond, length, IfOk};
 ghost use Rattle.superframe.specs.Read.{read_of};
 ghost use Rattle.jobs.specs.Clauses.{ReadRoom, read_at, BytesLeft, read_on_by, read_by};
 ghost use Rattle.jobs.specs.SuperFrame.{job_yield};
 
 use jobs::Step;
-use jobs::sizes::FAC_CELLS_LENGTH;
+use jobs::sizes::{FAC_CELLS_LENGTH, LOST_BYTES};
 use jobs::written::write_read;
 use readcall::read::read;
 use readoncall::read::read_on;
 use superframe::State;
 
-// Read on a super frame's cells, of which those of the MSC start at a place, with buffers for the bytes.
+// Either call on a super frame's cells, of which those of the MSC start at a place, with buffers for the bytes: `on` says that the job reads on.
 pub fn read_with(
+    on: bool,
     state: State,
     cells: &[i16],
     at: usize,
@@ -22,62 +24,26 @@ pub fn read_with(
     msc: &mut [u8],
     out: &mut [u8],
 ) -> Step
-    requires { ReadRoom 0 at cells.now fac.old sdc.old msc.old out.old }
+    requires { ReadRoom (cond on 7 0) at cells.now fac.old sdc.old msc.old out.old }
     ensures out_after { job_yield result memory.new out.new
-        ≡ read_by false state memory.old
+        ≡ read_by on state memory.old
         (read_at at cells.now fac.old sdc.old msc.old) out.old }
     ensures length_in_bounds { IfOk result.made (λ n. n ≤ length out.old) }
     ensures bytes_left { BytesLeft
-        (read_of state memory.old
-        (read_at at cells.now fac.old sdc.old msc.old))
+        (cond on (read_on_by state memory.old (read_at at cells.now fac.old sdc.old msc.old)).yield
+        (read_of state memory.old (read_at at cells.now fac.old sdc.old msc.old)))
         fac.new sdc.new msc.new }
 {
-    let reading = read(
-        state,
-        &cells[0..FAC_CELLS_LENGTH],
-        &cells[FAC_CELLS_LENGTH..at],
-        &cells[at..],
-        memory,
-        fac,
-        sdc,
-        msc,
-    );
+    let first = &cells[0..FAC_CELLS_LENGTH];
+    let second = &cells[FAC_CELLS_LENGTH..at];
+    let third = &cells[at..];
+    if on {
+        let mut lost = [0u8; LOST_BYTES];
+        let reading = read_on(
+            state, first, second, third, memory, fac, sdc, msc, &mut lost,
+        );
+        return write_read(reading, state, &lost, fac, sdc, msc, out);
+    }
+    let reading = read(state, first, second, third, memory, fac, sdc, msc);
     write_read(reading, state, b"", fac, sdc, msc, out)
-}
-
-// Stays: the two calls are lent different buffers (lost), so that one function for both would take a closure over all of them.
-// Reading on over a super frame's cells, of which those of the MSC start at a place, with buffers for the bytes.
-pub fn read_on_with(
-    state: State,
-    cells: &[i16],
-    at: usize,
-    memory: &mut [u8],
-    fac: &mut [u8],
-    sdc: &mut [u8],
-    msc: &mut [u8],
-    out: &mut [u8],
-) -> Step
-    requires { ReadRoom 7 at cells.now fac.old sdc.old msc.old out.old }
-    ensures out_after { job_yield result memory.new out.new
-        ≡ read_by true state memory.old
-        (read_at at cells.now fac.old sdc.old msc.old) out.old }
-    ensures length_in_bounds { IfOk result.made (λ n. n ≤ length out.old) }
-    ensures bytes_left { BytesLeft
-        (read_on_by state memory.old
-        (read_at at cells.now fac.old sdc.old msc.old)).yield
-        fac.new sdc.new msc.new }
-{
-    let mut lost = [0u8; 7];
-    let reading = read_on(
-        state,
-        &cells[0..FAC_CELLS_LENGTH],
-        &cells[FAC_CELLS_LENGTH..at],
-        &cells[at..],
-        memory,
-        fac,
-        sdc,
-        msc,
-        &mut lost,
-    );
-    write_read(reading, state, &lost, fac, sdc, msc, out)
 }

@@ -1,10 +1,11 @@
 // A super frame of a job: bytes in, bytes out.
+// Stays, in this module: buffers stand one by one; with a struct of `&mut` a clause must also say that each reference is still the same one.
 ghost use Rattle.std.specs.Prelude.{◌≡◌, ◌≤◌, length, IfOk, Ok};
 ghost use Rattle.settings.specs.Sizes.{sizes_yield};
 ghost use Rattle.jobs.specs.Clauses.{Lent, read_job};
 ghost use Rattle.jobs.specs.SuperFrame.{job_yield, job_call, job_of, reads_on};
 
-use crate::read::{read_on_with, read_with};
+use crate::read::read_with;
 use block::buffers::{MOST_MSC_BYTES, MOST_SDC_BYTES};
 use codejobs::code::code_bytes;
 use console::Job;
@@ -47,10 +48,7 @@ fn read_bytes(
     let sdc = &mut most_sdc[0..z.sdcbytes as usize];
     let msc = &mut most_msc[0..z.mscbytes as usize];
     let at = FAC_CELLS_LENGTH + z.sdcnumbers as usize;
-    if on {
-        return read_on_with(state, cells, at, memory, &mut fac, sdc, msc, out);
-    }
-    read_with(state, cells, at, memory, &mut fac, sdc, msc, out)
+    read_with(on, state, cells, at, memory, &mut fac, sdc, msc, out)
 }
 
 // A super frame of a job: its bytes come in, and what is to be written stands first in the output; a refusal leaves everything as it was.
@@ -60,8 +58,9 @@ pub fn step(job: Job, state: State, bytes: &[u8], memory: &mut [u8], out: &mut [
 {
     let z = match check_job(job, state, bytes, memory, out) {
         Ok(z) => z,
-        Err(refusal) => return refused(refusal.number(), state),
+        Err(refusal) => return refused(refusal, state),
     };
+    // Stays: the job comes from the command line as a value, and each of its functions is lent what it needs.
     match job {
         Job::Code => code_bytes(state, z, bytes, memory, out),
         Job::Read => read_bytes(false, state, z, bytes, memory, out),

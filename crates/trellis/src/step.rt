@@ -6,6 +6,7 @@ ghost use Rattle.trellis.specs.Nearest.{differs, disagreement};
 ghost use Rattle.trellis.specs.Clauses.{along, Costs, Weighs, Steps, Stepped};
 
 use component::code::parity;
+use lists::buffers::buffer;
 
 // The register has seven bits, of which the next one keeps six.
 pub const STATES: usize = 64;
@@ -44,19 +45,12 @@ fn tail_cost(values: &[u8], at: usize, register: u32) -> u16
     sum
 }
 
-// From a function of its own: proofs then take its length and do not write it out.
-fn no_costs() -> [u16; STATES]
-    ensures { length result ≡ 64 }
-{
-    [0u16; STATES]
-}
-
 // The same after every register: two registers that differ in the oldest bit go on alike.
 pub fn tail_costs(values: &[u8], at: usize) -> [u16; STATES]
     requires { at + 24 ≤ length values.now }
     ensures { Costs [] (drop at values.now) result }
 {
-    let mut costs = no_costs();
+    let mut costs: [u16; STATES] = buffer(0);
     for s in 0..STATES {
         costs[s] = tail_cost(values, at, 2 * s as u32);
     }
@@ -85,7 +79,7 @@ pub fn step(flips: &[u8], values: &[u8], j: usize, costs: &[u16; STATES]) -> Lay
     ensures { Stepped flips.now values.now j result.costs result.choices }
 {
     let flip = flips[j] as u32;
-    let mut least = no_costs();
+    let mut least: [u16; STATES] = buffer(0);
     let mut choices: u64 = 0;
     for s in (0..STATES).rev() {
         let zero = way_cost(values, 4 * j, costs, s as u32 + 64 * flip);

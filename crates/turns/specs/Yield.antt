@@ -38,6 +38,11 @@ refused number out = made_yield (made_refused number) out
 unfoldable pub bad : List ℕ → MadeYield
 bad out = made_yield made_bad out
 
+-- What a job on a line answers, in the same words, with its text at the start of a buffer.
+abbrev pub text_yield : Result (List ℕ) Failure → List ℕ → MadeYield
+text_yield (Ok text) out = through text out
+text_yield (Err failure) out = made_yield (Err failure) out
+
 -- A text by the answer of a call, 0 for acceptance.
 unfoldable pub answered : ℕ → List ℕ → List ℕ → MadeYield
 answered answer text out = cond (eqb answer 0) (through text out) (refused answer out)

@@ -29,12 +29,8 @@ pub fn gather(byte: u8, line: &mut [u8; 256], count: usize) -> usize
     ensures value { result ≡ gathered count }
     ensures upper_bound { result ≤ 256 }
 {
-    if count < 256 {
-        line[count] = byte;
-        return count + 1;
-    }
-    line[255] = byte;
-    256
+    line[count.min(255)] = byte;
+    (count + 1).min(256)
 }
 
 // After a line of so many bytes, by what ended it.

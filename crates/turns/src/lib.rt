@@ -6,6 +6,7 @@ pub mod input;
 pub mod turn;
 
 // Why a super frame, a multiplex frame or a line did not go through: refused with the number and the block, or no line of the job.
+// Stays: docs/PROMISES.md promises the `End` from a `Failure` for any number, so that a `Refusal` here would ask more.
 #[derive(Clone, Copy)]
 pub enum Failure {
     Refused(u8, u8),
@@ -24,6 +25,7 @@ pub enum End {
     // A write failed.
     Unwritten,
     // A super frame or line was refused: the number and the block.
+    // Stays: docs/PROMISES.md names `words::report::report`, which says any number, so that a `Refusal` here would ask more.
     Stopped(u8, u8),
     // No line of the job.
     BadLine,

@@ -1,8 +1,10 @@
 // What follows from a read, and from a super frame and its write: the run goes on, or its end.
-ghost use Rattle.std.specs.Prelude.{◌≡◌};
+ghost use Rattle.std.specs.Prelude.{◌≡◌, Err};
+ghost use Rattle.refusal.specs.Numbers.{number};
 ghost use Rattle.turns.specs.Turn.{after_read, after_all, after_call, after_failure, after_write};
 
 use crate::{End, Failure};
+use refusal::Refusal;
 
 // After a read of so many bytes of those wanted: `ended` says that a further read found the end of the input, and did not fail.
 #[tactic(auto, unfolding(crate::specs::Turn::after_read))]
@@ -33,15 +35,14 @@ pub fn after_all(got: usize, most: usize, ended: bool) -> Result<usize, End>
     }
 }
 
-// After a call that answered with the number of a refusal, 0 for acceptance.
-#[tactic(auto, unfolding(crate::specs::Turn::after_call))]
-pub fn after_call(number: u8) -> Result<(), End>
-    ensures { result ≡ after_call number }
-{
-    if number != 0 {
-        return Err(End::Stopped(number, 0));
+// After a call that refused, which names no block.
+impl From<Refusal> for End {
+    ghost from_gives = { λ refusal end. after_call (number refusal) ≡ Err end };
+
+    #[tactic(auto, using(refusal::proofs::Positive::number_positive), unfolding(crate::specs::Turn::after_call))]
+    fn from(refusal: Refusal) -> End {
+        End::Stopped(refusal.number(), 0)
     }
-    Ok(())
 }
 
 // After a super frame or a line that did not go through.

@@ -51,6 +51,10 @@ end_line unit end index =
 unfoldable pub report_of : Counted → End → ℕ → List ℕ
 report_of unit end count = end_line unit end count ++ unit_word unit ++ bytes_in "s: " ++ decimal count ++ bytes_in "\n"
 
+-- A thing that is refused, by the words that name it.
+unfoldable pub refused_text : List ℕ → ℕ → List ℕ
+refused_text thing number = thing ++ refused_part number 0 ++ bytes_in "\n"
+
 -- Settings that are refused.
 unfoldable pub settings_line : ℕ → List ℕ
 settings_line number = bytes_in "settings: " ++ refused_part number 0 ++ bytes_in "\n"

@@ -1,7 +1,6 @@
 -- A refusal in words: its number, and its block. 01 "Operations", and the requests of 02.
-use Rattle.std.specs.Prelude.{ℕ, cond, List, [], ◌∷◌, map, length, get_or, take, ltb, eqb}
+use Rattle.std.specs.Prelude.{ℕ, cond, List, [], ◌∷◌, map, get_or, ltb, eqb}
 use Prim.Native.String.{String}
-use Rattle.superframe.specs.Call.{joined}
 use Rattle.console.specs.Text.{bytes_in}
 
 -- What each number from 0 to 27 says, what any other number says, and what a block is.
@@ -42,14 +41,6 @@ texts =
     ∷ "MSC cells"
     ∷ "fillers"
     ∷ []
-
--- All of them, one behind the other.
-unfoldable pub text_bytes : List ℕ
-text_bytes = joined (map bytes_in texts)
-
--- Where a text starts among them; the end of the last one is start 34.
-unfoldable pub start : ℕ → ℕ
-start k = length (joined (take k (map bytes_in texts)))
 
 -- The bytes of a text by its number.
 unfoldable pub words : ℕ → List ℕ

@@ -1,36 +1,14 @@
-// What is said on standard error, written into a buffer.
+// What is said on standard error.
 ghost use Rattle.std.specs.Prelude.{◌≡◌, ◌+◌, ◌≤◌, ◌++◌, length};
-ghost use Rattle.line.specs.Written.{decimal};
-ghost use Rattle.words.specs.Clauses.{Put};
-ghost use Rattle.words.specs.Report.{block_part, refused_part, why, failed, unit_word, end_line, report_of, settings_line, usage};
+ghost use Rattle.words.specs.Report.{block_part, refused_part, why, failed, unit_word, end_line, report_of, refused_text, settings_line, usage};
 
 use crate::Counted;
 use crate::text::Text;
 use crate::texts::{block_words, refusal_words};
-use console::bytes::put_bytes;
 use turns::End;
 
-// A text from a place of a buffer on, and where it ends.
-// Stays: the jobs on lines write into a lent buffer, and turns Yield.through, refused and answered say what it holds, so they put texts at a place.
-pub fn put(text: &[u8], out: &mut [u8], at: usize) -> usize
-    requires { at + length text.now ≤ length out.old }
-    ensures { Put (length text.now) text.now out.old at result out.new }
-{
-    put_bytes(text, out, at);
-    at + text.len()
-}
-
-// A number in decimal.
-pub fn put_decimal(n: u64, out: &mut [u8], at: usize) -> usize
-    requires { at + 20 ≤ length out.old }
-    ensures { Put 20 (decimal n) out.old at result out.new }
-{
-    let mut digits = [0u8; 20];
-    let k = io::decimal(n, &mut digits);
-    put(&digits[0..k], out, at)
-}
-
 // The block of a refusal; refusals other than 13 and 14 name none.
+// Stays: docs/PROMISES.md names `report`, which says a block with any number of an `End`, so that the number is no `Refusal`.
 #[tactic(auto, using(std::proofs::Common::append_assoc), unfolding(crate::specs::Report::block_part, console::specs::Text::bytes_in, lists::specs::Lists::table))]
 fn say_block(text: &mut Text, number: u8, block: u8)
     requires { length text.old + 100 ≤ 1024 }
@@ -46,6 +24,7 @@ fn say_block(text: &mut Text, number: u8, block: u8)
 }
 
 // A refusal: its number, its words, and its block.
+// Stays: docs/PROMISES.md names `report`, which says any number of an `End`, also one that no refusal has.
 #[tactic(auto, using(std::proofs::Common::append_assoc), unfolding(crate::specs::Report::refused_part, console::specs::Text::bytes_in, lists::specs::Lists::table))]
 pub fn say_refused(text: &mut Text, number: u8, block: u8)
     requires { length text.old + 200 ≤ 1024 }
@@ -137,16 +116,27 @@ pub fn line_said(end: End, index: u64) -> Text
     text
 }
 
-// What is said of settings that are refused.
-#[tactic(auto, using(std::proofs::Common::append_assoc), unfolding(crate::specs::Report::settings_line, console::specs::Text::bytes_in, lists::specs::Lists::table))]
-pub fn settings_refused(number: u8) -> Text
-    ensures { result ≡ settings_line number }
+// What is said of a thing that is refused, by the words that name it.
+// Stays: docs/PROMISES.md names `settings_refused`, which says any number, so that this takes any.
+#[tactic(auto, using(std::proofs::Common::append_assoc), unfolding(crate::specs::Report::refused_text, console::specs::Text::bytes_in, lists::specs::Lists::table))]
+pub fn refused_said(thing: &[u8], number: u8) -> Text
+    requires { length thing.now ≤ 64 }
+    ensures { result ≡ refused_text thing.now number }
 {
     let mut text = Text::new();
-    text.put(b"settings: ");
+    text.put(thing);
     say_refused(&mut text, number, 0);
     text.put(b"\n");
     text
+}
+
+// What is said of settings that are refused.
+// Stays: docs/PROMISES.md names this function, which says any number, also one that no refusal has.
+#[tactic(auto, unfolding(crate::specs::Report::settings_line, crate::specs::Report::refused_text, console::specs::Text::bytes_in, lists::specs::Lists::table))]
+pub fn settings_refused(number: u8) -> Text
+    ensures { result ≡ settings_line number }
+{
+    refused_said(b"settings: ", number)
 }
 
 // What is said where the arguments are no job.

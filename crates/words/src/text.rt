@@ -2,12 +2,13 @@
 ghost use Rattle.std.specs.Prelude.{◌≡◌, ℕ, ◌+◌, ◌≤◌, List, [], ◌++◌, length, take};
 ghost use Rattle.line.specs.Written.{decimal};
 
-use crate::report;
+use console::bytes::put_bytes;
 use std::marker::Model;
 
 // The room for a text.
 const MOST_BYTES: usize = 1024;
 
+// Stays: the project takes nothing from the heap, so that a text is an array and how much of it counts.
 #[derive(Drop)]
 pub struct Text {
     bytes: [u8; MOST_BYTES],
@@ -42,7 +43,8 @@ impl Text {
         requires { length self.old + length text.now ≤ 1024 }
         ensures { self.new ≡ self.old ++ text.now }
     {
-        self.len = report::put(text, &mut self.bytes, self.len);
+        put_bytes(text, &mut self.bytes, self.len);
+        self.len += text.len();
     }
 
     // A number in decimal.
@@ -51,6 +53,8 @@ impl Text {
         ensures put { self.new ≡ self.old ++ decimal n }
         ensures room { length self.new ≤ length self.old + 20 }
     {
-        self.len = report::put_decimal(n, &mut self.bytes, self.len);
+        let mut digits = [0; 20];
+        let count = io::decimal(n, &mut digits);
+        self.put(&digits[..count]);
     }
 }

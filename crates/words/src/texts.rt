@@ -3,6 +3,7 @@ ghost use Rattle.std.specs.Prelude.{◌≡◌, ◌≤◌, length};
 ghost use Rattle.words.specs.Words.{refusal_words, block_words};
 
 // What a refusal's number says.
+// Stays: docs/PROMISES.md names `settings_refused`, which says any number: 0 is `accepted`, and one that no refusal has is `unknown`.
 #[tactic(auto, unfolding(crate::specs::Words::refusal_words, crate::specs::Words::words, crate::specs::Words::texts, console::specs::Text::bytes_in, lists::specs::Lists::table))]
 pub fn refusal_words(number: u8) -> &'static [u8]
     ensures value { result.now ≡ refusal_words number }
@@ -42,6 +43,7 @@ pub fn refusal_words(number: u8) -> &'static [u8]
 }
 
 // What the block of a refusal 13 or 14 is: by its place, and the rows of the MSC by the refusal.
+// Stays: docs/PROMISES.md names `report`, which says a block with any number of an `End`, so that the number is no `Refusal`.
 #[tactic(auto, unfolding(crate::specs::Words::block_words, crate::specs::Words::block_text, crate::specs::Words::words, crate::specs::Words::texts, console::specs::Text::bytes_in, lists::specs::Lists::table))]
 pub fn block_words(number: u8, block: u8) -> &'static [u8]
     ensures value { result.now ≡ block_words number block }

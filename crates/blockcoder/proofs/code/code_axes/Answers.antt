@@ -2,42 +2,18 @@
 use mathlib.Core.Path.{refl}
 use native.Mathlib.Omega.{arith}
 use Rattle.lists.proofs.Parts.{length-start}
-use Rattle.blockcoder.proofs.Coding.{axis_room, codes-axis, real_kept, behind_room, axes-kept, real_again, imaginary_again, axes-left, maps_both_axes, mapped-axes}
+use Rattle.blockcoder.proofs.Coding.{axis_room, codes-axis, behind_room, real_again, imaginary_again, axes-left, maps_both_axes, mapped-axes}
 use Rattle.blockcoder.proofs.code.code_axes.Goals as goal
-
-pub slice_bounds-code_levels-end : goal.slice_bounds-code_levels-end
-slice_bounds-code_levels-end c = axis_room c.requires.codes_parts.0
 
 pub code_levels-requires : goal.code_levels-requires
 code_levels-requires c =
     let p = c.requires.codes_parts in
     codes-axis p.0 p.1 c.requires.block_order 0 (omega arith) (length-start _ _ (axis_room p.0)) refl
 
-pub overflow_mul-n : goal.overflow_mul-n
-overflow_mul-n c = omega (arith, c.requires.codes_parts.0.fits.most)
-
-pub slice_bounds-code_levels-end-2 : goal.slice_bounds-code_levels-end-2
-slice_bounds-code_levels-end-2 c =
-    let p = c.requires.codes_parts.0 in
-    omega (arith, p.room.labelled, real_kept p c.code_levels.ensures.labels_after)
-
 pub code_levels-requires-2 : goal.code_levels-requires-2
 code_levels-requires-2 c =
     let p = c.requires.codes_parts in
     codes-axis p.0 p.1 c.requires.block_order 1 (omega arith) (behind_room p.0 c.code_levels.ensures.labels_after) c.code_levels.auto.coded
-
-pub slice_bounds-map_axes_parts-end : goal.slice_bounds-map_axes_parts-end
-slice_bounds-map_axes_parts-end c =
-    let p = c.requires.codes_parts.0 in
-    omega (arith, axis_room p, axes-kept p c.code_levels.ensures.labels_after c.code_levels-2.ensures.labels_after)
-
-pub overflow_mul-n-2 : goal.overflow_mul-n-2
-overflow_mul-n-2 c = omega (arith, c.requires.codes_parts.0.fits.most)
-
-pub slice_bounds-map_axes_parts-end-2 : goal.slice_bounds-map_axes_parts-end-2
-slice_bounds-map_axes_parts-end-2 c =
-    let p = c.requires.codes_parts.0 in
-    omega (arith, p.room.labelled, axes-kept p c.code_levels.ensures.labels_after c.code_levels-2.ensures.labels_after)
 
 pub map_axes_parts-requires : goal.map_axes_parts-requires
 map_axes_parts-requires c =
@@ -45,9 +21,6 @@ map_axes_parts-requires c =
     let r = c.code_levels.ensures.labels_after in
     let i = c.code_levels-2.ensures.labels_after in
     maps_both_axes p.0 p.1 (real_again p.0 r i) (imaginary_again p.0 r i)
-
-pub shape_of-labels : goal.shape_of-labels
-shape_of-labels c = axes-kept c.requires.codes_parts.0 c.code_levels.ensures.labels_after c.code_levels-2.ensures.labels_after
 
 pub returns : goal.returns
 returns c =

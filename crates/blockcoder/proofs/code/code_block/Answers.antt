@@ -1,9 +1,6 @@
 -- `code_block` meets its contract. Assumes nothing.
-use Rattle.blockcoder.proofs.Each.{one_lent, one_block}
+use Rattle.blockcoder.proofs.Each.{one_block}
 use Rattle.blockcoder.proofs.code.code_block.Goals as goal
-
-pub code_blocks-requires : goal.code_blocks-requires
-code_blocks-requires c = one_lent c.requires
 
 pub returns : goal.returns
 returns c = one_block c.requires c.code_blocks.ensures

@@ -11,12 +11,6 @@ bits_before-at-requires c = sums-front c.requires.codes_bits.0.fits
 pub slice_bounds-code_axes-end : goal.slice_bounds-code_axes-end
 slice_bounds-code_axes-end c = part-a c.requires.codes_bits.0 c.bits_before-at.ensures
 
-pub slice_bounds-code_axes-count-then-one_axis : goal.slice_bounds-code_axes-count-then-one_axis
-slice_bounds-code_axes-count-then-one_axis c = part-a c.requires.codes_bits.0 c.bits_before-at.ensures
-
-pub slice_bounds-code_axes-start-then-one_axis : goal.slice_bounds-code_axes-start-then-one_axis
-slice_bounds-code_axes-start-then-one_axis c = part-a c.requires.codes_bits.0 c.bits_before-at.ensures
-
 pub code_axes-requires : goal.code_axes-requires
 unfolding one_axis
 code_axes-requires c = record { codes_parts = (codes-parts c.requires.codes_bits.0 c.bits_before-at.ensures c.requires.codes_bits.1, sym c.one_axis.ensures ∙ c.if-one_axis.true); block_order = c.requires.block_order }
@@ -27,12 +21,6 @@ returns-then-one_axis c = record { out_after = axis-cells c.requires.codes_bits.
 
 pub slice_bounds-code_both-end : goal.slice_bounds-code_both-end
 slice_bounds-code_both-end c = part-a c.requires.codes_bits.0 c.bits_before-at.ensures
-
-pub slice_bounds-code_both-count-2 : goal.slice_bounds-code_both-count-2
-slice_bounds-code_both-count-2 c = part-a c.requires.codes_bits.0 c.bits_before-at.ensures
-
-pub slice_bounds-code_both-start-2 : goal.slice_bounds-code_both-start-2
-slice_bounds-code_both-start-2 c = part-a c.requires.codes_bits.0 c.bits_before-at.ensures
 
 pub code_both-requires : goal.code_both-requires
 unfolding one_axis

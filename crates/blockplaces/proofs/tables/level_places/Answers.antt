@@ -1,6 +1,6 @@
 -- `tables::level_places` meets its contract. Assumes nothing.
 use native.Mathlib.Omega.{arith}
-use Rattle.blockplaces.proofs.Orders.{counts_front, front_low, places-a, behind-written, places-b, level_ordered, level_over_lem}
+use Rattle.blockplaces.proofs.Orders.{counts_front, front_low, places-a, places-b, level_ordered, level_over_lem}
 use Rattle.blockplaces.proofs.tables.level_places.Goals as goal
 
 pub coded_length-front-requires : goal.coded_length-front-requires
@@ -14,18 +14,6 @@ slice_bounds-part_places-end c = omega (arith, front_low c.requires c.coded_leng
 
 pub part_places-requires : goal.part_places-requires
 part_places-requires c = places-a c.requires c.coded_length-front.ensures
-
-pub overflow_sub-n : goal.overflow_sub-n
-overflow_sub-n c = front_low c.requires c.coded_length-front.ensures
-
-pub offset_bounds-out-front : goal.offset_bounds-out-front
-offset_bounds-out-front c = omega (arith, front_low c.requires c.coded_length-front.ensures, c.requires.high)
-
-pub slice_bounds-part_places-count-2 : goal.slice_bounds-part_places-count-2
-slice_bounds-part_places-count-2 c = behind-written c.requires c.coded_length-front.ensures c.part_places.new.out c.part_places.auto.out
-
-pub slice_bounds-part_places-start-2 : goal.slice_bounds-part_places-start-2
-slice_bounds-part_places-start-2 c = behind-written c.requires c.coded_length-front.ensures c.part_places.new.out c.part_places.auto.out
 
 pub part_places-requires-2 : goal.part_places-requires-2
 part_places-requires-2 c = places-b c.requires c.coded_length-front.ensures c.part_places.new.out c.part_places.auto.out

@@ -1,9 +1,8 @@
 -- `rows::gather_row` meets its contract. The loop's invariant: `at` is where the slot of cell i begins, and the output holds the bytes of the cells before it.
 -- Assumes nothing.
 use mathlib.Core.Path.{refl}
-use native.Mathlib.Omega.{arith}
 use Rattle.lists.proofs.Tables.{filled-start}
-use Rattle.cellmemory.proofs.Turns.{slot_room, start_fits, stepping_start, stepping_turn, cell_there, send_turn, gather_end}
+use Rattle.cellmemory.proofs.Turns.{stepping_start, stepping_turn, cell_there, send_turn, gather_end}
 use Rattle.cellmemory.proofs.rows.gather_row.Goals as goal
 
 pub loop-i-preserved : goal.loop-i-preserved
@@ -17,29 +16,11 @@ loop-i-preserved c =
 pub returns : goal.returns
 returns c = let w = c.loop-i.invariant in gather_end _ _ _ _ _ _ _ refl w.0.upto c.loop-i-test.false w.1
 
-pub overflow_sub-last : goal.overflow_sub-last
-overflow_sub-last c = slot_room c.requires.fits
-
-pub overflow_mul-at : goal.overflow_mul-at
-overflow_mul-at c = start_fits c.requires.fits
-
 pub loop-i-init : goal.loop-i-init
 loop-i-init c = (stepping_start c.requires, filled-start _ _ _)
-
-pub offset_bounds-places-i : goal.offset_bounds-places-i
-offset_bounds-places-i c = (cell_there c.loop-i.invariant.0 c.loop-i-test.true).index_fits
-
-pub bounds-places-i : goal.bounds-places-i
-bounds-places-i c = (cell_there c.loop-i.invariant.0 c.loop-i-test.true).listed
-
-pub overflow_cast-p : goal.overflow_cast-p
-overflow_cast-p c = (cell_there c.loop-i.invariant.0 c.loop-i-test.true).place-fits
 
 pub overflow_add-out : goal.overflow_add-out
 overflow_add-out c = (cell_there c.loop-i.invariant.0 c.loop-i-test.true).sum_fits
 
 pub bounds-memory-at : goal.bounds-memory-at
 bounds-memory-at c = (cell_there c.loop-i.invariant.0 c.loop-i-test.true).cell_in
-
-pub bounds-out-i : goal.bounds-out-i
-bounds-out-i c = omega (arith, c.loop-i-test.true, c.loop-i.invariant.1.long)

@@ -45,20 +45,5 @@ overflow_sub-last c = let p = c.requires in slot_room (row_goes p.0 p.1).fits
 pub overflow_mul-at : goal.overflow_mul-at
 overflow_mul-at c = let p = c.requires in start_fits (row_goes p.0 p.1).fits
 
-pub offset_bounds-places-i : goal.offset_bounds-places-i
-offset_bounds-places-i c = (cell_there c.loop-i.invariant.0 c.loop-i-test.true).index_fits
-
-pub bounds-places-i : goal.bounds-places-i
-bounds-places-i c = (cell_there c.loop-i.invariant.0 c.loop-i-test.true).listed
-
-pub overflow_cast-p : goal.overflow_cast-p
-overflow_cast-p c = (cell_there c.loop-i.invariant.0 c.loop-i-test.true).place-fits
-
-pub overflow_mul-i : goal.overflow_mul-i
-overflow_mul-i c = let h = (cell_there c.loop-i.invariant.0 c.loop-i-test.true).index_fits in omega (arith, h.fits)
-
 pub overflow_add-at : goal.overflow_add-at
 overflow_add-at c = (cell_there c.loop-i.invariant.0 c.loop-i-test.true).sum_fits
-
-pub next_modulo-delay-requires : goal.next_modulo-delay-requires
-next_modulo-delay-requires c = c.loop-i.invariant.1.1.delayed.delay_low

@@ -2,18 +2,12 @@
 use mathlib.Core.Path.{◌≡◌, ◌∙◌, ap}
 use native.Mathlib.Omega.{arith}
 use lib.ListN.{length, length-replicate}
-use Rattle.lists.proofs.Tables.{filled-start, filled_turn, filled_end}
+use Rattle.lists.proofs.Tables.{filled_end}
 use Rattle.block.specs.Block.{no_level}
 use Rattle.channels.specs.Msc.{msc_levels}
 use Rattle.channels.proofs.Msc.{few_of}
 use Rattle.channels.proofs.Made.{six-table}
 use Rattle.channels.proofs.blocks.msc_levels.Goals as goal
-
-pub loop-i-preserved : goal.loop-i-preserved
-loop-i-preserved c =
-    let l = c in
-    let long = ap length l.no_levels-levels.ensures ∙ length-replicate 6 no_level in
-    filled_turn no_level _ _ _ _ _ (omega (arith, long)) c.msc_level.ensures l.loop-i.invariant
 
 pub returns : goal.returns
 returns c =
@@ -21,9 +15,3 @@ returns c =
     let s = l in
     let e : l.loop-i.i ≡ 6 = omega arith in
     filled_end no_level _ _ _ 6 (ap length l.no_levels-levels.ensures ∙ length-replicate 6 no_level) (rw e at l.loop-i.invariant) ∙ six-table (msc_levels s.args.s) (few_of s.requires)
-
-pub loop-i-init : goal.loop-i-init
-loop-i-init c = filled-start no_level _ _
-
-pub msc_level-requires : goal.msc_level-requires
-msc_level-requires c = record { accepted = c.requires; low = c.loop-i-test.true }

@@ -46,6 +46,3 @@ returns c =
     let rest = m.less_tail.ensures ∙ ap (λ x. x - 12) m.coded-2.ensures.value in
     level_some s.args.s s.requires.accepted s.args.k _ (omega (arith, r.rate_count.ensures, n.if-rate_count-k.false))
     (rw (coded, rest, m.rate.ensures, m.rate-2.ensures, m.msc_step.ensures, n.n_mux.ensures, n.cells_a-n1.ensures) at c.level_by.ensures)
-
-pub cells_a-n1-requires : goal.cells_a-n1-requires
-cells_a-n1-requires c = c.requires.accepted.settings.ranges.part_a

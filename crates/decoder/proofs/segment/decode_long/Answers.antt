@@ -14,8 +14,8 @@ divide-requires c =
     let s = c in
     parts-bits s.requires.0 (search rules) c.raise.ensures c.decode_columns.ensures
 
-pub register_at-last-requires : goal.register_at-last-requires
-register_at-last-requires c =
+pub register_at-register-requires : goal.register_at-register-requires
+register_at-register-requires c =
     let s = c in
     let u = c.raise.ensures in
     let f = c.decode_columns.ensures in
@@ -28,4 +28,4 @@ returns c =
     let u = c.raise.ensures in
     let f = c.decode_columns.ensures in
     let v = c.divide.ensures in
-    quotient_decoded s.requires.0 (search rules) u f v c.register_at-last.ensures (omega (arith, c.count_coded.ensures))
+    quotient_decoded s.requires.0 (search rules) u f v c.register_at-register.ensures (omega (arith, c.count_coded.ensures))

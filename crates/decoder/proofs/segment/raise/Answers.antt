@@ -22,15 +22,3 @@ pub multiply-requires-2 : goal.multiply-requires-2
 multiply-requires-2 c =
     let e = c.collect.ensures in
     (multiplied_bits (collected_bits c.requires.0.sound e.1) c.multiply.ensures, search rules, search rules)
-
-pub returns : goal.returns
-returns c =
-    let e = c.collect.ensures in
-    record {
-      firsts = _;
-      once = _;
-      long = e.0;
-      collected = e.1;
-      one = c.multiply.ensures;
-      two = c.multiply-2.ensures;
-    }

@@ -1,39 +1,37 @@
 -- `disperse` meets its contract. Assumes nothing.
+use Prim.Native.Nat.{◌+◌, ◌-◌}
+use mathlib.Core.Path.{◌≡◌}
 use native.Mathlib.Omega.{arith}
 use borrow.Author.Rules.{rules}
-use Rattle.dispersal.proofs.Periods.{start, turn, done, piece_low, piece-some, piece-ends, piece_adds}
+use Rattle.dispersal.proofs.Periods.{start, turn, done, piece_adds}
 use Rattle.dispersal.proofs.bits.disperse.Goals as goal
 
 pub add_sequence-requires : goal.add_sequence-requires
 add_sequence-requires c =
-    let s = c in
-    piece_adds s.loop-i.invariant.0 (search rules) s.min-n.ensures s.loop-i.invariant.1
-
-pub loop-i-preserved : goal.loop-i-preserved
-loop-i-preserved c =
-    let s = c in
-    (turn s.loop-i.invariant.0 (search rules) s.min-n.ensures c.add_sequence.ensures, s.loop-i.invariant.1)
+    piece_adds (start c.args.treated c.args.bits.now _ c.place_in_period-at.ensures) (omega (arith, c.min-first.ensures)) c.whole_period-sequence.ensures
 
 pub loop-i-init : goal.loop-i-init
-loop-i-init c = (start _ _ _ c.place_in_period-at.ensures, c.whole_period-sequence.ensures)
-
-pub overflow_sub-at : goal.overflow_sub-at
-overflow_sub-at c = omega (arith, c.loop-i.invariant.0.place)
-
-pub overflow_add-i : goal.overflow_add-i
-overflow_add-i c = let h = piece-ends c.loop-i.invariant.0 (search rules) c.min-n.ensures in search rules
-
-pub slice_bounds-add_sequence-end-in-loop-i : goal.slice_bounds-add_sequence-end-in-loop-i
-slice_bounds-add_sequence-end-in-loop-i c = let h = piece-ends c.loop-i.invariant.0 (search rules) c.min-n.ensures in search rules
-
-pub overflow_add-at : goal.overflow_add-at
-overflow_add-at c = let s = c in omega (arith, s.min-n.ensures, piece_low s.loop-i.invariant.0 (search rules) s.min-n.ensures)
-
-pub overflow_add-i-in-loop-i : goal.overflow_add-i-in-loop-i
-overflow_add-i-in-loop-i c = let h = piece-ends c.loop-i.invariant.0 (search rules) c.min-n.ensures in search rules
-
-pub loop-i-smaller : goal.loop-i-smaller
-loop-i-smaller c = let h = piece-ends c.loop-i.invariant.0 (search rules) c.min-n.ensures in let g = piece-some c.loop-i.invariant.0 (search rules) c.min-n.ensures in search rules
+loop-i-init c =
+    let t = turn (start c.args.treated c.args.bits.now _ c.place_in_period-at.ensures) (omega (arith, c.min-first.ensures)) c.add_sequence.ensures in
+    let e : 0 + (c.min-first.result - 0) ≡ c.min-first.result = omega arith in
+    (rw e at t, (λ h. omega (arith, t.long, c.place_in_period-at.ensures, c.min-first.ensures), c.whole_period-sequence.ensures))
 
 pub returns : goal.returns
 returns c = done c.loop-i.invariant.0 (search rules)
+
+-- a whole period more
+pub loop-i-preserved : goal.loop-i-preserved
+loop-i-preserved c =
+    let l = c.loop-i in
+    let z = l.invariant.1.0 (omega (arith, l.invariant.0.long, c.loop-i-test.true)) in
+    let t = turn (rw z at l.invariant.0) (omega (arith, c.min-end.ensures)) c.add_sequence-in-loop-i.ensures in
+    let e : l.i + (c.min-end.result - l.i) ≡ l.i + 511 = omega arith in
+    (rw e at t, (λ h. omega arith, l.invariant.1.1))
+
+-- what is left is less than one
+pub returns-2 : goal.returns-2
+returns-2 c =
+    let l = c.loop-i in
+    let z = l.invariant.1.0 (omega (arith, l.invariant.0.long, c.loop-i-test.true)) in
+    let t = turn (rw z at l.invariant.0) (omega (arith, c.min-end.ensures)) c.add_sequence-in-loop-i.ensures in
+    done t (omega (arith, t.long, l.invariant.0.long))

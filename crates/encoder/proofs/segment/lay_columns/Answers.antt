@@ -1,22 +1,7 @@
 -- `lay_columns` meets its contract. Assumes nothing.
 use borrow.Author.Rules.{rules}
-use Rattle.encoder.proofs.Rounds.{columns_there, columns-start, columns_turn, columns_done, lays_column, rest-lent}
+use Rattle.encoder.proofs.Rounds.{columns-start, columns_turn, lays_column, rest-lent}
 use Rattle.encoder.proofs.segment.lay_columns.Goals as goal
-
-pub slice_bounds-lay_column-count : goal.slice_bounds-lay_column-count
-slice_bounds-lay_column-count c =
-    let l = c in
-    let r = columns_there l.requires l.loop-i.i (search rules) in search rules
-
-pub slice_bounds-lay_column-start : goal.slice_bounds-lay_column-start
-slice_bounds-lay_column-start c =
-    let l = c in
-    let r = columns_there l.requires l.loop-i.i (search rules) in search rules
-
-pub slice_bounds-lay_column-end : goal.slice_bounds-lay_column-end
-slice_bounds-lay_column-end c =
-    let l = c in
-    let r = columns_there l.requires l.loop-i.i (search rules) in search rules
 
 pub lay_column-at-requires : goal.lay_column-at-requires
 lay_column-at-requires c =
@@ -31,9 +16,6 @@ loop-i-preserved c =
     let e = rest-lent l.args.registers.now l.loop-i.i in
     let h = c.lay_column-at.ensures in
     columns_turn l.requires l.loop-i.invariant (search rules) (rw e at h.1) h.0
-
-pub returns : goal.returns
-returns c = columns_done c.requires c.loop-i.invariant (search rules)
 
 pub loop-i-init : goal.loop-i-init
 loop-i-init c = columns-start c.requires

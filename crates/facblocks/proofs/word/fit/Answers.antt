@@ -1,6 +1,6 @@
 -- `fit` meets its contract. Assumes nothing.
 use borrow.Author.Rules.{rules}
-use Rattle.facblocks.proofs.Parameters.{test_start, test_turn, test_fails, test_done}
+use Rattle.facblocks.proofs.Parameters.{test_turn, test_fails, test_done}
 use Rattle.facblocks.proofs.word.fit.Goals as goal
 
 pub returns-then-k-parameters : goal.returns-then-k-parameters
@@ -11,6 +11,3 @@ loop-k-preserved c = test_turn c.loop-k.invariant (search rules) c.loop-k-test.t
 
 pub returns : goal.returns
 returns c = test_done c.loop-k.invariant (search rules) c.loop-k-test.false
-
-pub loop-k-init : goal.loop-k-init
-loop-k-init c = test_start _

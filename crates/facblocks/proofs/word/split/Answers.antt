@@ -16,12 +16,6 @@ overflow_cast-parameters c =
 pub nonzero_rem-parameters : goal.nonzero_rem-parameters
 nonzero_rem-parameters c = omega (arith, value-some (c.loop-k.k - 1))
 
-pub nonzero_div-left : goal.nonzero_div-left
-nonzero_div-left c = omega (arith, value-some (c.loop-k.k - 1))
-
-pub bounds-parameters-k : goal.bounds-parameters-k
-bounds-parameters-k c = omega (arith, c.loop-k.invariant.long)
-
 pub loop-k-init : goal.loop-k-init
 loop-k-init c = split_start c.args.word _ refl
 

@@ -4,7 +4,7 @@ use mathlib.Core.Bool.{false, not}
 use borrow.Author.Rules.{rules}
 use Rattle.lists.proofs.Tables.{table_is}
 use Rattle.faults.specs.Clauses.{fault_of}
-use Rattle.faults.proofs.FaultTurns.{faultless_start, faultless_turn, faultless_stop, faultless_end}
+use Rattle.faults.proofs.FaultTurns.{faultless_turn, faultless_stop, faultless_end}
 use Rattle.faults.proofs.lowest.lost_fault.Goals as goal
 
 pub returns-then-not-given-i : goal.returns-then-not-given-i
@@ -16,6 +16,3 @@ loop-i-preserved c = faultless_turn _ 7 _ _ c.loop-i-test.true refl (ap not c.if
 
 pub returns : goal.returns
 returns c = faultless_end _ 7 _ c.loop-i-test.false c.loop-i.invariant ∙ ap fault_of (table_is _ false 7 c.args.given (search rules) (λ i h. refl))
-
-pub loop-i-init : goal.loop-i-init
-loop-i-init c = faultless_start _ 7

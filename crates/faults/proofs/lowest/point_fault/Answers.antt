@@ -2,7 +2,7 @@
 use mathlib.Core.Path.{ap}
 use mathlib.Core.Bool.{not}
 use Rattle.faults.specs.Clauses.{point_test}
-use Rattle.faults.proofs.FaultTurns.{faultless_start, faultless_turn, faultless_stop, faultless_end}
+use Rattle.faults.proofs.FaultTurns.{faultless_turn, faultless_stop, faultless_end}
 use Rattle.faults.proofs.lowest.point_fault.Goals as goal
 
 pub returns-then-not-point_test : goal.returns-then-not-point_test
@@ -17,9 +17,3 @@ loop-i-preserved c =
 
 pub returns : goal.returns
 returns c = faultless_end _ 8 _ c.loop-i-test.false c.loop-i.invariant
-
-pub loop-i-init : goal.loop-i-init
-loop-i-init c = faultless_start _ 8
-
-pub point_test-requires : goal.point_test-requires
-point_test-requires c = (c.requires, c.loop-i-test.true)

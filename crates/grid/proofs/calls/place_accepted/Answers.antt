@@ -1,18 +1,13 @@
 -- `calls::place_accepted` meets its contract. Assumes nothing.
 use native.Mathlib.Omega.{arith}
-use Rattle.grid.proofs.Accepts.{third_low, kinds-fit, part_long, part-fits, part_placed}
+use Rattle.grid.proofs.Accepts.{third_low, kinds-fit, part-fits, part_placed}
 use Rattle.grid.proofs.calls.place_accepted.Goals as goal
 
-pub slice_bounds-buffer-end : goal.slice_bounds-buffer-end
-slice_bounds-buffer-end c = omega (arith, c.kind_buffer-buffer.ensures, third_low _ _ _ c.requires)
+pub slice_bounds-places-end : goal.slice_bounds-places-end
+slice_bounds-places-end c = omega (arith, c.buffer-places.ensures.long, third_low _ _ _ c.requires)
 
 pub grid_kinds-requires : goal.grid_kinds-requires
-grid_kinds-requires c = kinds-fit _ _ _ c.requires _ c.kind_buffer-buffer.ensures
-
-pub slice_bounds-place_cells-end : goal.slice_bounds-place_cells-end
-slice_bounds-place_cells-end c =
-    let b = c in
-    part_long _ _ _ b.requires _ _ b.grid_kinds.ensures b.kind_buffer-buffer.ensures
+grid_kinds-requires c = kinds-fit _ _ _ c.requires _ c.buffer-places.ensures.long
 
 pub place_cells-requires : goal.place_cells-requires
 place_cells-requires c =

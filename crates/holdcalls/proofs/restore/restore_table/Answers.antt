@@ -1,6 +1,8 @@
 -- `restore_table` meets its contract. Assumes nothing.
-use Rattle.std.proofs.Common.{refl, arith}
+use Rattle.std.proofs.Common.{refl, sym, ◌∙◌, arith}
 use Rattle.channels.specs.Scheme.{scheme_of}
+use Rattle.holdlines.proofs.FoundDigits.{found_or}
+use Rattle.holdfile.proofs.Turning.{heading_low}
 use Rattle.holdcalls.proofs.RestoreCalls.{table_long, memory_lent, refused_file, heading_there, restored_file}
 use Rattle.holdcalls.proofs.restore.restore_table.Goals as goal
 
@@ -22,5 +24,9 @@ bounds-file-1 c =
     omega (arith, heading_there c.args.form (record { scheme = scheme_of c.args.s c.args.table.now; position = 0; count = 0 }) (scheme_of c.args.s c.args.table.now) c.args.file.now c.args.memory.now _ c.in_ok-check_reset.ensures refl _ _ c.take_memory.ensures c.if-not-take_memory.false)
 
 pub returns : goal.returns
-returns c = λ old. restored_file _ old (scheme_of _ _) _ _ _ c.in_ok-check_reset.ensures refl _ _ c.take_memory.ensures _ _ _ c.if-not-take_memory.false
-    c.scheme_of.ensures c.digit_or.ensures c.digit_or-2.ensures
+returns c =
+    let t = c.take_memory.ensures in
+    let l = heading_low _ _ _ (sym t.test ∙ c.if-not-take_memory.false) in
+    let position = found_or _ _ _ l.0 c.digit_value.ensures c.unwrap_or.ensures in
+    let count = found_or _ _ _ l.1 c.digit_value-2.ensures c.unwrap_or-2.ensures in
+    λ old. restored_file _ old (scheme_of _ _) _ _ _ c.in_ok-check_reset.ensures refl _ _ t _ _ _ c.if-not-take_memory.false c.scheme_of.ensures position count

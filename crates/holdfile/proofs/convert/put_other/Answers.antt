@@ -1,7 +1,8 @@
 -- `put_other` meets its contract. Assumes nothing.
 use native.Mathlib.Omega.{arith}
+use Rattle.holdlines.proofs.FoundDigits.{found_or}
 use Rattle.holdreading.proofs.Valid.{valid_long, three_bytes}
-use Rattle.holdfile.proofs.Turning.{other_room, other_put}
+use Rattle.holdfile.proofs.Turning.{heading_low, other_room, other_put}
 use Rattle.holdfile.proofs.convert.put_other.Goals as goal
 
 pub bounds-file-0 : goal.bounds-file-0
@@ -16,9 +17,14 @@ bounds-file-1 c =
 
 pub put_file-requires : goal.put_file-requires
 put_file-requires c =
-    other_room _ _ _ _ _ c.requires _ _ c.digit_or.ensures c.digit_or-2.ensures _ c.other_form.ensures
+    let l = heading_low _ _ _ c.requires.right in
+    let position = found_or _ _ _ l.0 c.digit_value.ensures c.unwrap_or-position.ensures in
+    let count = found_or _ _ _ l.1 c.digit_value-2.ensures c.unwrap_or-count.ensures in
+    other_room _ _ _ _ _ c.requires _ _ position count _ c.other_form.ensures
 
 pub returns : goal.returns
 returns c =
-    other_put _ _ _ _ _ c.requires _ _ c.digit_or.ensures c.digit_or-2.ensures _ _ c.other_form.ensures
-    c.put_file.ensures
+    let l = heading_low _ _ _ c.requires.right in
+    let position = found_or _ _ _ l.0 c.digit_value.ensures c.unwrap_or-position.ensures in
+    let count = found_or _ _ _ l.1 c.digit_value-2.ensures c.unwrap_or-count.ensures in
+    other_put _ _ _ _ _ c.requires _ _ position count _ _ c.other_form.ensures c.put_file.ensures

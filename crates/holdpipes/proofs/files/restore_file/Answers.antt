@@ -1,9 +1,10 @@
+use Rattle.std.proofs.Common.{rules}
 use Rattle.holdpipes.specs.Begun.{blank_state}
 use Rattle.holdpipes.proofs.Begun.{restored_accepted, restored_refused}
 use Rattle.holdpipes.proofs.files.restore_file.Goals as goal
 
-pub returns-in-Ok : goal.returns-in-Ok
-returns-in-Ok c = restored_accepted c.args.s _ _ _ _ (rw c.in-Ok.is at (c.restore-restored.ensures (blank_state c.args.s)))
+pub returns : goal.returns
+returns c = restored_accepted c.args.s _ _ _ _ (c.restore.ensures (blank_state c.args.s)) (search rules)
 
-pub returns-in-Err : goal.returns-in-Err
-returns-in-Err c = rw c.number.ensures (restored_refused c.args.s _ _ _ _ (rw c.in-Err.is at (c.restore-restored.ensures (blank_state c.args.s))))
+pub returns-in_err-state : goal.returns-in_err-state
+returns-in_err-state c = restored_refused c.args.s _ _ _ c.in_err-state.field-0.0 (c.restore.ensures (blank_state c.args.s)) (search rules) c.from_residual.ensures.1

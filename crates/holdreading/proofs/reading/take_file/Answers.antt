@@ -4,6 +4,7 @@ use mathlib.Core.Path.{◌∙◌, sym, ap}
 use Rattle.cellbytes.specs.CellBytes.{numbers}
 use Rattle.pointtests.specs.PointTests.{points_pass, points_only}
 use Rattle.settings.specs.Lengths.{n_mux}
+use Rattle.holdlines.proofs.LineLengths.{depth_few}
 use Rattle.holdreading.proofs.Valid.{three_bytes, taken_short, taken_heading, lines_lent, taken_lines, taken-all}
 use Rattle.holdreading.proofs.reading.take_file.Goals as goal
 
@@ -13,7 +14,7 @@ returns-then-file-file_bytes c = taken_short _ _ _ _ (λ e. c.if-file-file_bytes
 pub heading_right-requires : goal.heading_right-requires
 heading_right-requires c =
     let s = c in
-    three_bytes s.args.form s.args.s s.args.file.now (c.if-file-file_bytes.false ∙ c.file_bytes.ensures)
+    (three_bytes s.args.form s.args.s s.args.file.now (c.if-file-file_bytes.false ∙ c.file_bytes.ensures), omega (arith, depth_few s.args.s, c.depth-depth.ensures))
 
 pub returns-then-not-heading_right : goal.returns-then-not-heading_right
 returns-then-not-heading_right c =

@@ -1,23 +1,34 @@
-use Rattle.std.proofs.Common.{ap, get_or, arith}
+-- `take_line` meets its contract. Assumes nothing.
+use Rattle.std.proofs.Common.{ap, get_or, arith, refl}
+use Rattle.holdlines.proofs.FoundDigits.{found_is, missing}
 use Rattle.holdreading.proofs.Taking.{taking-start, taking_turn, real_missing, imaginary_missing, line_taken}
 use Rattle.holdreading.proofs.reading.take_line.Goals as goal
-use Rattle.holdreading.proofs.reading.take_line.Goals.{then-re-ge-NONE-via-then-re-ge-NONE, then-re-ge-NONE-via-else-re-ge-NONE+then-im-ge-NONE}
 
 pub loop-i-init : goal.loop-i-init
 loop-i-init c = taking-start _ _ _ _ _
 
-pub returns-then-re-ge-NONE : goal.returns-then-re-ge-NONE
-returns-then-re-ge-NONE c =
+pub returns-in_default : goal.returns-in_default
+returns-in_default c =
     let l = c.loop-i in
-    elim c.then-re-ge-NONE.branch [
-      | then-re-ge-NONE-via-then-re-ge-NONE w ↦ real_missing _ _ _ _ _ l.i _ _ c.loop-i-test.true c.number_bits-re.ensures w.if-re-ge-NONE.true l.invariant
-      | then-re-ge-NONE-via-else-re-ge-NONE+then-im-ge-NONE w ↦ imaginary_missing _ _ _ _ _ l.i _ _ c.loop-i-test.true c.number_bits-im.ensures w.if-im-ge-NONE.true l.invariant
-    ]
+    real_missing _ _ _ _ _ l.i _ _ c.loop-i-test.true refl (missing _ c.in_default.ensures) l.invariant
+
+pub returns-in_default-number_bits : goal.returns-in_default-number_bits
+returns-in_default-number_bits c =
+    let l = c.loop-i in
+    imaginary_missing _ _ _ _ _ l.i _ _ c.loop-i-test.true refl (missing _ c.in_default-number_bits.ensures) l.invariant
+
+pub overflow_mul-memory : goal.overflow_mul-memory
+overflow_mul-memory c = omega (arith, (found_is _ _ c.in-Some.ensures).1)
+
+pub overflow_add-memory : goal.overflow_add-memory
+overflow_add-memory c = omega (arith, (found_is _ _ c.in-Some.ensures).1, (found_is _ _ c.in-Some-number_bits.ensures).1)
 
 pub loop-i-preserved : goal.loop-i-preserved
 loop-i-preserved c =
     let l = c.loop-i in
-    taking_turn _ _ _ _ _ l.i _ _ _ c.loop-i-test.true c.number_bits-re.ensures c.number_bits-im.ensures c.if-re-ge-NONE.false c.if-im-ge-NONE.false l.invariant
+    let re = found_is _ _ c.in-Some.ensures in
+    let im = found_is _ _ c.in-Some-number_bits.ensures in
+    taking_turn _ _ _ _ _ l.i _ _ _ c.loop-i-test.true re.0 im.0 re.1 im.1 l.invariant
 
 pub returns : goal.returns
 returns c =

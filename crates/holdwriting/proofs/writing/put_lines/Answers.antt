@@ -5,7 +5,10 @@ use Rattle.holdwriting.proofs.writing.put_lines.Goals as goal
 pub put_line-requires : goal.put_line-requires
 put_line-requires c =
     let within = line-within _ _ _ _ _ _ _ c.loop-k.k _ _ c.line_bytes-long.ensures c.loop-k-test.true c.loop-k.invariant in
-    line_room _ _ c.args.lines _ c.args.out.now _ _ _ c.requires.few (slot_in _ _ _ _ (omega arith) c.requires.cells) (omega (arith, within, c.line_bytes-long.ensures))
+    line_room _ _ c.args.lines _ c.args.out.now _ _ _ _ c.requires.few (slot_in _ _ _ _ (omega arith) c.requires.cells) c.line_bytes-long.ensures within
+
+pub slice_bounds-put_line-end-in-loop-k : goal.slice_bounds-put_line-end-in-loop-k
+slice_bounds-put_line-end-in-loop-k c = line-within _ _ _ _ _ _ _ c.loop-k.k _ _ c.line_bytes-long.ensures c.loop-k-test.true c.loop-k.invariant
 
 pub loop-k-preserved : goal.loop-k-preserved
 loop-k-preserved c =

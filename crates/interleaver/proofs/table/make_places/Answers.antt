@@ -3,20 +3,14 @@ use Prim.Native.Nat.{◌+◌, ◌*◌}
 use mathlib.Core.Path.{◌≡◌, refl}
 use native.Mathlib.Omega.{arith}
 use Rattle.interleaver.proofs.Places.{size-four}
-use Rattle.interleaver.proofs.Chains.{strides_fit, leads_second, leads_third, making_start, making_room, making_long, making_end, making_leads, making_first, making_second, making_third, making_fourth, making_turn, making_stop, turn_more}
+use Rattle.interleaver.proofs.Chains.{strides_fit, leads_second, leads_third, making_start, making_end, making_leads, making_first, making_second, making_third, making_fourth, making_turn, making_stop, turn_more}
 use Rattle.interleaver.proofs.table.make_places.Goals as goal
-
-pub overflow_mul-twice : goal.overflow_mul-twice
-overflow_mul-twice c = omega (arith, strides_fit _ _ _ _ c.requires.fits c.size_of-s.ensures c.offset_of-q.ensures)
 
 pub overflow_mul-further : goal.overflow_mul-further
 overflow_mul-further c = omega (arith, strides_fit _ _ _ _ c.requires.fits c.size_of-s.ensures c.offset_of-q.ensures)
 
 pub overflow_add-further : goal.overflow_add-further
 overflow_add-further c = omega (arith, strides_fit _ _ _ _ c.requires.fits c.size_of-s.ensures c.offset_of-q.ensures)
-
-pub overflow_mul-fourth : goal.overflow_mul-fourth
-overflow_mul-fourth c = omega (arith, strides_fit _ _ _ _ c.requires.fits c.size_of-s.ensures c.offset_of-q.ensures)
 
 pub overflow_mul-far : goal.overflow_mul-far
 overflow_mul-far c = omega (arith, strides_fit _ _ _ _ c.requires.fits c.size_of-s.ensures c.offset_of-q.ensures)
@@ -86,12 +80,6 @@ loop-turn-preserved c =
 
 pub offset_of-q-requires : goal.offset_of-q-requires
 offset_of-q-requires c = omega (arith, c.size_of-s.ensures, size-four _ _ c.requires.fits.cycles)
-
-pub bounds-out-n : goal.bounds-out-n
-bounds-out-n c = making_room c.loop-turn.invariant
-
-pub shape_of-out : goal.shape_of-out
-shape_of-out c = making_long c.loop-turn.invariant
 
 pub returns : goal.returns
 returns c = making_end c.loop-turn.invariant (making_stop c.loop-turn.invariant refl c.loop-turn-test.false)

@@ -1,8 +1,6 @@
 -- `kept::mark_lost` meets its contract. The loop's invariant: the marks before i are there. Assumes nothing.
-use mathlib.Core.Bool.{false}
 use borrow.Author.Rules.{rules}
 use Rattle.lists.proofs.Tables.{filled-start, filled_turn}
-use Rattle.keptcells.specs.ReadOn.{lost_mark}
 use Rattle.keptcells.proofs.Turns.{marks_end}
 use Rattle.keptcells.proofs.kept.mark_lost.Goals as goal
 

@@ -1,17 +1,10 @@
 -- `kinds::grid_kinds` meets its contract. The loop's invariant: the kinds of the symbols before the nth are there. Assumes nothing.
 use native.Mathlib.Omega.{arith}
-use borrow.Author.Rules.{rules}
-use Rattle.kinds.proofs.Symbols.{here, part-fits, walk_start, walk_turn, walk_done}
+use Rattle.kinds.proofs.Symbols.{here, walk_start, walk_turn, walk_done}
 use Rattle.kinds.proofs.rows.grid_kinds.Goals as goal
 
 pub loop-n-init : goal.loop-n-init
 loop-n-init c = walk_start _ _ _ _ _ c.requires c.frame_symbols-symbols.ensures c.carriers-carriers.ensures
-
-pub nonzero_div-n : goal.nonzero_div-n
-nonzero_div-n c = let h = here _ _ _ _ _ _ _ c.loop-n.invariant c.loop-n-test.true in omega arith
-
-pub nonzero_rem-n : goal.nonzero_rem-n
-nonzero_rem-n c = let h = here _ _ _ _ _ _ _ c.loop-n.invariant c.loop-n-test.true in omega arith
 
 pub overflow_mul-n : goal.overflow_mul-n
 overflow_mul-n c = let h = here _ _ _ _ _ _ _ c.loop-n.invariant c.loop-n-test.true in omega arith
@@ -22,27 +15,15 @@ overflow_mul-n-in-loop-n c = let h = here _ _ _ _ _ _ _ c.loop-n.invariant c.loo
 pub overflow_add-n : goal.overflow_add-n
 overflow_add-n c = let h = here _ _ _ _ _ _ _ c.loop-n.invariant c.loop-n-test.true in omega arith
 
-pub slice_bounds-symbol_kinds-count : goal.slice_bounds-symbol_kinds-count
-slice_bounds-symbol_kinds-count c = search rules
-
-pub slice_bounds-symbol_kinds-start : goal.slice_bounds-symbol_kinds-start
-slice_bounds-symbol_kinds-start c = search rules
-
 pub slice_bounds-symbol_kinds-end : goal.slice_bounds-symbol_kinds-end
 slice_bounds-symbol_kinds-end c =
     let h = here _ _ _ _ _ _ _ c.loop-n.invariant c.loop-n-test.true in
     omega (arith, h.end, c.loop-n.invariant.filled.long)
 
-pub symbol_kinds-requires : goal.symbol_kinds-requires
-symbol_kinds-requires c = part-fits _ _ _ _ _ _ _ c.loop-n.invariant c.loop-n-test.true
-
 pub loop-n-preserved : goal.loop-n-preserved
 loop-n-preserved c =
     let l = c in
     walk_turn _ _ _ _ _ _ l.loop-n.n l.loop-n.invariant _ c.loop-n-test.true c.symbol_kinds.ensures
-
-pub shape_of-out : goal.shape_of-out
-shape_of-out c = c.loop-n.invariant.filled.long
 
 pub returns : goal.returns
 returns c = let l = c in walk_done _ _ _ _ _ _ l.loop-n.n l.loop-n.invariant c.loop-n-test.false

@@ -4,4 +4,4 @@ use Rattle.kinds.proofs.Paints.{Marking}
 use Rattle.kinds.proofs.rows.paint.Given as goal
 
 abbrev pub invariant-loop-i : goal.invariant-loop-i
-invariant-loop-i l = Marking (carrier_list l.mode l.list) l.kind l.initial.row l.carriers l.end l.row l.i
+invariant-loop-i l = Marking (carrier_list l.mode l.list) l.number l.initial.row l.carriers l.end l.row l.i

@@ -27,16 +27,16 @@ loop-k-smaller c =
     omega (arith, c.loop-k.invariant.0, spacing-some _ b.requires.mode_low, c.loop-k-test.true, c.loop-k.invariant.1.filled.long)
 
 -- one gain reference more
-turn : {mode symbol k step : ℕ} {d row : List ℕ} → mode < 4 → length row ≡ length d → k < length d → (step ≡ spacing mode) × Gains mode symbol d row k
-    → (step ≡ spacing mode) × Gains mode symbol d (set row k 3) (k + step)
-turn {mode} {symbol} {k} {step} {d} {row} h l low I = (I.0, rw I.0 (gains_turn mode symbol d row k h low I.1))
+turn : {mode symbol k step number : ℕ} {d row : List ℕ} → number ≡ 3 → mode < 4 → length row ≡ length d → k < length d → (step ≡ spacing mode) × Gains mode symbol d row k
+    → (step ≡ spacing mode) × Gains mode symbol d (set row k number) (k + step)
+turn {mode} {symbol} {k} {step} {number} {d} {row} e h l low I = (I.0, rw (e, I.0) (gains_turn mode symbol d row k h low I.1))
 
 pub loop-k-preserved : goal.loop-k-preserved
-loop-k-preserved c = turn c.requires.mode_low c.loop-k.auto.row c.loop-k-test.true c.loop-k.invariant
+loop-k-preserved c = turn c.number-number.ensures c.requires.mode_low c.loop-k.auto.row c.loop-k-test.true c.loop-k.invariant
 
 pub returns-2 : goal.returns-2
 returns-2 c =
-    let t = turn c.requires.mode_low c.loop-k.auto.row c.loop-k-test.true c.loop-k.invariant in
+    let t = turn c.number-number.ensures c.requires.mode_low c.loop-k.auto.row c.loop-k-test.true c.loop-k.invariant in
     gains_done _ _ _ _ (c.loop-k.k + c.spacing-k-step.result) (omega arith) t.1
 
 pub shape_of-row : goal.shape_of-row

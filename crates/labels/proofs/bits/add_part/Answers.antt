@@ -3,9 +3,6 @@ use Rattle.labels.proofs.Mixing.{mixed_plain}
 use Rattle.labels.proofs.Ordering.{gathers_part, added-part}
 use Rattle.labels.proofs.bits.add_part.Goals as goal
 
-pub add_plain-requires : goal.add_plain-requires
-add_plain-requires c = rw c.if-t-eq0.true at c.requires.0
-
 pub returns-then-t-eq0 : goal.returns-then-t-eq0
 returns-then-t-eq0 c = rw (mixed_plain _ _ c.if-t-eq0.true) c.add_plain.ensures
 

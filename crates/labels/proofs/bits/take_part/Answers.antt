@@ -3,9 +3,6 @@ use Rattle.labels.proofs.Mixing.{unmixed_plain}
 use Rattle.labels.proofs.Ordering.{scatters_part, taken-part}
 use Rattle.labels.proofs.bits.take_part.Goals as goal
 
-pub take_plain-requires : goal.take_plain-requires
-take_plain-requires c = rw c.if-t-eq0.true at c.requires.0
-
 pub returns-then-t-eq0 : goal.returns-then-t-eq0
 returns-then-t-eq0 c = rw (unmixed_plain _ _ c.if-t-eq0.true) c.take_plain.ensures
 

@@ -1,9 +1,6 @@
 -- `code::code_a` meets its contract. Assumes nothing.
-use Rattle.level.proofs.OneLevel.{a_encodes, within_order, within-coded, within_labels, adds_a, coded-a}
+use Rattle.level.proofs.OneLevel.{within_order, within-coded, within_labels, adds_a, coded-a}
 use Rattle.level.proofs.code.code_a.Goals as goal
-
-pub encode-coder-requires : goal.encode-coder-requires
-encode-coder-requires c = a_encodes c.requires
 
 pub slice_bounds-add_part-end : goal.slice_bounds-add_part-end
 slice_bounds-add_part-end c = within_order c.requires c.encode-coder.ensures
@@ -19,6 +16,3 @@ add_part-requires c = adds_a c.requires c.encode-coder.ensures
 
 pub returns : goal.returns
 returns c = record { coded_a = coded-a c.requires c.encode-coder.ensures c.add_part.ensures; coded_after = c.encode-coder.ensures.written }
-
-pub shape_of-coded : goal.shape_of-coded
-shape_of-coded c = c.encode-coder.auto.out

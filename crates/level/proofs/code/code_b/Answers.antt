@@ -7,9 +7,3 @@ add_part-requires c = adds_b c.requires c.encode_b.ensures
 
 pub returns : goal.returns
 returns c = record { labels_after = coded-b c.requires c.encode_b.ensures c.add_part.ensures; coded_after = c.encode_b.ensures }
-
-pub encode_b-requires : goal.encode_b-requires
-encode_b-requires c = c.requires.encodes
-
-pub shape_of-coded : goal.shape_of-coded
-shape_of-coded c = c.encode_b.auto.out

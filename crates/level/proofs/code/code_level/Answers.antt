@@ -1,5 +1,4 @@
 -- `code::code_level` meets its contract: part A is added to the first labels, part B to those behind them. Assumes nothing.
-use mathlib.Core.Path.{◌∙◌}
 use native.Mathlib.Omega.{arith}
 use Rattle.level.proofs.OneLevel.{codes-a, place_low, behind_order, behind-a, codes-b, coded_level, over_level}
 use Rattle.level.proofs.code.code_level.Goals as goal
@@ -27,6 +26,3 @@ code_b-requires c = codes-b c.requires c.code_a-coder.ensures.coded_a c.code_a-c
 
 pub returns : goal.returns
 returns c = record { labels_after = coded_level c.requires c.code_a-coder.ensures.coded_a c.code_b.ensures.labels_after; coded_after = over_level c.requires c.code_a-coder.ensures.coded_a c.code_a-coder.ensures.coded_after c.code_b.ensures.coded_after }
-
-pub shape_of-coded : goal.shape_of-coded
-shape_of-coded c = c.code_b.auto.coded ∙ c.code_a-coder.auto.coded

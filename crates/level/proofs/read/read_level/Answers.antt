@@ -1,8 +1,5 @@
 -- `read::read_level` meets its contract: part A from the first labels, part B from those behind them. Assumes nothing.
-use mathlib.Core.Path.{◌∙◌}
-use native.Mathlib.Nat.{le-add_right}
-use native.Mathlib.Omega.{arith}
-use Rattle.level.proofs.OneRead.{counts, fits-a, fits-b, first_order, first_labels, reads-a, end_b_lem, reads-b, over-parts, level_read}
+use Rattle.level.proofs.OneRead.{counts, first_order, first_labels, reads-a, end_b_lem, reads-b, over-parts, level_read}
 use Rattle.level.proofs.read.read_level.Goals as goal
 
 pub coded_length-front-requires : goal.coded_length-front-requires
@@ -14,29 +11,8 @@ slice_bounds-read_part-end c = first_order c.requires c.coded_length-front.ensur
 pub slice_bounds-read_part-end-2 : goal.slice_bounds-read_part-end-2
 slice_bounds-read_part-end-2 c = first_labels c.requires c.coded_length-front.ensures
 
-pub overflow_add-at : goal.overflow_add-at
-overflow_add-at c = record { fits = fits-a c.requires }
-
 pub read_part-register-requires : goal.read_part-register-requires
 read_part-register-requires c = reads-a c.requires c.coded_length-front.ensures
-
-pub offset_bounds-places-front : goal.offset_bounds-places-front
-offset_bounds-places-front c = omega (arith, first_labels c.requires c.coded_length-front.ensures, c.requires.high)
-
-pub slice_bounds-read_part-count-4 : goal.slice_bounds-read_part-count-4
-slice_bounds-read_part-count-4 c = first_order c.requires c.coded_length-front.ensures
-
-pub slice_bounds-read_part-start-4 : goal.slice_bounds-read_part-start-4
-slice_bounds-read_part-start-4 c = first_order c.requires c.coded_length-front.ensures
-
-pub slice_bounds-read_part-count-5 : goal.slice_bounds-read_part-count-5
-slice_bounds-read_part-count-5 c = first_labels c.requires c.coded_length-front.ensures
-
-pub slice_bounds-read_part-start-5 : goal.slice_bounds-read_part-start-5
-slice_bounds-read_part-start-5 c = first_labels c.requires c.coded_length-front.ensures
-
-pub overflow_add-from : goal.overflow_add-from
-overflow_add-from c = record { fits = fits-b c.requires }
 
 pub slice_bounds-read_part-end-6 : goal.slice_bounds-read_part-end-6
 slice_bounds-read_part-end-6 c = end_b_lem c.requires c.coded_length-front.ensures c.read_part-register.ensures.part_read
@@ -44,26 +20,8 @@ slice_bounds-read_part-end-6 c = end_b_lem c.requires c.coded_length-front.ensur
 pub read_part-requires : goal.read_part-requires
 read_part-requires c = reads-b c.requires c.coded_length-front.ensures c.read_part-register.ensures.part_read c.read_part-register.auto.coded
 
-pub shape_of-coded : goal.shape_of-coded
-shape_of-coded c = c.read_part.auto.coded ∙ c.read_part-register.auto.coded
-
-pub shape_of-bits : goal.shape_of-bits
-shape_of-bits c = (level_read c.requires c.coded_length-front.ensures c.read_part-register.ensures.part_read c.read_part.ensures.part_read).1
-
 pub returns : goal.returns
 returns c = record { bits_after = (level_read c.requires c.coded_length-front.ensures c.read_part-register.ensures.part_read c.read_part.ensures.part_read).0; coded_after = over-parts c.requires c.coded_length-front.ensures c.read_part-register.ensures.part_read c.read_part-register.ensures.coded_after c.read_part.ensures.coded_after }
 
-pub slice_bounds-read_part-count-3 : goal.slice_bounds-read_part-count-3
-slice_bounds-read_part-count-3 c = le-add_right _ _
-
-pub slice_bounds-read_part-start-3 : goal.slice_bounds-read_part-start-3
-slice_bounds-read_part-start-3 c = le-add_right _ _
-
 pub slice_bounds-read_part-end-3 : goal.slice_bounds-read_part-end-3
 slice_bounds-read_part-end-3 c = c.requires.end_a
-
-pub slice_bounds-read_part-count-6 : goal.slice_bounds-read_part-count-6
-slice_bounds-read_part-count-6 c = le-add_right _ _
-
-pub slice_bounds-read_part-start-6 : goal.slice_bounds-read_part-start-6
-slice_bounds-read_part-start-6 c = le-add_right _ _

@@ -1,10 +1,12 @@
+use mathlib.Core.Path.{◌∙◌}
 use native.Mathlib.Omega.{arith}
 use Rattle.line.proofs.Digits.{line_byte, settings_made}
 use Rattle.line.proofs.read.settings_in.Goals as goal
 
 pub returns : goal.returns
 returns c =
-    settings_made _ _ _ _ _ _ _ _ _ _ _ c.byte_at.ensures c.byte_at-2.ensures c.byte_at-3.ensures
+    c.settings_of.ensures
+    ∙ settings_made _ _ _ _ _ _ _ _ _ _ _ c.byte_at.ensures c.byte_at-2.ensures c.byte_at-3.ensures
     c.byte_at-4.ensures c.byte_at-5.ensures c.byte_at-6.ensures c.byte_at-high.ensures
     c.byte_at-low.ensures c.byte_at-7.ensures c.byte_at-8.ensures
 

@@ -1,22 +1,13 @@
-use native.Mathlib.Omega.{arith}
-use Rattle.words.proofs.Answers.{answers}
+use mathlib.Core.Path.{refl}
+use Rattle.words.proofs.Answers.{no_refusal_zero}
 use Rattle.linejobs.proofs.Found.{line_short, line-bad, line-found}
 use Rattle.linejobs.proofs.received.nearest_line.Goals as goal
 
 pub returns-then-line-ne-FAC_NUMBERS : goal.returns-then-line-ne-FAC_NUMBERS
-returns-then-line-ne-FAC_NUMBERS c = let b = c.bad.ensures in let both = answers b tt (line_short _ _ c.if-line-ne-FAC_NUMBERS.true) in record { out_after = both.0; length_bound = both.1 }
+returns-then-line-ne-FAC_NUMBERS c = λ out. line_short _ out c.if-line-ne-FAC_NUMBERS.true
 
-pub returns-then-not-find : goal.returns-then-not-find
-returns-then-not-find c =
-    let b = c.bad-then-not-find.ensures in
-    let f = c in
-    let n = f in
-    let both = answers b tt (line-bad _ n.args.out.now _ _ _ n.if-line-ne-FAC_NUMBERS.false f.find.ensures c.if-not-find.true) in record { out_after = both.0; length_bound = both.1 }
+pub returns-in_default : goal.returns-in_default
+returns-in_default c = λ out. line-bad _ out _ _ _ _ c.if-line-ne-FAC_NUMBERS.false c.read_values.ensures c.in_default.ensures (no_refusal_zero c.in_default.field-0)
 
 pub returns : goal.returns
-returns c =
-    let b = c.through.ensures in
-    let p = c.put_found.ensures in
-    let f = c in
-    let n = f in
-    let both = answers b (omega (arith, p.within)) (line-found _ n.args.out.now _ _ _ n.if-line-ne-FAC_NUMBERS.false f.find.ensures c.if-not-find.false _ _ p) in record { out_after = both.0; length_bound = both.1 }
+returns c = λ out. line-found _ out _ _ _ _ c.if-line-ne-FAC_NUMBERS.false c.read_values.ensures c.in-Ok.ensures refl _ c.found_text.ensures

@@ -12,4 +12,4 @@ returns c =
     let at = c.begins-at.result in
     let l = take (at + c.numerator-width.result - at) (drop at c.args.kept.now) in
     let e : IsTrue c.all.result ↔ EachIndex l (λ k. get_or l k 0 ≡ 1) = search rules in
-    first_row-is c.args.kept.now c.args.rate at c.numerator-width.result _ c.requires.0 c.requires.1 c.begins-at.ensures.0 c.numerator-width.ensures.0 e
+    first_row-is c.args.kept.now c.args.rate at c.numerator-width.result _ (search rules) c.requires c.begins-at.ensures.0 c.numerator-width.ensures.0 e

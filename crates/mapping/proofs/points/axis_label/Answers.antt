@@ -5,4 +5,4 @@ use Rattle.mapping.proofs.points.axis_label.Goals as goal
 pub returns : goal.returns
 returns c =
     let s = c in
-    number_read s.args.c s.args.a s.requires s.args.v _ _ s.ranges.v c.axis_labels-labels.ensures c.label_of.ensures
+    number_read s.args.c s.args.a s.requires s.args.v _ _ s.ranges.v c.axis_labels.ensures c.label_of.ensures

@@ -1,8 +1,6 @@
 -- `map_axes` meets its contract. Assumes nothing.
 use mathlib.Core.Path.{sym, ◌∙◌}
-use native.Mathlib.Omega.{arith}
 use borrow.Author.Rules.{rules, sfits_of}
-use lib.ListN.{length-set}
 use mir.Syntax.{w16}
 use mir.Facts.{to_z-of_z}
 use Rattle.mapping.proofs.Coordinates.{start, turn, done, weave_even, weave_odd}
@@ -11,16 +9,6 @@ use Rattle.mapping.proofs.points.map_axes.Goals as goal
 
 pub loop-k-init : goal.loop-k-init
 loop-k-init c = start _ _ _ (c.requires.same ∙ sym (length-weave _ _))
-
-pub coordinate_of-requires : goal.coordinate_of-requires
-coordinate_of-requires c =
-    let l = c in
-    (l.axis_labelling-real.ensures.fits, l.requires.low_real.low l.loop-k.k)
-
-pub coordinate_of-requires-in-loop-k : goal.coordinate_of-requires-in-loop-k
-coordinate_of-requires-in-loop-k c =
-    let l = c in
-    (l.axis_labelling-imaginary.ensures.fits, l.requires.low_imaginary.low l.loop-k.k)
 
 pub loop-k-preserved : goal.loop-k-preserved
 loop-k-preserved c =
@@ -38,9 +26,6 @@ loop-k-preserved c =
     (sym (weave_odd s.args.re.now s.args.im.now k (search rules)))
     (to_z-of_z {w = w16} (sfits_of {w = w16} one.type_inv) ∙ one.ensures ∙ l.axis_labelling-real.ensures.each _ (s.requires.low_real.low k))
     (to_z-of_z {w = w16} (sfits_of {w = w16} two.type_inv) ∙ two.ensures ∙ l.axis_labelling-imaginary.ensures.each _ (s.requires.low_imaginary.low k))
-
-pub bounds-out-k-in-loop-k : goal.bounds-out-k-in-loop-k
-bounds-out-k-in-loop-k c = simp length-set (omega arith)
 
 pub returns : goal.returns
 returns c = done c.loop-k.invariant (search rules)

@@ -7,7 +7,7 @@ use lib.ListN.{length, get_or}
 use lib.IntN.{ℤ, pos}
 use mir.Syntax.{w16}
 use mir.Facts.{to_z-of_z}
-use Rattle.lists.proofs.Tables.{filled-start, filled_turn, filled_end}
+use Rattle.lists.proofs.Tables.{filled_turn, filled_end}
 use Rattle.block.specs.Mapping.{constellation}
 use Rattle.mapping.specs.Labels.{coordinates}
 use Rattle.mapping.proofs.Coordinates.{alike}
@@ -31,9 +31,3 @@ returns c =
     let s = c in
     let e : l.k ≡ length s.args.labels.now = omega arith in
     filled_end _ _ _ _ _ s.requires.same (rw e at l.invariant)
-
-pub loop-k-init : goal.loop-k-init
-loop-k-init c = filled-start _ _ _
-
-pub coordinate_of-requires : goal.coordinate_of-requires
-coordinate_of-requires c = (c.axis_labelling-l.ensures.fits, c.requires.low.low c.loop-k.k)

@@ -1,7 +1,7 @@
 -- `unmap_axis` meets its contract. Assumes nothing.
 use borrow.Author.Rules.{rules, sfits_of}
 use mir.Syntax.{w16}
-use Rattle.mapping.proofs.Labels.{number_read, axis-start, axis_turn, axis_done}
+use Rattle.mapping.proofs.Labels.{number_read, axis_turn, axis_done}
 use Rattle.mapping.proofs.points.unmap_axis.Goals as goal
 
 pub loop-k-preserved : goal.loop-k-preserved
@@ -12,6 +12,3 @@ loop-k-preserved c =
 
 pub returns : goal.returns
 returns c = axis_done c.loop-k.invariant (search rules) c.requires.same
-
-pub loop-k-init : goal.loop-k-init
-loop-k-init c = axis-start _ _ _ _

@@ -6,7 +6,7 @@ use borrow.Author.Rules.{rules, sfits_of}
 use lib.ListN.{length, get_or}
 use lib.IntN.{ℤ, pos}
 use mir.Syntax.{w16}
-use Rattle.lists.proofs.Tables.{filled-start, filled_turn, filled_end}
+use Rattle.lists.proofs.Tables.{filled_turn, filled_end}
 use Rattle.block.specs.Reading.{place_of, labels_of}
 use Rattle.mapping.proofs.Coordinates.{alike}
 use Rattle.mapping.proofs.Labels.{number_read}
@@ -28,6 +28,3 @@ returns c =
     let s = c in
     let e : l.k ≡ length s.args.cells.now = omega (arith, s.requires.same) in
     filled_end _ _ _ _ _ s.requires.same (rw e at l.invariant)
-
-pub loop-k-init : goal.loop-k-init
-loop-k-init c = filled-start _ _ _

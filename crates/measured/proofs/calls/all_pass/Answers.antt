@@ -1,7 +1,7 @@
 -- `all_pass` meets its contract. Assumes nothing.
 use borrow.Author.Rules.{rules}
 use Rattle.measured.specs.Calls.{pass}
-use Rattle.lists.proofs.Tests.{tested_start, tested_end}
+use Rattle.lists.proofs.Tests.{tested_end}
 use Rattle.measured.proofs.Accepts.{pass_stop, pass_turn}
 use Rattle.measured.proofs.calls.all_pass.Goals as goal
 
@@ -18,6 +18,3 @@ loop-k-preserved c =
 pub returns : goal.returns
 unfolding pass
 returns c = tested_end _ _ _ c.loop-k-test.false c.loop-k.invariant
-
-pub loop-k-init : goal.loop-k-init
-loop-k-init c = tested_start _ _

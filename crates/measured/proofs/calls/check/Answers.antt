@@ -1,6 +1,6 @@
 -- `check` meets its contract. Assumes nothing.
 use native.Mathlib.Omega.{arith}
-use Rattle.measured.proofs.Accepts.{bits_most, bits-some, refused-values, lent_two, refused_room, refused-cells, not-refused}
+use Rattle.measured.proofs.Accepts.{bits_most, bits-some, refused-values, refused_room, refused-cells, not-refused}
 use Rattle.measured.proofs.calls.check.Goals as goal
 
 pub returns-then-not-are_each : goal.returns-then-not-are_each
@@ -18,11 +18,6 @@ returns-then-not-are_each-2 c =
     let b = w in
     let i = b in
     refused_room _ _ _ _ _ _ i.are_each.ensures i.if-not-are_each.false _ _ _ w.axis_bits.ensures b.are_each-2.ensures c.are_each-3.ensures c.if-not-are_each-2.true
-
-pub all_pass-requires : goal.all_pass-requires
-all_pass-requires c =
-    let i = c in
-    lent_two _ _ _ i.are_each.ensures i.if-not-are_each.false
 
 pub returns-then-not-all_pass : goal.returns-then-not-all_pass
 returns-then-not-all_pass c =

@@ -1,6 +1,6 @@
 -- `decide_by` meets its contract. Assumes nothing.
 use mathlib.Core.Path.{refl}
-use Rattle.measured.proofs.Accepts.{accepted_points, accepted-bits, by_accepted}
+use Rattle.measured.proofs.Accepts.{accepted_points, accepted-bits}
 use Rattle.measured.proofs.calls.decide_by.Goals as goal
 
 pub decide_points-requires : goal.decide_points-requires
@@ -13,10 +13,3 @@ decide_bits-requires c =
     let d = c in
     let i = d in
     accepted-bits _ _ _ _ _ _ c.in_ok-check.ensures refl _ _ refl d.decide_points.ensures
-
-pub returns : goal.returns
-returns c =
-    let b = c in
-    let d = b in
-    let i = d in
-    by_accepted _ _ _ _ _ _ c.in_ok-check.ensures refl _ _ d.decide_points.ensures b.decide_bits.ensures

@@ -6,15 +6,10 @@ use mir.Val.{to_z, of_z}
 use mir.Facts.{to_z-of_z}
 use borrow.Author.Rules.{rules, sfits_of}
 use lib.IntN.{pos}
-use Rattle.lists.proofs.Tables.{filled-start, filled_turn}
+use Rattle.lists.proofs.Tables.{filled_turn}
 use Rattle.measured.specs.Calls.{point_at}
 use Rattle.measured.proofs.Accepts.{cell_passed, points_done}
 use Rattle.measured.proofs.calls.decide_points.Goals as goal
-
-pub cell_at-requires : goal.cell_at-requires
-cell_at-requires c =
-    let p = c.requires in
-    record { lent = p.lent; low = omega (arith, p.room, c.loop-m-test.true, c.loop-m.invariant.0.long) }
 
 pub point-requires : goal.point-requires
 point-requires c =
@@ -36,6 +31,3 @@ pub returns : goal.returns
 returns c =
     let l = c in
     points_done _ _ _ _ _ _ l.requires.room l.loop-m.invariant.1 (omega (arith, l.loop-m.invariant.0.long, c.loop-m-test.false)) l.loop-m.invariant.0
-
-pub loop-m-init : goal.loop-m-init
-loop-m-init c = (filled-start (pos 0) _ _, search rules)

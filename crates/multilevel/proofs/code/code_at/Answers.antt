@@ -1,18 +1,8 @@
 -- `code::code_at` meets its contract. Assumes nothing.
-use native.Mathlib.Nat.{le-add_right}
 use native.Mathlib.Omega.{arith}
 use Rattle.blockplaces.specs.Clauses.{level_at}
-use Rattle.multilevel.proofs.Partition.{place-fits, place_room, sums-a, sums-b, ends-a, ends-b, codes_level, coded_is, over_at}
+use Rattle.multilevel.proofs.Partition.{place_room, sums-a, sums-b, ends-a, ends-b, codes_level, coded_is, over_at}
 use Rattle.multilevel.proofs.code.code_at.Goals as goal
-
-pub overflow_mul-start : goal.overflow_mul-start
-overflow_mul-start c = omega (arith, place-fits c.requires.level c.digit.ensures)
-
-pub overflow_add-start : goal.overflow_add-start
-overflow_add-start c = omega (arith, place-fits c.requires.level c.digit.ensures, c.requires.level.high)
-
-pub offset_bounds-places-start : goal.offset_bounds-places-start
-offset_bounds-places-start c = omega (arith, place-fits c.requires.level c.digit.ensures)
 
 pub slice_bounds-code_level-end : goal.slice_bounds-code_level-end
 slice_bounds-code_level-end c = place_room c.requires.level c.digit.ensures
@@ -41,35 +31,8 @@ pub returns : goal.returns
 unfolding level_at
 returns c = record { labels_after = coded_is c.requires c.bits_before-at.ensures c.bits_before-from.ensures c.code_level.ensures.labels_after; coded_after = over_at c.requires c.bits_before-at.ensures c.bits_before-from.ensures c.code_level.ensures.coded_after }
 
-pub bounds-k-l : goal.bounds-k-l
-bounds-k-l c = c.requires.level.there
-
 pub bits_before-at-requires : goal.bits_before-at-requires
 bits_before-at-requires c = sums-a c.requires.level
 
 pub bits_before-from-requires : goal.bits_before-from-requires
 bits_before-from-requires c = sums-b c.requires.level
-
-pub slice_bounds-code_level-count : goal.slice_bounds-code_level-count
-slice_bounds-code_level-count c = le-add_right _ _
-
-pub slice_bounds-code_level-start : goal.slice_bounds-code_level-start
-slice_bounds-code_level-start c = le-add_right _ _
-
-pub slice_bounds-code_level-count-2 : goal.slice_bounds-code_level-count-2
-slice_bounds-code_level-count-2 c = le-add_right _ _
-
-pub slice_bounds-code_level-start-2 : goal.slice_bounds-code_level-start-2
-slice_bounds-code_level-start-2 c = le-add_right _ _
-
-pub slice_bounds-code_level-count-3 : goal.slice_bounds-code_level-count-3
-slice_bounds-code_level-count-3 c = le-add_right _ _
-
-pub slice_bounds-code_level-start-3 : goal.slice_bounds-code_level-start-3
-slice_bounds-code_level-start-3 c = le-add_right _ _
-
-pub shape_of-coded : goal.shape_of-coded
-shape_of-coded c = c.code_level.auto.coded
-
-pub shape_of-labels : goal.shape_of-labels
-shape_of-labels c = c.code_level.auto.labels

@@ -4,12 +4,8 @@ use mathlib.Core.Path.{◌≡◌, ◌∙◌}
 use native.Mathlib.Nat.{sub-zero}
 use native.Mathlib.Omega.{arith}
 use Rattle.lists.proofs.Tables.{replicate-table}
-use Rattle.multilevel.proofs.Turns.{weight_low, next_near}
-use Rattle.multilevel.proofs.Summing.{start, codes_at, turned, over-start, over-turned, some-step, few_by, labels_done, coded_done}
+use Rattle.multilevel.proofs.Summing.{start, codes_at, turned, over-start, over-turned, few_by, labels_done, coded_done}
 use Rattle.multilevel.proofs.code.code_levels.Goals as goal
-
-pub nonzero_div-turn-end : goal.nonzero_div-turn-end
-nonzero_div-turn-end c = omega (arith, some-step _ c.sharing-step.ensures)
 
 pub loop-turn-init : goal.loop-turn-init
 loop-turn-init c = rw sub-zero (start (few_by _ c.sharing-step.ensures c.requires) ((c.fill.ensures.after (λ y e. e)) ∙ replicate-table 0 0 _) c.fill.auto.self, over-start)
@@ -17,23 +13,11 @@ loop-turn-init c = rw sub-zero (start (few_by _ c.sharing-step.ensures c.require
 pub code_at-requires : goal.code_at-requires
 code_at-requires c = codes_at c.loop-turn.invariant.0 (omega arith) c.requires.input_a c.requires.input_b (omega (arith, c.requires.buffer, c.fill.auto.self, c.loop-turn.invariant.1.same))
 
-pub overflow_add-l : goal.overflow_add-l
-overflow_add-l c = omega (arith, next_near c.loop-turn.invariant.0.turn (omega arith) (few_by _ c.sharing-step.ensures c.requires))
-
-pub overflow_mul-weight : goal.overflow_mul-weight
-overflow_mul-weight c = omega (arith, weight_low c.loop-turn.invariant.0.turn (omega arith))
-
 pub loop-turn-preserved : goal.loop-turn-preserved
 loop-turn-preserved c =
     let m = c.args.k.count / c.sharing-step.result in
     let e : m - (c.loop-turn.turn + 1) ≡ m - c.loop-turn.turn - 1 = omega arith in
     rw e (turned c.loop-turn.invariant.0 (omega arith) c.code_at.ensures.labels_after, over-turned c.loop-turn.invariant.1 (omega arith) c.code_at.auto.coded c.code_at.ensures.coded_after)
-
-pub shape_of-coded : goal.shape_of-coded
-shape_of-coded c = c.loop-turn.invariant.1.same
-
-pub shape_of-labels : goal.shape_of-labels
-shape_of-labels c = c.loop-turn.invariant.0.long ∙ c.fill.auto.self
 
 pub returns : goal.returns
 returns c = record { labels_after = labels_done _ c.sharing-step.ensures c.loop-turn.invariant.0 (omega arith) c.fill.auto.self; coded_after = coded_done _ c.sharing-step.ensures c.loop-turn.invariant.1 (omega arith) }

@@ -1,5 +1,5 @@
 -- `bits_before` meets its contract. Assumes nothing.
-use mathlib.Core.Path.{◌≡◌, refl, ◌∙◌}
+use mathlib.Core.Path.{refl}
 use native.Mathlib.Omega.{arith}
 use borrow.Author.Rules.{rules}
 use Rattle.blockplaces.specs.Clauses.{level_at}
@@ -22,9 +22,3 @@ unfolding level_at
 loop-i-preserved c =
     let l = c.loop-i in
     rw c.bits_in-sum.ensures (before-next _ _ l.i _ l.invariant)
-
-pub returns : goal.returns
-returns c =
-    let l = c.loop-i in
-    let e : l.i ≡ c.args.l = omega arith in
-    l.invariant ∙ rw e

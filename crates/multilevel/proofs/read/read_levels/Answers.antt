@@ -3,25 +3,14 @@ use Prim.Native.Nat.{◌+◌, ◌-◌, ◌/◌}
 use mathlib.Core.Path.{◌≡◌, refl}
 use native.Mathlib.Nat.{sub-zero}
 use native.Mathlib.Omega.{arith}
-use Rattle.multilevel.proofs.Summing.{some-step}
-use Rattle.multilevel.proofs.Turns.{weight_low, next_near}
 use Rattle.multilevel.proofs.LevelsRead.{start, reads_at, turned, done}
 use Rattle.multilevel.proofs.read.read_levels.Goals as goal
-
-pub nonzero_div-turn-end : goal.nonzero_div-turn-end
-nonzero_div-turn-end c = some-step _ c.sharing-step.ensures
 
 pub loop-turn-init : goal.loop-turn-init
 loop-turn-init c = rw sub-zero (start c.requires c.sharing-step.ensures refl)
 
 pub read_at-requires : goal.read_at-requires
 read_at-requires c = reads_at c.requires c.loop-turn.invariant (omega arith)
-
-pub overflow_add-l : goal.overflow_add-l
-overflow_add-l c = omega (arith, next_near c.loop-turn.invariant.turn (omega arith) c.loop-turn.invariant.few)
-
-pub overflow_mul-weight : goal.overflow_mul-weight
-overflow_mul-weight c = omega (arith, weight_low c.loop-turn.invariant.turn (omega arith))
 
 pub loop-turn-preserved : goal.loop-turn-preserved
 loop-turn-preserved c =
@@ -32,9 +21,3 @@ loop-turn-preserved c =
 
 pub returns : goal.returns
 returns c = let both = done c.requires c.loop-turn.invariant c.sharing-step.ensures refl (omega arith) in record { levels_read = both.0; coded_after = both.1 }
-
-pub shape_of-coded : goal.shape_of-coded
-shape_of-coded c = c.loop-turn.invariant.same_coded
-
-pub shape_of-bits : goal.shape_of-bits
-shape_of-bits c = c.loop-turn.invariant.same

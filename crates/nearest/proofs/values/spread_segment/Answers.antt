@@ -2,14 +2,8 @@
 use native.Mathlib.Omega.{arith}
 use borrow.Author.Rules.{rules}
 use Rattle.component.specs.Codeword.{following}
-use Rattle.nearest.proofs.Spreading.{segment-start, segment_turn, segment_done}
+use Rattle.nearest.proofs.Spreading.{segment_turn, segment_done}
 use Rattle.nearest.proofs.values.spread_segment.Goals as goal
-
-pub spread_column-at-requires : goal.spread_column-at-requires
-spread_column-at-requires c =
-    let l = c in
-    let pre = l.requires in
-    record { four = pre.sound.four l.loop-j.i l.loop-j.invariant.column; few = search rules; room = search rules }
 
 pub loop-j-preserved : goal.loop-j-preserved
 unfolding following
@@ -28,6 +22,3 @@ pub returns : goal.returns
 returns c =
     let p = c in
     segment_done p.requires.sound c.loop-j.invariant (search rules) (omega (arith, p.requires.whole))
-
-pub loop-j-init : goal.loop-j-init
-loop-j-init c = segment-start _ _ _ _ _ c.requires.sound

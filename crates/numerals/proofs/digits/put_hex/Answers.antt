@@ -1,23 +1,25 @@
-use native.Mathlib.Nat.{zero-add}
-use native.Mathlib.Omega.{arith}
-use lib.ListN.{length-set}
-use Rattle.std.proofs.Common.{◌≡◌, length, ◌∙◌}
+use Rattle.std.proofs.Common.{◌≡◌, ◌+◌, ap, ◌∙◌, ◌++◌, arith, append_assoc, length}
+use mathlib.Core.List.{append-nil}
+use lib.ListN.{length-append}
 use Rattle.numerals.specs.Digits.{hex_digits}
-use Rattle.console.proofs.Copied.{copied_more, copied_all}
-use Rattle.numerals.proofs.Hex.{digits_long, digit_there}
+use Rattle.numerals.proofs.Hex.{digits_long, digits_all, digits_more, digits_none}
 use Rattle.numerals.proofs.digits.put_hex.Goals as goal
 
-pub loop-k-preserved : goal.loop-k-preserved
-loop-k-preserved c =
-    let l = c.loop-k in
-    let x = c.args.bytes.now in
-    let h = c.loop-k-test.true in
-    let m = copied_more 0 _ (hex_digits x) l.out 0 l.k _ (omega (arith, h, digits_long x)) (digit_there x l.k _ h c.digit.ensures) l.invariant.0 in
-    (rw zero-add at m, length-set l.out _ _ ∙ l.invariant.1)
+pub loop-byte-init : goal.loop-byte-init
+loop-byte-init c = (ap (λ d. c.args.text.now ++ d) (digits_all c.args.bytes.now), omega (arith, c.requires))
+
+pub loop-byte-preserved : goal.loop-byte-preserved
+loop-byte-preserved c =
+    let l = c.loop-byte in
+    let i = l.invariant in
+    let e = digits_more c.args.bytes.now l.byte-index c.loop-byte-test.true in
+    let w = rw e at i.0 in
+    let n : length c.put.new.self ≡ length l.text + 2 = rw (c.put.ensures, length-append) in
+    (rw (c.put.ensures, c.digit.ensures, c.digit-in-loop-byte.ensures, append_assoc) w, omega (arith, i.1, n, c.loop-byte-test.true))
 
 pub returns : goal.returns
 returns c =
-    let l = c.loop-k in
-    let x = c.args.bytes.now in
-    let e : l.k ≡ length (hex_digits x) = omega (arith, digits_long x) in
-    copied_all 0 _ (hex_digits x) _ _ l.k e l.invariant.0
+    let l = c.loop-byte in
+    let b = c.args.bytes.now in
+    let w : l.text ≡ c.args.text.now ++ hex_digits b = rw (digits_none b l.byte-index c.loop-byte-test.false, append-nil l.text) at l.invariant.0 in
+    record { put = w; room = ap length w ∙ length-append c.args.text.now (hex_digits b) ∙ ap (λ n. length c.args.text.now + n) (digits_long b) }

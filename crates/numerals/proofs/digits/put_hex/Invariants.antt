@@ -1,7 +1,8 @@
-use Rattle.std.proofs.Common.{◌≡◌, length, take}
-use lib.Seq.{sets}
+use Rattle.std.proofs.Common.{◌≡◌, ◌+◌, ◌-◌, ◌*◌, ◌≤◌, ◌++◌, length}
 use Rattle.numerals.specs.Digits.{hex_digits}
+use Rattle.numerals.proofs.Hex.{digits_from}
 use Rattle.numerals.proofs.digits.put_hex.Given as goal
 
-abbrev pub invariant-loop-k : goal.invariant-loop-k
-invariant-loop-k l = (l.out ≡ sets l.initial.out 0 (take l.k (hex_digits l.bytes))) × (length l.out ≡ length l.initial.out)
+abbrev pub invariant-loop-byte : goal.invariant-loop-byte
+invariant-loop-byte l =
+    (l.text ++ digits_from l.bytes l.byte-index ≡ l.initial.text ++ hex_digits l.bytes) × (length l.text + 2 * (length l.bytes - l.byte-index) ≤ 1024)

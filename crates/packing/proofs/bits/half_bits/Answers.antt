@@ -2,7 +2,7 @@
 use mathlib.Core.Path.{◌≡◌, refl}
 use native.Mathlib.Omega.{arith}
 use borrow.Author.Rules.{rules}
-use Rattle.lists.proofs.Tables.{filled-start, filled_turn, filled_end}
+use Rattle.lists.proofs.Tables.{filled_turn, filled_end}
 use Rattle.packing.specs.Clauses.{half_bit}
 use Rattle.packing.proofs.bits.half_bits.Goals as goal
 
@@ -17,6 +17,3 @@ returns c =
     let l = c.loop-k in
     let e : l.k ≡ 64 = omega arith in
     filled_end 0 half_bit _ l.bits 64 l.invariant.2 (rw e at l.invariant.0)
-
-pub loop-k-init : goal.loop-k-init
-loop-k-init c = (filled-start 0 _ _, search rules, refl)

@@ -1,9 +1,8 @@
 -- `pack` meets its contract. Assumes nothing.
 use mathlib.Core.Path.{◌≡◌}
 use native.Mathlib.Omega.{arith}
-use borrow.Author.Rules.{rules}
 use lib.ListN.{length}
-use Rattle.lists.proofs.Tables.{filled-start, filled_turn, filled_end}
+use Rattle.lists.proofs.Tables.{filled_end}
 use Rattle.block.specs.Packing.{packed}
 use Rattle.lists.specs.Bytes.{bytes_for}
 use Rattle.packing.proofs.bits.pack.Goals as goal
@@ -17,11 +16,6 @@ pub overflow_mul-k : goal.overflow_mul-k
 unfolding bytes_for
 overflow_mul-k c = let P = c.requires in omega (arith, P.same, P.few)
 
-pub loop-k-preserved : goal.loop-k-preserved
-loop-k-preserved c =
-    let l = c.loop-k in
-    (filled_turn 0 _ _ l.out l.k _ (search rules) c.byte_from.ensures l.invariant.0, search rules)
-
 pub returns : goal.returns
 unfolding packed
 returns c =
@@ -29,6 +23,3 @@ returns c =
     let P = c.requires in
     let e : l.k ≡ bytes_for (length c.args.bits.now) = omega (arith, P.same, l.invariant.1) in
     filled_end 0 _ _ l.out _ P.same (rw e at l.invariant.0)
-
-pub loop-k-init : goal.loop-k-init
-loop-k-init c = (filled-start 0 _ _, search rules)

@@ -3,4 +3,4 @@ use Rattle.placing.proofs.Taking.{Taking}
 use Rattle.placing.proofs.cells.take_cells.Given as goal
 
 abbrev pub invariant-loop-p : goal.invariant-loop-p
-invariant-loop-p l = Taking l.kind l.kinds l.grid l.initial.out l.out l.p l.n
+invariant-loop-p l = Taking l.mark l.kinds l.grid l.initial.out l.out l.p l.n

@@ -2,12 +2,12 @@ use Rattle.std.proofs.Common.{refl, arith, rules, tests, slice_index_or}
 use Rattle.std.proofs.lemmas.Iterator.{YieldsList-from_range}
 use Rattle.std.proofs.lemmas.Iterator.Search.{all_from_yields_List}
 use Rattle.plan.specs.Rules.{rules_of, no_rule}
-use Rattle.plan.specs.Clauses.{first_once, firsts_once}
+use Rattle.plan.specs.Clauses.{found_in, first_once, firsts_once}
 use Rattle.plan.proofs.Loops.{tests-all}
 use Rattle.plan.proofs.refusals.firsts_once.Goals as goal
 
 pub returns : goal.returns
-unfolding firsts_once
+unfolding firsts_once first_once found_in
 returns c =
     let plan = rules_of c.args.rules.now in
     tests-all (first_once plan) plan _ _ c.count.ensures

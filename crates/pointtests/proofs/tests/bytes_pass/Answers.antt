@@ -14,7 +14,7 @@ use Rattle.pointtests.proofs.tests.bytes_pass.Goals as goal
 pub loop-cell-preserved : goal.loop-cell-preserved
 loop-cell-preserved c =
     let l = c in
-    passed_turn _ _ _ _ _ (search rules) (byte_read _ _ _ l.loop-cell.cell-index _ _ l.largest-top.ensures (search rules) c.byte_passes-passed.ensures) l.loop-cell.invariant
+    passed_turn _ _ _ _ _ (search rules) (byte_read _ _ _ l.loop-cell.cell-index _ _ l.largest-top.ensures.reaches (search rules) c.byte_passes-passed.ensures) l.loop-cell.invariant
 
 pub returns : goal.returns
 unfolding points_pass
@@ -27,4 +27,4 @@ pub loop-cell-init : goal.loop-cell-init
 loop-cell-init c = passed_start _ _
 
 pub byte_passes-passed-requires : goal.byte_passes-passed-requires
-byte_passes-passed-requires c = c.largest-top.ensures.low
+byte_passes-passed-requires c = c.largest-top.ensures.reaches.low

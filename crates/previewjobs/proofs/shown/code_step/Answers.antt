@@ -9,9 +9,7 @@ pub returns-in-Err : goal.returns-in-Err
 returns-in-Err c =
     let a = c.args in
     let r = c.refused.ensures in
-    let n = c.number.ensures in
-    let e = n ∙ c.in-Err.ensures.refused in
-    record { out_after = r.by_index a.memory.now a.out.now ∙ job_refused Code a.state a.memory.now a.bytes.now a.out.now _ e (λ h. omega (arith, h, n, number_positive c.in-Err.refusal)); length_in_bounds = rw r.nothing_written tt }
+    record { out_after = r.by_index a.memory.now a.out.now ∙ job_refused Code a.state a.memory.now a.bytes.now a.out.now _ c.in-Err.ensures.refused (λ h. omega (arith, h, number_positive c.in-Err.refusal)); length_in_bounds = rw r.nothing_written tt }
 
 pub code_bytes-requires : goal.code_bytes-requires
 code_bytes-requires c =

@@ -11,8 +11,8 @@ pub read_blocks-blocks-requires : goal.read_blocks-blocks-requires
 read_blocks-blocks-requires c =
     let p = c.requires in
     let e = c.copy_from_slice.ensures.after in
-    blocks_lent _ _ _ p _ _ _ _ (front_is _ _ _ (ap length e) ∙ e) c.fac_buffer-facwork.ensures.long (length-start _ _ (omega (arith, c.sdc_buffer-sdcwork.ensures.long, sdc_most_lem _ _ _ p)))
-    (length-start _ _ (omega (arith, c.msc_buffer-mscwork.ensures.long, msc_most _ _ _ p)))
+    blocks_lent _ _ _ p _ _ _ _ (front_is _ _ _ (ap length e) ∙ e) c.buffer-facwork.ensures.long (length-start _ _ (omega (arith, c.buffer-sdcwork.ensures.long, sdc_most_lem _ _ _ p)))
+    (length-start _ _ (omega (arith, c.buffer-mscwork.ensures.long, msc_most _ _ _ p)))
 
 pub returns-in-Some : goal.returns-in-Some
 returns-in-Some c =
@@ -23,8 +23,8 @@ returns-in-Some c =
 pub returns : goal.returns
 returns c =
     let w : length c.read_blocks-blocks.new.memory ≡ length c.args.memory.now = c.read_blocks-blocks.auto.memory ∙ length-start _ _ (front_in _ c.copy_from_slice.new.self _ (ap length c.copy_from_slice.ensures.after)) in
-    let d : length c.read_blocks-blocks.new.sdc ≡ length c.args.sdc.now = c.read_blocks-blocks.auto.sdc ∙ length-start _ _ (omega (arith, c.sdc_buffer-sdcwork.ensures.long, sdc_most_lem _ _ _ c.requires)) in
-    let m : length c.read_blocks-blocks.new.msc ≡ length c.args.msc.now = c.read_blocks-blocks.auto.msc ∙ length-start _ _ (omega (arith, c.msc_buffer-mscwork.ensures.long, msc_most _ _ _ c.requires)) in
+    let d : length c.read_blocks-blocks.new.sdc ≡ length c.args.sdc.now = c.read_blocks-blocks.auto.sdc ∙ length-start _ _ (omega (arith, c.buffer-sdcwork.ensures.long, sdc_most_lem _ _ _ c.requires)) in
+    let m : length c.read_blocks-blocks.new.msc ≡ length c.args.msc.now = c.read_blocks-blocks.auto.msc ∙ length-start _ _ (omega (arith, c.buffer-mscwork.ensures.long, msc_most _ _ _ c.requires)) in
     let b = c in
     let e = b.copy_from_slice.ensures.after in
     accepted_blocks _ _ _ c.requires _ _ _ _ (front_is _ _ _ (ap length e) ∙ e) _ _ _ _ _ b.read_blocks-blocks.ensures _ c.lost_fault.ensures c.in_default.is _ _ _ _
@@ -59,25 +59,25 @@ copy_from_slice-requires-2 c =
 
 pub copy_from_slice-requires-3 : goal.copy_from_slice-requires-3
 copy_from_slice-requires-3 c =
-    let f : length c.read_blocks-blocks.new.fac ≡ 27 = c.read_blocks-blocks.auto.fac ∙ c.fac_buffer-facwork.ensures.long in
+    let f : length c.read_blocks-blocks.new.fac ≡ 27 = c.read_blocks-blocks.auto.fac ∙ c.buffer-facwork.ensures.long in
     fac_room _ _ _ c.requires ∙ sym f
 
 pub slice_bounds-copy_from_slice-end-3 : goal.slice_bounds-copy_from_slice-end-3
 slice_bounds-copy_from_slice-end-3 c =
-    let d : length c.read_blocks-blocks.new.sdc ≡ length c.args.sdc.now = c.read_blocks-blocks.auto.sdc ∙ length-start _ _ (omega (arith, c.sdc_buffer-sdcwork.ensures.long, sdc_most_lem _ _ _ c.requires)) in
+    let d : length c.read_blocks-blocks.new.sdc ≡ length c.args.sdc.now = c.read_blocks-blocks.auto.sdc ∙ length-start _ _ (omega (arith, c.buffer-sdcwork.ensures.long, sdc_most_lem _ _ _ c.requires)) in
     front_in _ c.read_blocks-blocks.new.sdc _ d
 
 pub copy_from_slice-requires-4 : goal.copy_from_slice-requires-4
 copy_from_slice-requires-4 c =
-    let d : length c.read_blocks-blocks.new.sdc ≡ length c.args.sdc.now = c.read_blocks-blocks.auto.sdc ∙ length-start _ _ (omega (arith, c.sdc_buffer-sdcwork.ensures.long, sdc_most_lem _ _ _ c.requires)) in
+    let d : length c.read_blocks-blocks.new.sdc ≡ length c.args.sdc.now = c.read_blocks-blocks.auto.sdc ∙ length-start _ _ (omega (arith, c.buffer-sdcwork.ensures.long, sdc_most_lem _ _ _ c.requires)) in
     sym (length-start _ _ (front_in _ c.read_blocks-blocks.new.sdc _ d))
 
 pub slice_bounds-copy_from_slice-end-4 : goal.slice_bounds-copy_from_slice-end-4
 slice_bounds-copy_from_slice-end-4 c =
-    let m : length c.read_blocks-blocks.new.msc ≡ length c.args.msc.now = c.read_blocks-blocks.auto.msc ∙ length-start _ _ (omega (arith, c.msc_buffer-mscwork.ensures.long, msc_most _ _ _ c.requires)) in
+    let m : length c.read_blocks-blocks.new.msc ≡ length c.args.msc.now = c.read_blocks-blocks.auto.msc ∙ length-start _ _ (omega (arith, c.buffer-mscwork.ensures.long, msc_most _ _ _ c.requires)) in
     front_in _ c.read_blocks-blocks.new.msc _ m
 
 pub copy_from_slice-requires-5 : goal.copy_from_slice-requires-5
 copy_from_slice-requires-5 c =
-    let m : length c.read_blocks-blocks.new.msc ≡ length c.args.msc.now = c.read_blocks-blocks.auto.msc ∙ length-start _ _ (omega (arith, c.msc_buffer-mscwork.ensures.long, msc_most _ _ _ c.requires)) in
+    let m : length c.read_blocks-blocks.new.msc ≡ length c.args.msc.now = c.read_blocks-blocks.auto.msc ∙ length-start _ _ (omega (arith, c.buffer-mscwork.ensures.long, msc_most _ _ _ c.requires)) in
     sym (length-start _ _ (front_in _ c.read_blocks-blocks.new.msc _ m))

@@ -13,7 +13,7 @@ slice_bounds-kept-end c = let h = cells_most _ _ _ _ _ _ _ _ c.requires in searc
 pub keep_cells-requires : goal.keep_cells-requires
 keep_cells-requires c =
     let p = c.requires in
-    cells-kept _ _ _ _ _ _ _ _ p _ (length-start _ _ (omega (arith, cells_most _ _ _ _ _ _ _ _ p, c.cell_buffer-kept.ensures.long)))
+    cells-kept _ _ _ _ _ _ _ _ p _ (length-start _ _ (omega (arith, cells_most _ _ _ _ _ _ _ _ p, c.buffer-kept.ensures.long)))
 
 pub slice_bounds-read_blocks-end : goal.slice_bounds-read_blocks-end
 slice_bounds-read_blocks-end c = let k = c.keep_cells in front_in _ k.new.out _ (ap length k.ensures ∙ kept_long _ _)

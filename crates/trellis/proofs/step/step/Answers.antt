@@ -11,7 +11,7 @@ overflow_cast-flip c = let a = c in omega (arith, a.requires.bits.bit a.args.j)
 pub loop-s-init : goal.loop-s-init
 loop-s-init c =
     let a = c in
-    (layering_start _ _ _ _ c.no_costs-least.ensures, a.requires.bits.bit a.args.j)
+    (layering_start _ _ _ _ c.buffer-least.ensures.long, a.requires.bits.bit a.args.j)
 
 pub way_cost-zero-requires : goal.way_cost-zero-requires
 way_cost-zero-requires c =

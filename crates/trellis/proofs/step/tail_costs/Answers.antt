@@ -9,12 +9,12 @@ use Rattle.trellis.proofs.step.tail_costs.Goals as goal
 pub loop-s-preserved : goal.loop-s-preserved
 loop-s-preserved c =
     let l = c.loop-s in
-    (filled_turn 0 _ _ l.costs l.s _ (omega (arith, c.no_costs-costs.ensures)) c.tail_cost.ensures l.invariant.0, search rules)
+    (filled_turn 0 _ _ l.costs l.s _ (omega (arith, c.buffer-costs.ensures.long)) c.tail_cost.ensures l.invariant.0, search rules)
 
 pub returns : goal.returns
 returns c =
     let a = c in
-    tail_costs (drop a.args.at a.args.values.now) c.no_costs-costs.ensures (search rules) c.loop-s.invariant.0
+    tail_costs (drop a.args.at a.args.values.now) c.buffer-costs.ensures.long (search rules) c.loop-s.invariant.0
 
 pub loop-s-init : goal.loop-s-init
 loop-s-init c = (filled-start 0 _ _, search rules)
