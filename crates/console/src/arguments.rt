@@ -1,7 +1,7 @@
 // What the arguments ask for: a job, and settings in twenty hexadecimal digits.
 ghost use Rattle.std.specs.Prelude.{◌≡◌};
 ghost use Rattle.console.specs.declared.NotStarted.{NotStarted};
-ghost use Rattle.console.specs.Arguments.{settings_word, started, start_yield, begun_with, fewest_of, most_of_frames, most_of, counted, begun, begun_plain, start_of};
+ghost use Rattle.console.specs.Arguments.{settings_word, started, start_yield, begun_with, fewest_of, most_of, counted, begun, begun_plain, start_of};
 
 use crate::bytes::put_bytes;
 use crate::names::named;
@@ -57,52 +57,37 @@ fn begin_with(job: SettingsJob, s: Settings) -> Result<Start, NotStarted>
     Ok(started(job, s))
 }
 
-// The fewest arguments of a job, the program's name and the job's among them.
-#[tactic(auto, unfolding(crate::specs::Arguments::fewest_of))]
-fn fewest_of(job: SettingsJob) -> usize
-    ensures { result ≡ fewest_of job }
-{
-    // Stays: the job comes from the command line as a value, so that a `match` says what it needs.
-    match job {
-        SettingsJob::Frames(_) | SettingsJob::Turn(_) => 3,
-        SettingsJob::FacBuild | SettingsJob::FacRead => 3,
-        SettingsJob::Multiplex(_) | SettingsJob::Preview | SettingsJob::Fit => 4,
+// How many arguments are taken, the program's name and the job's among them.
+#[derive(Clone, Copy)]
+struct Taken {
+    fewest: usize,
+    most: usize,
+}
+
+impl Taken {
+    // Whether there are no fewer arguments and no more.
+    #[tactic(auto, unfolding(crate::specs::Arguments::counted))]
+    fn has(self, count: usize) -> bool
+        ensures { result ≡ counted count self.fewest self.most }
+    {
+        (self.fewest <= count) & (count <= self.most)
     }
 }
 
-// The most arguments of a job on super frames.
-// Stays: a number for each job; no two numbers are compared here, so that `max` has no place.
-#[tactic(auto, unfolding(crate::specs::Arguments::most_of_frames))]
-fn most_of_frames(job: Job) -> usize
-    ensures { result ≡ most_of_frames job }
+// How many a job takes.
+#[tactic(auto, unfolding(crate::specs::Arguments::fewest_of, crate::specs::Arguments::most_of, crate::specs::Arguments::most_of_frames))]
+fn taken_by(job: SettingsJob) -> Taken
+    ensures fewest { result.fewest ≡ fewest_of job }
+    ensures most { result.most ≡ most_of job }
 {
-    // Stays: the job comes from the command line as a value, so that a `match` says what it may have.
-    match job {
-        Job::Code => 5,
-        Job::Read | Job::ReadOn | Job::Grid | Job::Ungrid => 3,
-    }
-}
-
-// The most arguments of a job.
-// Stays: a number for each job; no two numbers are compared here, so that `max` has no place.
-#[tactic(auto, unfolding(crate::specs::Arguments::most_of))]
-fn most_of(job: SettingsJob) -> usize
-    ensures { result ≡ most_of job }
-{
-    // Stays: the job comes from the command line as a value, so that a `match` says what it may have.
-    match job {
-        SettingsJob::Frames(frames) => most_of_frames(frames),
-        SettingsJob::FacBuild | SettingsJob::FacRead | SettingsJob::Turn(_) => 3,
-        SettingsJob::Multiplex(_) | SettingsJob::Preview | SettingsJob::Fit => 4,
-    }
-}
-
-// Whether there are no fewer arguments and no more.
-#[tactic(auto, unfolding(crate::specs::Arguments::counted))]
-fn counted(count: usize, fewest: usize, most: usize) -> bool
-    ensures { result ≡ counted count fewest most }
-{
-    (fewest <= count) & (count <= most)
+    // Stays: the job comes from the command line as a value, so that a `match` says what it takes.
+    let (fewest, most) = match job {
+        SettingsJob::Frames(Job::Code) => (3, 5),
+        SettingsJob::Frames(_) | SettingsJob::Turn(_) => (3, 3),
+        SettingsJob::FacBuild | SettingsJob::FacRead => (3, 3),
+        SettingsJob::Multiplex(_) | SettingsJob::Preview | SettingsJob::Fit => (4, 4),
+    };
+    Taken { fewest, most }
 }
 
 // A job with so many arguments, the program's name and the job's among them.
@@ -110,7 +95,7 @@ fn counted(count: usize, fewest: usize, most: usize) -> bool
 fn begin(job: SettingsJob, count: usize, digits: &[u8]) -> Result<Start, NotStarted>
     ensures { start_yield result ≡ begun job count digits.now }
 {
-    if !counted(count, fewest_of(job), most_of(job)) {
+    if !taken_by(job).has(count) {
         return Err(NotStarted::Usage);
     }
     let s = settings_word(digits).ok_or(NotStarted::Usage)?;
@@ -119,10 +104,10 @@ fn begin(job: SettingsJob, count: usize, digits: &[u8]) -> Result<Start, NotStar
 
 // A job that has no settings, with so many arguments.
 #[tactic(auto, unfolding(crate::specs::Arguments::begun_plain))]
-fn begin_plain(start: Start, count: usize, fewest: usize, most: usize) -> Result<Start, NotStarted>
-    ensures { start_yield result ≡ begun_plain start count fewest most }
+fn begin_plain(start: Start, count: usize, taken: Taken) -> Result<Start, NotStarted>
+    ensures { start_yield result ≡ begun_plain start count taken.fewest taken.most }
 {
-    if !counted(count, fewest, most) {
+    if !taken.has(count) {
         return Err(NotStarted::Usage);
     }
     Ok(start)
@@ -136,8 +121,11 @@ pub fn start(count: usize, word: &[u8], digits: &[u8]) -> Result<Start, NotStart
     // Stays: the job comes from the command line as a word, so that a `match` on what it names says how it begins.
     match named(word) {
         Some(Named::Has(job)) => begin(job, count, digits),
-        Some(Named::Nearest) => begin_plain(Start::Lines(LineJob::Nearest), count, 2, 2),
-        Some(Named::Plan) => begin_plain(Start::Plan, count, 3, 4),
+        Some(Named::Nearest) => {
+            let taken = Taken { fewest: 2, most: 2 };
+            begin_plain(Start::Lines(LineJob::Nearest), count, taken)
+        }
+        Some(Named::Plan) => begin_plain(Start::Plan, count, Taken { fewest: 3, most: 4 }),
         None => Err(NotStarted::Usage),
     }
 }

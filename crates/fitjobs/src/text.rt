@@ -2,7 +2,7 @@
 ghost use Rattle.std.specs.Prelude.{◌≡◌, ℕ, ◌++◌, ◌+◌, ◌≤◌, List, length};
 ghost use Rattle.line.specs.Written.{decimal};
 ghost use Rattle.turns.specs.Yield.{text_yield};
-ghost use Rattle.fitjobs.specs.Fit.{counts_text, time_text, fit_text, fit_of};
+ghost use Rattle.fitjobs.specs.Fit.{fit_text, fit_of};
 
 use crate::argument::count;
 use howlong::calls::how_long;
@@ -21,36 +21,20 @@ fn put_part(text: &mut Text, n: u32, what: &[u8])
     text.put(what);
 }
 
-// Super frames, memory and zero bits.
-fn put_counts(text: &mut Text, numbers: &[u32; 3])
-    requires { length text.old + 200 ≤ 1024 }
-    ensures put { text.new ≡ text.old ++ counts_text numbers.now }
-    ensures room { length text.new ≤ length text.old + 200 }
-{
-    put_part(text, numbers[0], b" super frames with the closing\n");
-    put_part(text, numbers[1], b" bytes of memory\n");
-    put_part(text, numbers[2], b" zero bits after the last byte\n");
-}
-
-// The time of so many super frames.
-fn put_time(text: &mut Text, n: u32)
-    requires { length text.old + 200 ≤ 1024 }
-    ensures { text.new ≡ text.old ++ time_text n }
-{
-    let tenths = 12 * (n % 50);
-    put_part(text, n / 3000, b" hours ");
-    put_part(text, n / 50 % 60, b" minutes ");
-    put_part(text, tenths / 10, b".");
-    put_part(text, tenths % 10, b" seconds on air\n");
-}
-
-#[tactic(auto, unfolding(crate::specs::Fit::fit_text))]
+// Super frames, memory and zero bits, and the time of the super frames.
 fn fit_text(numbers: &[u32; 3]) -> Text
     ensures { result ≡ fit_text numbers.now }
 {
+    let n = numbers[0];
+    let tenths = 12 * (n % 50);
     let mut text = Text::new();
-    put_counts(&mut text, numbers);
-    put_time(&mut text, numbers[0]);
+    put_part(&mut text, n, b" super frames with the closing\n");
+    put_part(&mut text, numbers[1], b" bytes of memory\n");
+    put_part(&mut text, numbers[2], b" zero bits after the last byte\n");
+    put_part(&mut text, n / 3000, b" hours ");
+    put_part(&mut text, n / 50 % 60, b" minutes ");
+    put_part(&mut text, tenths / 10, b".");
+    put_part(&mut text, tenths % 10, b" seconds on air\n");
     text
 }
 

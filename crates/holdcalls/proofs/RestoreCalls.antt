@@ -1,13 +1,11 @@
 -- Restoring from its refusal and from a file's cells. Assumes nothing.
 use Prim.Native.Nat.{ℕ, ◌≤◌, ◌<◌, ◌*◌}
-use mathlib.Core.Path.{◌≡◌, refl, sym, ap, ◌∙◌}
+use mathlib.Core.Path.{◌≡◌, refl, sym, ap, ap₂, ◌∙◌}
 use mathlib.Core.Bool.{Bool, true, false, not}
 use mathlib.Core.List.{List}
 use native.Mathlib.Omega.{arith}
 use borrow.Author.Tests.{eq-eqb, ne_eqb}
 use lib.ListN.{length, get_or}
-use Rattle.lists.proofs.Bools.{never_both}
-use Rattle.settings.specs.declared.Settings.{Settings}
 use Rattle.settings.specs.Refusal.{first}
 use Rattle.settings.specs.Accepted.{Accepted}
 use Rattle.settings.specs.Lengths.{n_mux}
@@ -23,7 +21,6 @@ use Rattle.callrefusals.specs.Clauses.{refusal_then}
 use Rattle.callrefusals.proofs.Chains.{then_stops, then_goes_on}
 use Rattle.holdlines.specs.declared.Form.{Form}
 use Rattle.holdlines.specs.Files.{held_in, valid}
-use Rattle.holdreading.specs.Clauses.{FileTaken}
 use Rattle.holdwriting.specs.Clauses.{held_from}
 use Rattle.holdlines.specs.Clauses.{digit_or}
 use Rattle.holdreading.proofs.Valid.{valid_long, three_bytes}
@@ -34,16 +31,8 @@ use Rattle.refusal.specs.Numbers.{number}
 use Rattle.refusal.proofs.Positive.{number_positive}
 use Rattle.superframe.specs.Answers.{done}
 use Rattle.holdcalls.specs.Restore.{restore_refusal, held_state, restore_yield, restore_of}
-use Rattle.holdcalls.specs.Clauses.{MemoryTaken}
+use Rattle.holdcalls.specs.Clauses.{Cells, Kept}
 use Rattle.holdcalls.proofs.StoreCalls.{reset_chain, early_fits}
-
--- A file that is taken, and one that is not.
-module _ (form : Form) (s : Settings) (file memory work : List ℕ) (r : Bool) (t : FileTaken form s file r work) where
-  pub taken_memory : (after : List ℕ) → r ≡ true → after ≡ work → MemoryTaken form s file memory true after
-  taken_memory after e h = record { test = sym e ∙ t.test; cells = λ b. h ∙ t.cells e; kept = λ b. absurd (never_both true refl b) }
-
-  pub kept_memory : r ≡ false → MemoryTaken form s file memory false memory
-  kept_memory e = record { test = sym e ∙ t.test; cells = λ b. absurd (never_both false b refl); kept = λ b. refl }
 
 module _ (form : Form) (old : State) (s : Scheme) (file memory : List ℕ) where
   restore_then : restore_refusal form s file memory ≡ refusal_then s memory true true (first (not (valid form s.settings file)) 18 0)
@@ -72,39 +61,37 @@ module _ (form : Form) (old : State) (s : Scheme) (file memory : List ℕ) where
     unfolding memory_length
     memory_lent h = ((scheme-accepted s (early_fits s memory n g h).scheme).settings, (early_fits s memory n g h).long)
 
-    module _ (h : n ≡ 0) (r : Bool) (after : List ℕ) (t : MemoryTaken form s.settings file memory r after) where
-      restore_rest : restore_refusal form s file memory ≡ first (not r) 18 0
-      restore_rest =
-          restore_then ∙ then_goes_on s memory true true n (reset_chain s memory n g) _ h ∙ ap (λ b. first (not b) 18 0) (sym t.test)
+    module _ (h : n ≡ 0) (after : List ℕ) where
+      restore_rest : (b : Bool) → valid form s.settings file ≡ b → restore_refusal form s file memory ≡ first (not b) 18 0
+      restore_rest b e =
+          restore_then ∙ then_goes_on s memory true true n (reset_chain s memory n g) _ h ∙ ap (λ b. first (not b) 18 0) e
 
-      pub refused_file : r ≡ false → restore_yield (record { refusal = 18; state = old }) after ≡ restore_of form old s file memory
+      pub refused_file : (r : Refusal) → Kept form s.settings file memory r after → restore_yield (done old (Err r)) after ≡ restore_of form old s file memory
       unfolding first
-      refused_file f =
-          ap (restore_yield (record { refusal = 18; state = old })) (t.kept f)
-          ∙ sym (restore_refuses 18 (restore_rest ∙ rw f) (omega arith))
+      refused_file r k =
+          ap₂ (λ m x. restore_yield (record { refusal = m; state = old }) x) k.hold_file k.kept
+          ∙ sym (restore_refuses 18 (restore_rest false k.wrong) (omega arith))
 
-      pub file_right : r ≡ true → valid form s.settings file ≡ true
-      file_right f = sym t.test ∙ f
+      module _ (t : Cells form s.settings file after) where
+        -- A valid file has a heading.
+        pub heading_there : 3 ≤ length file
+        heading_there = three_bytes form s.settings file (valid_long form s.settings file t.right)
 
-      -- A valid file has a heading.
-      pub heading_there : r ≡ true → 3 ≤ length file
-      heading_there f = three_bytes form s.settings file (valid_long form s.settings file (file_right f))
+        restored-state : (c : Scheme) (p q : ℕ) → c ≡ s → p ≡ digit_or (get_or file 0 0) → q ≡ digit_or (get_or file 1 0)
+            → record { scheme = c; position = p; count = q } ≡ held_state s (held_in form s.settings file)
+        unfolding held_state held_from
+        restored-state c p q e d k =
+            let m : held_from (digit_or (get_or file 0 0)) (digit_or (get_or file 1 0)) after ≡ held_in form s.settings file =
+            held_memory form s.settings file after t.right t.cells in
+            rw (e, d, k) (ap (held_state s) m)
 
-      restored-state : (c : Scheme) (p q : ℕ) → r ≡ true → c ≡ s → p ≡ digit_or (get_or file 0 0) → q ≡ digit_or (get_or file 1 0)
-          → record { scheme = c; position = p; count = q } ≡ held_state s (held_in form s.settings file)
-      unfolding held_state held_from
-      restored-state c p q f e d k =
-          let m : held_from (digit_or (get_or file 0 0)) (digit_or (get_or file 1 0)) after ≡ held_in form s.settings file =
-          held_memory form s.settings file after (file_right f) (t.cells f) in
-          rw (e, d, k) (ap (held_state s) m)
-
-      pub restored_file : (c : Scheme) (p q : ℕ) → r ≡ true → c ≡ s → p ≡ digit_or (get_or file 0 0) → q ≡ digit_or (get_or file 1 0)
-          → restore_yield (record { refusal = 0; state = record { scheme = c; position = p; count = q } }) after ≡ restore_of form old s file memory
-      unfolding first
-      restored_file c p q f e d k =
-          ap (λ x. restore_yield (record { refusal = 0; state = x }) after) (restored-state c p q f e d k)
-          ∙ ap (restore_yield (record { refusal = 0; state = held_state s (held_in form s.settings file) })) (t.cells f)
-          ∙ sym (restore_accepts (restore_rest ∙ rw f))
+        pub restored_file : (c : Scheme) (p q : ℕ) → c ≡ s → p ≡ digit_or (get_or file 0 0) → q ≡ digit_or (get_or file 1 0)
+            → restore_yield (record { refusal = 0; state = record { scheme = c; position = p; count = q } }) after ≡ restore_of form old s file memory
+        unfolding first
+        restored_file c p q e d k =
+            ap (λ x. restore_yield (record { refusal = 0; state = x }) after) (restored-state c p q e d k)
+            ∙ ap (restore_yield (record { refusal = 0; state = held_state s (held_in form s.settings file) })) t.cells
+            ∙ sym (restore_accepts (restore_rest true t.right))
 
 -- A refusal before the file is looked at.
 pub refused_early : (form : Form) (old : State) (s : Scheme) (file memory : List ℕ) (r : Refusal) → number r ≡ reset_refusal s memory

@@ -21,20 +21,26 @@ use refusal::Refusal;
 use settings::Settings;
 use superframe::State;
 
-// The cells of a file into memory, if it is valid, by way of a working memory.
-fn take_in(form: Form, s: Settings, file: &[u8], work: &mut [u8], memory: &mut [u8]) -> bool
+// The cells of a file into memory, by way of a working memory. Refusal 18.
+fn take_in(
+    form: Form,
+    s: Settings,
+    file: &[u8],
+    work: &mut [u8],
+    memory: &mut [u8],
+) -> Result<(), Refusal>
     requires { MemoryRoom s work.old memory.old }
     ensures { MemoryTaken form s file.now memory.old result memory.new }
 {
     if !take_file(form, s, file, work) {
-        return false;
+        return Err(Refusal::HoldFile);
     }
     memory.copy_from_slice(work);
-    true
+    Ok(())
 }
 
 // Stays: `take_file` and what it calls take Settings, as public functions do; a type for accepted ones would be made Settings again there.
-fn take_memory(form: Form, s: Settings, file: &[u8], memory: &mut [u8]) -> bool
+fn take_memory(form: Form, s: Settings, file: &[u8], memory: &mut [u8]) -> Result<(), Refusal>
     requires { Accepted s × (length memory.old ≡ depth s * n_mux s) }
     ensures { MemoryTaken form s file.now memory.old result memory.new }
 {
@@ -56,9 +62,7 @@ pub fn restore_table(
         ≡ restore_of form old (scheme_of s table.now) file.now memory.old }
 {
     check_reset(s, table, memory)?;
-    if !take_memory(form, s, file, memory) {
-        return Err(Refusal::HoldFile);
-    }
+    take_memory(form, s, file, memory)?;
     Ok(State {
         scheme: scheme_of(s, table),
         position: digit_value(file[0]).unwrap_or(0),

@@ -1,15 +1,18 @@
 -- A file in the other form, and each way undoes the other. Assumes nothing.
 use Prim.Native.Nat.{ℕ, ◌*◌, ◌/◌, ◌%◌, ◌<◌}
-use mathlib.Core.Path.{◌≡◌, refl, sym, ap, ap₂, ◌∙◌}
-use mathlib.Core.Bool.{Bool, true, false, ◌&&◌}
+use mathlib.Core.Path.{◌≡◌, sym, ap, ap₂, ◌∙◌}
+use mathlib.Core.Bool.{Bool, true, ◌&&◌}
 use mathlib.Core.List.{List, [], ◌∷◌}
 use native.Mathlib.Omega.{arith}
 use borrow.Author.Tests.{lt-ltb, ltb-true, eqb-true, eq-eqb, ne_eqb}
 use lib.ListN.{length, get_or, drop, replicate}
 use lib.IntN.{ℤ}
 use lib.Dec.{ltb, eqb}
+use Rattle.std.specs.Prelude.{⊤, Result, Ok, Err}
+use Rattle.refusal.specs.declared.Refusal.{Refusal}
+use Rattle.refusal.specs.Numbers.{answer}
 use Rattle.lists.specs.Bools.{every}
-use Rattle.lists.proofs.Bools.{never_both, both, and_left, and_right}
+use Rattle.lists.proofs.Bools.{both, and_left, and_right}
 use Rattle.settings.specs.declared.Settings.{Settings}
 use Rattle.settings.specs.Refusal.{first, refusal}
 use Rattle.settings.specs.Lengths.{n_mux}
@@ -189,15 +192,7 @@ module _ (form : Form) (s : Settings) (file memory out : List ℕ) (t : Turnable
   other_put to after g h =
       h ∙ ap₂ (λ x y. file_of to s (held_from x y memory)) e f ∙ ap₂ (λ k x. file_of k s x) g (held_memory form s file memory t.right t.cells)
 
--- a file that is turned, and one that is not
-pub turned_file : (form : Form) (s : Settings) (file out memory after : List ℕ) (r : Bool) → r ≡ true → FileTaken form s file r memory
-    → after ≡ file_of (other form) s (held_in form s file) → Turned form s file out true after
-turned_file form s file out memory after r e t h =
-    record { test = sym e ∙ t.test; turned = λ b. h; kept = λ b. absurd (never_both true refl b) }
-
-pub kept_file : (form : Form) (s : Settings) (file out memory : List ℕ) (r : Bool) → r ≡ false → FileTaken form s file r memory → Turned form s file out false out
-kept_file form s file out memory r e t = record { test = sym e ∙ t.test; turned = λ b. absurd (never_both false b refl); kept = λ b. refl }
-
+-- what turning a file requires
 pub turnable : (form : Form) (s : Settings) (file memory out after : List ℕ) (r : Bool) → r ≡ true → TurnRoom form s memory out → FileTaken form s file r after
     → Turnable form s file after out
 turnable form s file memory out after r e l t = record { accepted = l.accepted; right = sym t.test ∙ e; cells = t.cells e; room = l.room }
@@ -212,16 +207,13 @@ module _ (form : Form) (s : Settings) (file out : List ℕ) where
   unfolding convert_refusal first
   refused_room e n = refused_by 10 (rw (e, ne_eqb (length out) (file_length (other form) s) n)) (λ z. omega arith)
 
-  module _ (e : refusal s ≡ 0) (l : length out ≡ file_length (other form) s) (after : List ℕ) (r : Bool) (t : Turned form s file out r after) where
-    pub refused_file : r ≡ false → convert_yield 18 after ≡ convert_of form s file out
-    unfolding convert_refusal first
-    refused_file f =
-        rw (t.kept f)
-        (refused_by 18 (rw (e, eq-eqb (length out) (file_length (other form) s) l, sym t.test ∙ f)) (λ z. omega arith))
-
-    pub file_turned : r ≡ true → convert_yield 0 after ≡ convert_of form s file out
-    unfolding convert_refusal first convert_of
-    file_turned f = rw (e, eq-eqb (length out) (file_length (other form) s) l, sym t.test ∙ f) (ap (convert_yield 0) (t.turned f))
+  pub turned : refusal s ≡ 0 → length out ≡ file_length (other form) s → (after : List ℕ) (r : Result ⊤ Refusal) → Turned form s file out r after
+      → convert_yield (answer r) after ≡ convert_of form s file out
+  unfolding convert_refusal first convert_of
+  turned e l after (Ok x) t = rw (e, eq-eqb (length out) (file_length (other form) s) l, t.right) (ap (convert_yield 0) t.turned)
+  turned e l after (Err r) t =
+      rw (t.hold_file, t.kept)
+      (refused_by 18 (rw (e, eq-eqb (length out) (file_length (other form) s) l, t.wrong)) (λ z. omega arith))
 
 -- the bytes of files
 pub sizes_found : (s : Settings) (old new : ℕ) → refusal s ≡ 0 → old ≡ file_length Old s → new ≡ file_length New s

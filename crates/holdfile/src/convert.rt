@@ -52,20 +52,26 @@ fn put_other(form: Form, s: Settings, file: &[u8], memory: &[u8], out: &mut [u8]
     put_file(other_form(form), s, position, count, memory, out);
 }
 
-// A file in the other form, if it is valid, by way of memory.
-fn turn_in(form: Form, s: Settings, file: &[u8], memory: &mut [u8], out: &mut [u8]) -> bool
+// A file in the other form, by way of memory. Refusal 18.
+fn turn_in(
+    form: Form,
+    s: Settings,
+    file: &[u8],
+    memory: &mut [u8],
+    out: &mut [u8],
+) -> Result<(), Refusal>
     requires { TurnRoom form s memory.old out.old }
     ensures { Turned form s file.now out.old result out.new }
 {
     if !take_file(form, s, file, memory) {
-        return false;
+        return Err(Refusal::HoldFile);
     }
     put_other(form, s, file, memory, out);
-    true
+    Ok(())
 }
 
 // Stays: `settings` answers take any Settings, so that a type for accepted ones would be made Settings again at each call.
-fn turn_file(form: Form, s: Settings, file: &[u8], out: &mut [u8]) -> bool
+fn turn_file(form: Form, s: Settings, file: &[u8], out: &mut [u8]) -> Result<(), Refusal>
     requires { Accepted s × (length out.old ≡ file_length (other form) s) }
     ensures { Turned form s file.now out.old result out.new }
 {
@@ -83,8 +89,5 @@ pub fn convert(form: Form, s: Settings, file: &[u8], out: &mut [u8]) -> Result<(
     if out.len() != file_bytes(other_form(form), s) {
         return Err(Refusal::OutputLength);
     }
-    if !turn_file(form, s, file, out) {
-        return Err(Refusal::HoldFile);
-    }
-    Ok(())
+    turn_file(form, s, file, out)
 }

@@ -5,7 +5,7 @@ use mathlib.Core.Bool.{Bool, true, false, cond}
 use mathlib.Core.Logic.{inl, inr}
 use mathlib.Core.List.{List, ◌++◌}
 use native.Mathlib.Omega.{arith}
-use borrow.Author.Tests.{eqb-false}
+use borrow.Author.Tests.{eqb-false, ne_eqb}
 use lib.ListN.{length, take, drop, take-append-drop}
 use lib.Seq.{take_all}
 use lib.Dec.{eqb}
@@ -18,9 +18,13 @@ use Rattle.holdlines.specs.declared.Form.TheVariants.{New}
 use Rattle.holdfile.specs.Convert.{ConvertYield, convert_yield, other, convert_refusal, convert_of}
 use Rattle.holdlines.specs.Files.{file_of, held_in}
 use Rattle.holdcalls.specs.Store.{held_of, store_refusal, store_of}
-use Rattle.std.specs.Prelude.{Result, IfOk}
+use Rattle.std.specs.Prelude.{Result, IfOk, Ok, Err}
+use Rattle.std.specs.Result.{IsErrAnd}
+use Rattle.refusal.specs.declared.Refusal.{Refusal}
+use Rattle.refusal.specs.Numbers.{number as number_of}
+use Rattle.refusal.proofs.Positive.{number_positive}
 use Rattle.turns.specs.declared.Failure.{Failure}
-use Rattle.turns.specs.Yield.{made_yield, made_through, made_refused, through, refused, answered}
+use Rattle.turns.specs.Yield.{made_yield, failure_of, made_through, made_refused, through, refused, answered}
 use Rattle.holdjobs.specs.Files.{file_bytes, made_by, written, turned_of, stored_of}
 
 -- The front of a buffer, or all of it where it is shorter.
@@ -61,6 +65,16 @@ module _ (number : ℕ) (part out : List ℕ) (n : ℕ) (low : n ≤ length out)
   pub made-written : (made : Result ℕ Failure) → made ≡ made_by number n → made_yield made (part ++ drop (n - 0) out) ≡ written (convert_yield number part) out
   unfolding made_by written answered
   made-written made e = ap (λ m. made_yield m (part ++ drop (n - 0) out)) e ∙ by_number (eqb number 0) refl
+
+-- What is made where a call refused, which is passed on, and where it did not.
+pub made_passed : (q : Refusal) (n : ℕ) (made : Result ℕ Failure) → IsErrAnd made (λ f. f ≡ failure_of q) → made ≡ made_by (number_of q) n
+unfolding made_by
+made_passed q n (Ok k) e = absurd e
+made_passed q n (Err f) e = rw (e, ne_eqb (number_of q) 0 (λ z. omega (arith, z, number_positive q)))
+
+pub made_all : (n : ℕ) → Ok n ≡ made_by 0 n
+unfolding made_by
+made_all n = refl
 
 -- A file in its other form, and the file of a run.
 pub turned : (from to : Form) (s : Settings) (file out : List ℕ) (n number : ℕ) (part : List ℕ) (made : Result ℕ Failure) → n ≡ min (length out) (file_bytes to s)

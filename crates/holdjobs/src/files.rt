@@ -1,17 +1,15 @@
 // A hold file at the start of a buffer: one in its other form, and that of a run.
 // Stays, in this module: buffers stand one by one; with a struct of `&mut` a clause must also say that each reference is still the same one.
 ghost use Rattle.std.specs.Prelude.{◌≡◌, ◌≤◌, min, length, replicate, IfOk, Ok};
-ghost use Rattle.refusal.specs.Numbers.{answer};
 ghost use Rattle.holdfile.specs.Convert.{file_sizes_yield};
 ghost use Rattle.turns.specs.Yield.{made_yield};
-ghost use Rattle.holdjobs.specs.Files.{size_in, file_bytes, made_by, turned_of, turn_of, stored_of};
+ghost use Rattle.holdjobs.specs.Files.{size_in, file_bytes, turned_of, turn_of, stored_of};
 
 use console::TurnJob;
 use holdcalls::store::store;
 use holdfile::FileSizes;
 use holdfile::convert::{convert, sizes};
 use holdlines::Form;
-use refusal::Refusal;
 use settings::Settings;
 use superframe::State;
 use turns::Failure;
@@ -45,15 +43,6 @@ fn file_room(form: Form, s: Settings, all: usize) -> usize
     sizes(s).map_or(0, |z| size_in(form, z).min(all))
 }
 
-// What was made, by what a call answered.
-#[tactic(auto, using(refusal::proofs::Positive::number_positive), unfolding(crate::specs::Files::made_by))]
-fn made_by(outcome: Result<(), Refusal>, n: usize) -> Result<usize, Failure>
-    ensures { result ≡ made_by (answer outcome) n }
-{
-    outcome?;
-    Ok(n)
-}
-
 // A file of one form in the other.
 fn turn_from(
     from: Form,
@@ -66,8 +55,8 @@ fn turn_from(
     ensures length_in_bounds { IfOk result (λ n. n ≤ length out.old) }
 {
     let n = file_room(to, s, out.len());
-    let outcome = convert(from, s, file, &mut out[0..n]);
-    made_by(outcome, n)
+    convert(from, s, file, &mut out[0..n])?;
+    Ok(n)
 }
 
 // What `to-new` and `to-old` make of a whole input.
@@ -90,6 +79,6 @@ pub fn store_file(state: State, memory: &[u8], out: &mut [u8]) -> Result<usize, 
 {
     let s = state.scheme.settings;
     let n = file_room(Form::New, s, out.len());
-    let outcome = store(Form::New, state, memory, &mut out[0..n]);
-    made_by(outcome, n)
+    store(Form::New, state, memory, &mut out[0..n])?;
+    Ok(n)
 }

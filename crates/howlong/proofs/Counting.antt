@@ -1,5 +1,5 @@
 -- The three numbers, and that their formulas stay within 32 bits. Assumes nothing.
-use Prim.Native.Nat.{ℕ, ◌+◌, ◌-◌, ◌*◌, ◌/◌, ◌%◌, ◌≤◌, ◌<◌}
+use Prim.Native.Nat.{ℕ, ◌+◌, ◌-◌, ◌*◌, ◌/◌, ◌%◌, ◌≤◌, ◌<◌, min}
 use mathlib.Core.Path.{◌≡◌, refl, ap, subst, ◌∙◌}
 use mathlib.Core.Bool.{Bool, true, false, cond, ◌||◌}
 use mathlib.Core.List.{List, [], ◌∷◌}
@@ -14,7 +14,7 @@ use Rattle.partlengths.specs.Cells.{entry, mux_table}
 use Rattle.partlengths.specs.Rates.{top_level, rates, common_denominator, table67, table68, table69, table71}
 use Rattle.partlengths.specs.Formulas.{hierarchical, width, part_a, part_b, bits_b, cells_a, round_up}
 use Rattle.partlengths.specs.Clauses.{Level}
-use Rattle.partlengths.proofs.Parts.{level_at_lem}
+use Rattle.partlengths.proofs.Parts.{level_at_lem, rounded_up}
 use Rattle.partlengths.proofs.PartA.{gain_positive}
 use Rattle.settings.specs.declared.Settings.{Settings}
 use Rattle.settings.specs.Refusal.{refusal, paired}
@@ -40,6 +40,12 @@ few_super_frames m c k h l = omega (arith, few_over m c h)
 pub super_frames_lem : (bits n : ℕ) → ((n + (bits / 8 - 1)) / (bits / 8) + 2) / 3 + 2 ≡ super_frames bits n
 unfolding super_frames frames_for whole_bytes round_up
 super_frames_lem bits n = refl
+
+-- std rounds up by the remainder
+pub super_frames_is : (bits n f g : ℕ) → 8 ≤ bits → f ≡ n / (bits / 8) + min 1 (n % (bits / 8)) → g ≡ f / 3 + min 1 (f % 3)
+    → g ≡ ((n + (bits / 8 - 1)) / (bits / 8) + 2) / 3
+super_frames_is bits n f g h e d =
+    d ∙ rounded_up f 3 (omega arith) ∙ ap (λ (k : ℕ). (k + 2) / 3) (e ∙ rounded_up n (bits / 8) (omega arith))
 
 -- the bytes of the last frame
 last_bytes : (c n : ℕ) → 0 < c → 0 < n → n - ((n + (c - 1)) / c - 1) * c ≡ (n - 1) % c + 1

@@ -37,8 +37,8 @@ fn super_frames(l2: usize, n: usize) -> usize
     ensures { (result ≡ super_frames l2 n) × (result ≤ 2000000000) }
 {
     let whole = l2 / 8;
-    let frames = (n + (whole - 1)) / whole;
-    (frames + 2) / 3 + CLOSING
+    let frames = n.div_ceil(whole);
+    frames.div_ceil(3) + CLOSING
 }
 
 // The zero bits after the last of n bytes in its frame, 0 where there are none.

@@ -1,14 +1,12 @@
 -- Tables by mode and by pairing, each rule proved at all entries by one test that is computed. Assumes nothing.
-use Prim.Native.Nat.{ℕ, zero, suc, ◌+◌, ◌*◌, ◌/◌, ◌%◌, ◌≤◌, ◌<◌}
-use mathlib.Core.Path.{◌≡◌, refl, ◌∙◌, ap₂, subst}
+use Prim.Native.Nat.{ℕ, zero, suc, ◌+◌, ◌*◌, ◌%◌, ◌≤◌, ◌<◌}
+use mathlib.Core.Path.{◌≡◌, refl, subst}
 use mathlib.Core.Bool.{Bool}
 use mathlib.Core.List.{List, [], ◌∷◌}
 use native.Mathlib.Nat.{zero-add, mul-le-mul, mod-lt}
 use native.Mathlib.Omega.{arith}
 use lib.Dec.{T, leb, leb→le}
 use lib.ListN.{get_or}
-use Rattle.lists.specs.Lists.{table}
-use Rattle.lists.proofs.Tables.{get_or-table}
 use Rattle.partlengths.specs.Cells.{entry}
 use Rattle.partlengths.proofs.Parts.{below, below_at}
 use Rattle.kinds.specs.Carriers.{table80, frame_symbols, symbols, lower_table, upper_table, lower, upper, carriers}
@@ -25,14 +23,6 @@ pub pairing_at : (f : ℕ → ℕ → Bool) → T (below (λ m. below (f m) 0 6)
 pairing_at f t m o p =
     subst (λ (k : ℕ). T (f m k)) (zero-add o)
     (below_at (f m) 0 6 (mode_at (λ k. below (f k) 0 6) t m p.mode_low) o p.occupancy_low)
-
--- An entry of a table with rows where the code has it row by row.
-pub flat_at : (rows : List (List ℕ)) (m o : ℕ) → Pairing m o → get_or (table (λ k. entry rows (k / 6) (k % 6)) 0 24) (m * 6 + o) 0 ≡ entry rows m o
-flat_at rows m o p =
-    let low : m * 6 + o < 24 = omega arith in
-    let row : (m * 6 + o) / 6 ≡ m = omega arith in
-    let column : (m * 6 + o) % 6 ≡ o = omega arith in
-    get_or-table 0 (λ k. entry rows (k / 6) (k % 6)) 24 (m * 6 + o) low ∙ ap₂ (entry rows) row column
 
 -- Carriers and symbols of a pairing.
 pub record Band (mode occupancy : ℕ) : Type 0 where

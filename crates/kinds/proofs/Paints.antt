@@ -1,19 +1,20 @@
 -- Rows of kinds with some carriers painted, and the lists of carriers as the code has them. Assumes nothing.
-use Prim.Native.Nat.{ℕ, zero, suc, ◌+◌, ◌*◌, ◌/◌, ◌%◌, ◌≤◌, ◌<◌}
-use mathlib.Core.Path.{◌≡◌, refl, sym, ap, ◌∙◌}
+use Prim.Native.Nat.{ℕ, suc, ◌+◌, ◌≤◌, ◌<◌}
+use mathlib.Core.Path.{◌≡◌, refl, sym, ap, subst, ◌∙◌}
 use mathlib.Core.Bool.{Bool, true, false, cond, ◌||◌}
-use mathlib.Core.List.{List, [], ◌∷◌, ◌++◌}
+use mathlib.Core.List.{List, [], ◌∷◌, map}
+use native.Mathlib.Nat.{zero-add}
 use native.Mathlib.Numerals.{add-one}
 use native.Mathlib.Omega.{arith}
-use lib.Dec.{eqb, leb, ltb, leb→le, ltb→lt}
-use lib.ListN.{length, get_or, set, take, length-set, length-take, drop_of_length-le}
-use lib.Seq.{get_or-set_same, get_or-set_other, slice, slice-cons}
-use mir.Syntax.{w64}
-use mir.Val.{Fits}
+use lib.Dec.{T, eqb, ltb, ltb→lt}
+use lib.ListN.{length, get_or, get_or-map, set, take, length-set, length-take, drop_of_length-le}
+use lib.Seq.{get_or-set_same, get_or-set_other, slice, slice-cons, take_all}
 use borrow.Author.Tests.{eqb-true, eqb-false, ne_eqb}
 use Rattle.lists.specs.Lists.{table}
 use Rattle.lists.proofs.Tables.{length-table, table_is, get_or-table}
-use Rattle.partlengths.proofs.LookUps.{all_at}
+use Rattle.partlengths.proofs.LookUps.{all, all_at}
+use Rattle.partlengths.proofs.Parts.{below, below_at}
+use Rattle.kinds.proofs.Bands.{mode_at}
 use Rattle.settings.specs.Refusal.{first}
 use Rattle.kinds.specs.Carriers.{unused}
 use Rattle.kinds.specs.References.{table84, frequency, table86, table87, table88, table89, time}
@@ -91,63 +92,30 @@ module _ (list : List ℕ) (kind : ℕ) (d carriers : List ℕ) (end : ℕ) wher
       let none : slice i end carriers ≡ [] = drop_of_length-le (take end carriers) {i = i} (rw length-take (omega arith)) in
       ap (λ (l : List ℕ). marked l kind row) (sym none) ∙ m.left ∙ marked-painted list kind d
 
--- The code's tables: list after list, 27 for each mode, and where each list begins.
-unfoldable pub list_number : ℕ → List ℕ
-list_number k = carrier_list (k / 27) (k % 27)
+-- One test over all lists: no carrier is above 350.
+lists_low : (m l : ℕ) → m < 4 → l < 27 → T (all (λ k. ltb k 471) (carrier_list m l))
+unfolding table carrier_list unused table84 frequency table86 table87 table88 table89 time table93 table94 table95 table96 fac_carriers
+lists_low m l h g =
+    subst (λ (k : ℕ). T (all (λ k. ltb k 471) (carrier_list m k))) (zero-add l)
+    (below_at (λ l. all (λ k. ltb k 471) (carrier_list m l)) 0 27 (mode_at (λ m. below (λ l. all (λ k. ltb k 471) (carrier_list m l)) 0 27) tt m h) l g)
 
-unfoldable pub gathered : ℕ → ℕ → List ℕ
-gathered k zero = []
-gathered k (suc n) = list_number k ++ gathered (suc k) n
+-- The code's table of lists is the definition's, entry by entry.
+pub list_at : {A : Type 0} (f : A → List ℕ) (t : List (List A)) (d : List A) (e : A) (m l : ℕ) → map (map f) t ≡ table (λ m. table (carrier_list m) 0 27) 0 4
+    → m < 4 → l < 27 → f (get_or (get_or t m d) l e) ≡ carrier_list m l
+list_at f t d e m l p h g =
+    sym (get_or-map f (get_or t m d) l e)
+    ∙ ap (λ r. get_or r l (f e)) (sym (get_or-map (map f) t m d) ∙ ap (λ (r : List (List (List ℕ))). get_or r m (map f d)) p ∙ get_or-table (map f d) (λ m. table (carrier_list m) 0 27) 4 m h)
+    ∙ get_or-table (f e) (carrier_list m) 27 l g
 
-abbrev pub flat_carriers : List ℕ
-flat_carriers = gathered 0 108
-
-abbrev pub flat_starts : List ℕ
-flat_starts = table (λ k. length (gathered 0 k)) 0 109
-
-abbrev pub part : List ℕ → List ℕ → ℕ → List ℕ
-part starts carriers k = slice (get_or starts k 0) (get_or starts (k + 1) 0) carriers
-
--- One test over all lists: each stands where it begins; no start is past the end; no carrier is above 350.
-lists_test : table (part flat_starts flat_carriers) 0 108 ≡ table list_number 0 108
-unfolding table list_number gathered carrier_list unused table84 frequency table86 table87 table88 table89 time table93 table94 table95 table96 fac_carriers
-lists_test = refl
-
-starts_low : (k : ℕ) → get_or flat_starts k 0 ≤ 358
-unfolding table list_number gathered carrier_list unused table84 frequency table86 table87 table88 table89 time table93 table94 table95 table96 fac_carriers
-starts_low k = leb→le _ 358 (all_at (λ n. leb n 358) flat_starts 0 tt tt k)
-
-pub starts_fit : (k : ℕ) → Fits w64 (get_or flat_starts k 0)
-starts_fit k = let h = starts_low k in omega arith
-
-all-carriers : (k : ℕ) → get_or flat_starts k 0 ≤ length flat_carriers
-unfolding table list_number gathered carrier_list unused table84 frequency table86 table87 table88 table89 time table93 table94 table95 table96 fac_carriers
-all-carriers k = starts_low k
-
-carriers_low : (k : ℕ) → get_or flat_carriers k 0 < 471
-unfolding table list_number gathered carrier_list unused table84 frequency table86 table87 table88 table89 time table93 table94 table95 table96 fac_carriers
-carriers_low k = ltb→lt _ 471 (all_at (λ n. ltb n 471) flat_carriers 0 tt tt k)
-
-list_at : (m l : ℕ) → m < 4 → l < 27 → part flat_starts flat_carriers (m * 27 + l) ≡ carrier_list m l
-unfolding list_number
-list_at m l h g =
-    let low : m * 27 + l < 108 = omega arith in
-    let row : (m * 27 + l) / 27 ≡ m = omega arith in
-    let column : (m * 27 + l) % 27 ≡ l = omega arith in
-    sym (get_or-table [] (part flat_starts flat_carriers) 108 (m * 27 + l) low)
-    ∙ ap (λ (t : List (List ℕ)). get_or t (m * 27 + l) []) lists_test
-    ∙ get_or-table [] list_number 108 (m * 27 + l) low
-    ∙ rw (row, column)
-
--- At the beginning of the loop, with the code's tables.
-pub mark_start : (m l kind : ℕ) (row : List ℕ) → m < 4 → l < 27
-    → Marking (carrier_list m l) kind row flat_carriers (get_or flat_starts (m * 27 + l + 1) 0) row (get_or flat_starts (m * 27 + l) 0)
-mark_start m l kind row h g =
+-- At the beginning of the loop.
+pub mark_start : (m l kind : ℕ) (row carriers : List ℕ) → m < 4 → l < 27 → carriers ≡ carrier_list m l
+    → Marking (carrier_list m l) kind row carriers (length carriers) row 0
+mark_start m l kind row carriers h g e =
     record {
       long = refl;
-      within = all-carriers (m * 27 + l + 1);
-      low = carriers_low;
-      left = ap (λ (k : List ℕ). marked k kind row) (list_at m l h g);
+      within = omega arith;
+      low = λ k. rw e (ltb→lt _ 471 (all_at (λ k. ltb k 471) (carrier_list m l) 0 (lists_low m l h g) tt k));
+      left = ap (λ (k : List ℕ). marked k kind row) (take_all (length carriers) carriers (omega arith) ∙ e);
     }
 
 -- Time references are in the first symbol only.

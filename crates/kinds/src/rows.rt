@@ -21,13 +21,10 @@ fn paint(mode: u8, list: usize, kind: Kind, row: &mut [u8])
     requires { Listed mode list row.old }
     ensures { row.new ≡ painted (has (carrier_list mode list)) (number kind) row.old }
 {
-    let carriers = tables::CARRIERS;
-    let at = mode as usize * tables::LISTS + list;
-    let start = tables::STARTS[at] as usize;
-    let end = tables::STARTS[at + 1] as usize;
+    let carriers = tables::listed(mode, list);
     let number = kind.number();
-    for i in start..end {
-        row[carriers[i] as usize] = number;
+    for &carrier in carriers {
+        row[carrier as usize] = number;
     }
 }
 

@@ -1,5 +1,6 @@
 // A line of received bits, and the line of the block nearest to them. 02, S-9.
-ghost use Rattle.std.specs.Prelude.{◌≡◌, ℕ, List, length};
+ghost use Rattle.std.specs.Prelude.{◌≡◌, ℕ, List, false, IfNone, IfSome, length};
+ghost use Rattle.nearest.specs.Fac.{all_values};
 ghost use Rattle.turns.specs.Yield.{text_yield};
 ghost use Rattle.linejobs.specs.Nearest.{value_of, values_in, block_line, nearest_line};
 
@@ -9,27 +10,31 @@ use partlengths::tables::{FAC_BYTES, FAC_NUMBERS};
 use turns::Failure;
 use words::text::Text;
 
-// The value of a character: 0, 1, 2 for unknown, and 3 for any that is none of them.
+// The value of a character: 0, 1, 2 for unknown, or none.
 #[tactic(auto, unfolding(crate::specs::Nearest::value_of))]
-fn value_of(byte: u8) -> u8
-    ensures { result ≡ value_of byte }
+fn value_of(byte: u8) -> Option<u8>
+    ensures none { IfNone result (value_of byte ≡ 3) }
+    ensures some { IfSome result (λ value. value ≡ value_of byte) }
 {
     match byte {
-        b'0' => 0,
-        b'1' => 1,
-        b'?' => 2,
-        _ => 3,
+        b'0' => Some(0),
+        b'1' => Some(1),
+        b'?' => Some(2),
+        _ => None,
     }
 }
 
-// The values of a line.
-fn read_values(line: &[u8], values: &mut [u8])
-    requires { length values.old ≡ length line.now }
-    ensures { values.new ≡ values_in line.now }
+// The values of a line, or none where a character has none.
+fn read_values(line: &[u8]) -> Option<[u8; FAC_NUMBERS]>
+    requires { length line.now ≡ 130 }
+    ensures none { IfNone result (all_values (values_in line.now) ≡ false) }
+    ensures some { IfSome result (λ values. values ≡ values_in line.now) }
 {
+    let mut values = [0u8; FAC_NUMBERS];
     for (i, byte) in line.iter().enumerate() {
-        values[i] = value_of(*byte);
+        values[i] = value_of(*byte)?;
     }
+    Some(values)
 }
 
 // The line of a block and its number of disagreements.
@@ -52,8 +57,9 @@ pub fn nearest_line(line: &[u8]) -> Result<Text, Failure>
     if line.len() != FAC_NUMBERS {
         return Err(Failure::Bad);
     }
-    let mut values = [0u8; FAC_NUMBERS];
-    read_values(line, &mut values);
+    let Some(values) = read_values(line) else {
+        return Err(Failure::Bad);
+    };
     let mut block = [0u8; FAC_BYTES];
     let mut count = [0u16; 1];
     let Ok(()) = fac_nearest(&values, &mut block, &mut count) else {

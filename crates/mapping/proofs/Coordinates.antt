@@ -13,6 +13,9 @@ use Rattle.lists.proofs.Tables.{Filled, filled-start, filled_turn, filled_end}
 use Rattle.block.specs.declared.Constellation.{Constellation}
 use Rattle.block.specs.declared.Constellation.TheVariants.{Qam4, Qam16, Sm64, HmSym, HmMix}
 use Rattle.block.specs.Mapping.{Labellings, qam4, qam16, standard64, symmetric64, constellation, is_mixed, axis, weave}
+use Rattle.mapping.specs.declared.points.Axis.{Axis}
+use Rattle.mapping.specs.declared.points.Axis.TheVariants.{Real, Imaginary}
+use Rattle.mapping.specs.Axes.{axis_number}
 use Rattle.mapping.specs.Labellings.{of_axis}
 use Rattle.mapping.specs.Labels.{coordinates}
 use Rattle.block.proofs.Mapping.{get_or-weave}
@@ -55,6 +58,12 @@ alike Qam16 h = one_labelling (constellation Qam16) _ refl refl
 alike Sm64 h = one_labelling (constellation Sm64) _ refl refl
 alike HmSym h = one_labelling (constellation HmSym) _ refl refl
 alike HmMix h = absurd (cc)
+
+-- an axis has number 0 or 1
+pub number_low : (a : Axis) → axis_number a < 2
+unfolding axis_number
+number_low Real = omega arith
+number_low Imaginary = omega arith
 
 -- what holds of each rule's thing and its labelling, holds of an axis's
 pub axis_holds : {A : Type 0} (P : A → List ℤ → Type 0) (c : Constellation) (a : ℕ) → a < 2 → (x y z w : A)

@@ -1,3 +1,4 @@
+pub mod Axes
 pub mod Clauses
 pub mod Labels
 pub mod Labellings

@@ -1,12 +1,32 @@
 // Level bits to coordinates and back. 01 "Mapping"; 001 clause 7.4.
-ghost use Rattle.std.specs.Prelude.{◌≡◌, ◌<◌};
+ghost use Rattle.std.specs.Prelude.{◌≡◌, ◌<◌, ◌%◌};
 ghost use Rattle.block.specs.Mapping.{constellation, axis, weave};
 ghost use Rattle.block.specs.Reading.{place_of, labels_of};
 ghost use Rattle.mapping.specs.Labels.{coordinates, axis_labels};
 ghost use Rattle.mapping.specs.Labellings.{of_axis, coordinate_by, LabellingFits, Labels};
+ghost use Rattle.mapping.specs.Axes.{axis_number};
 ghost use Rattle.mapping.specs.Clauses.{labels_by, label_by, Maps, MapsAxes, Unmaps, UnmapsAxis};
 
 use block::Constellation;
+
+// The axes of a constellation.
+#[derive(Clone, Copy)]
+enum Axis {
+    Real,
+    Imaginary,
+}
+
+// The axis of a coordinate by its number in a list of them, real before imaginary.
+#[tactic(auto, unfolding(crate::specs::Axes::axis_number))]
+fn axis_of(j: usize) -> Axis
+    ensures { axis_number result ≡ j % 2 }
+{
+    if j % 2 == 0 {
+        Axis::Real
+    } else {
+        Axis::Imaginary
+    }
+}
 
 // An axis's labelling in numbers: coordinates go down from size - 1, by the label, by its bits that `twice` has once more, and by 7 more for each that
 // `odd` has.
@@ -41,25 +61,26 @@ const SYMMETRIC64: Labelling = Labelling {
     odd: 1,
 };
 
-// What belongs to a constellation's axis, of one thing for each rule: axis 0 is the real, axis 1 the imaginary one.
-#[tactic(auto, unfolding(crate::specs::Labellings::of_axis))]
-fn of_axis<T: Copy>(c: Constellation, a: usize, qam4: T, qam16: T, standard: T, symmetric: T) -> T
-    ensures { result ≡ of_axis c a qam4 qam16 standard symmetric }
+// What belongs to a constellation's axis, of one thing for each rule.
+#[tactic(auto, unfolding(crate::specs::Labellings::of_axis, crate::specs::Axes::axis_number))]
+fn of_axis<T: Copy>(c: Constellation, a: Axis, qam4: T, qam16: T, standard: T, symmetric: T) -> T
+    ensures { result ≡ of_axis c (axis_number a) qam4 qam16 standard symmetric }
 {
     match c {
         Constellation::Qam4 => qam4,
         Constellation::Qam16 => qam16,
         Constellation::Sm64 => standard,
         Constellation::HmSym => symmetric,
-        Constellation::HmMix if a == 0 => symmetric,
-        Constellation::HmMix => standard,
+        Constellation::HmMix => match a {
+            Axis::Real => symmetric,
+            Axis::Imaginary => standard,
+        },
     }
 }
 
 // The labelling of a constellation's axis.
-fn axis_labelling(c: Constellation, a: usize) -> Labelling
-    requires { a < 2 }
-    ensures { Labels result.size result.twice result.odd (axis (constellation c) a) }
+fn axis_labelling(c: Constellation, a: Axis) -> Labelling
+    ensures { Labels result.size result.twice result.odd (axis (constellation c) (axis_number a)) }
 {
     of_axis(c, a, QAM4, QAM16, STANDARD64, SYMMETRIC64)
 }
@@ -80,7 +101,7 @@ pub fn map_cells(c: Constellation, labels: &[u8], out: &mut [i16])
     requires { Maps c labels.now out.old }
     ensures { out.new ≡ coordinates (constellation c) labels.now }
 {
-    let l = axis_labelling(c, 0);
+    let l = axis_labelling(c, Axis::Real);
     for k in 0..labels.len() {
         out[k] = coordinate_of(l, labels[k]);
     }
@@ -91,8 +112,8 @@ pub fn map_axes(c: Constellation, re: &[u8], im: &[u8], out: &mut [i16])
     requires { MapsAxes re.now im.now out.old }
     ensures { out.new ≡ coordinates (constellation c) (weave re.now im.now) }
 {
-    let real = axis_labelling(c, 0);
-    let imaginary = axis_labelling(c, 1);
+    let real = axis_labelling(c, Axis::Real);
+    let imaginary = axis_labelling(c, Axis::Imaginary);
     for k in 0..re.len() {
         out[2 * k] = coordinate_of(real, re[k]);
         out[2 * k + 1] = coordinate_of(imaginary, im[k]);
@@ -109,9 +130,8 @@ const LABELS_STANDARD64: [u8; 16] = [8, 3, 8, 2, 8, 1, 8, 0, 8, 7, 8, 6, 8, 5, 8
 const LABELS_SYMMETRIC64: [u8; 16] = [8, 6, 8, 4, 8, 2, 8, 0, 8, 7, 8, 5, 8, 3, 8, 1];
 
 // The labels of a constellation's axis.
-fn axis_labels(c: Constellation, a: usize) -> [u8; 16]
-    requires { a < 2 }
-    ensures { result ≡ labels_by (axis (constellation c) a) }
+fn axis_labels(c: Constellation, a: Axis) -> [u8; 16]
+    ensures { result ≡ labels_by (axis (constellation c) (axis_number a)) }
 {
     of_axis(
         c,
@@ -138,7 +158,7 @@ pub fn axis_label(c: Constellation, a: usize, v: i16) -> u8
     requires { a < 2 }
     ensures { result ≡ place_of (axis (constellation c) a) v }
 {
-    label_of(&axis_labels(c, a), v)
+    label_of(&axis_labels(c, axis_of(a)), v)
 }
 
 // Coordinates, real before imaginary, back to labels, where both axes have one labelling.
@@ -146,7 +166,7 @@ pub fn unmap_cells(c: Constellation, cells: &[i16], out: &mut [u8])
     requires { Unmaps c cells.now out.old }
     ensures { out.new ≡ labels_of (constellation c) cells.now }
 {
-    let labels = axis_labels(c, 0);
+    let labels = axis_labels(c, Axis::Real);
     for k in 0..out.len() {
         out[k] = label_of(&labels, cells[k]);
     }
@@ -157,7 +177,7 @@ pub fn unmap_axis(c: Constellation, a: usize, cells: &[i16], out: &mut [u8])
     requires { UnmapsAxis a cells.now out.old }
     ensures { out.new ≡ axis_labels a (labels_of (constellation c) cells.now) }
 {
-    let labels = axis_labels(c, a);
+    let labels = axis_labels(c, axis_of(a));
     for k in 0..out.len() {
         out[k] = label_of(&labels, cells[2 * k + a]);
     }

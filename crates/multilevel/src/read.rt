@@ -56,11 +56,8 @@ pub fn read_levels(
     ensures coded_after { coded.new ≡ taken_overs k.levels labels.now first (shared k) 1 (digits k) coded.old }
 {
     let step = sharing(k);
-    let mut l = first;
-    let mut weight: u8 = 1;
     for turn in 0..k.count / step {
-        read_at(k, l, weight, places, labels, coded, bits);
-        l += step;
-        weight = 2 * weight;
+        let l = first + step * turn;
+        read_at(k, l, 1 << turn, places, labels, coded, bits);
     }
 }

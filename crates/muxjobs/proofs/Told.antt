@@ -5,15 +5,19 @@ use mathlib.Core.Bool.{Bool, true, false, ◌&&◌}
 use mathlib.Core.List.{List, [], ◌∷◌}
 use native.Mathlib.Numerals.{add-one}
 use native.Mathlib.Omega.{arith}
-use borrow.Author.Tests.{lt-ltb, le-ltb}
+use borrow.Author.Tests.{lt-ltb, le-ltb, ne_eqb}
 use lib.ListN.{length, get_or, drop, replicate, drop_of_length-le}
 use lib.Seq.{drop-cons}
 use Rattle.settings.specs.declared.Settings.{Settings}
 use Rattle.console.specs.declared.MuxJob.{MuxJob}
 use Rattle.console.specs.declared.MuxJob.TheVariants.{Mux, Demux}
-use Rattle.std.specs.Prelude.{Result, Some, None}
+use Rattle.std.specs.Prelude.{Result, Ok, Err, Some, None}
+use Rattle.std.specs.Result.{IsErrAnd}
+use Rattle.refusal.specs.declared.Refusal.{Refusal}
+use Rattle.refusal.specs.Numbers.{number as number_of}
+use Rattle.refusal.proofs.Positive.{number_positive}
 use Rattle.turns.specs.declared.Failure.{Failure}
-use Rattle.turns.specs.Yield.{made_yield}
+use Rattle.turns.specs.Yield.{made_yield, failure_of}
 use Rattle.multiplex.specs.declared.Layout.{Layout}
 use Rattle.multiplex.specs.Description.{described}
 use Rattle.multiplex.specs.Build.{build_yield, build_of}
@@ -62,6 +66,16 @@ module _ (l : Layout) (F : Fitting l) (n : ℕ) (e : n ≡ bytes_for (l.vspp + l
 
   pub streams_room : l.head + (l.a + l.b) ≤ 4589
   streams_room = omega (arith, F.small, F.parts, F.head)
+
+-- What is made where a call refused, which is passed on, and where it did not.
+pub made_passed : (q : Refusal) (n : ℕ) (made : Result ℕ Failure) → IsErrAnd made (λ f. f ≡ failure_of q) → made ≡ made_by (number_of q) n
+unfolding made_by
+made_passed q n (Ok k) e = absurd e
+made_passed q n (Err f) e = rw (e, ne_eqb (number_of q) 0 (λ z. omega (arith, z, number_positive q)))
+
+pub made_all : (n m : ℕ) → n ≡ m → Ok n ≡ made_by 0 m
+unfolding made_by
+made_all n m e = ap Ok e
 
 -- A frame.
 module _ (job : MuxJob) (s : Settings) (d bytes out out' : List ℕ) (number : ℕ) (r : Result ℕ Failure) where

@@ -1,10 +1,9 @@
 // A multiplex frame of a job: bytes in, bytes out.
 // Stays, in this module: buffers stand one by one, since a clause would name one in a struct `run.now.bytes.now` and not `bytes.now`.
-ghost use Rattle.std.specs.Prelude.{◌≡◌, ◌≤◌, IfOk, length as ListN·length};
-ghost use Rattle.refusal.specs.Numbers.{answer};
+ghost use Rattle.std.specs.Prelude.{◌≡◌, ◌≤◌, IfOk, length};
 ghost use Rattle.turns.specs.Yield.{made_yield};
 ghost use Rattle.multiplex.specs.Clauses.{Fitting};
-ghost use Rattle.muxjobs.specs.Frames.{taking, planned, plan_of, plan_yield, made_by, frame_of};
+ghost use Rattle.muxjobs.specs.Frames.{taking, planned, plan_of, plan_yield, frame_of};
 ghost use Rattle.muxjobs.specs.Clauses.{Room};
 
 use crate::Plan;
@@ -71,16 +70,6 @@ pub fn plan(job: MuxJob, s: Settings, description: &[u16]) -> Result<Plan, NotSt
     planned(job, l)
 }
 
-// What goes out by the outcome of a call: the whole output, or nothing.
-#[tactic(auto, using(refusal::proofs::Positive::number_positive), unfolding(crate::specs::Frames::made_by))]
-fn made_by(outcome: Result<(), Refusal>, length: usize) -> Result<usize, Failure>
-    ensures value { result ≡ made_by (answer outcome) length }
-    ensures length_in_bounds { IfOk result (λ n. n ≤ length) }
-{
-    outcome?;
-    Ok(length)
-}
-
 // A multiplex frame of a job: its bytes come in, and the whole output is to be written; a refusal leaves it as it was.
 pub fn frame(
     job: MuxJob,
@@ -90,12 +79,12 @@ pub fn frame(
     out: &mut [u8],
 ) -> Result<usize, Failure>
     ensures out_after { made_yield result out.new ≡ frame_of job s description.now bytes.now out.old }
-    ensures length_bound { IfOk result (λ n. n ≤ ListN·length out.old) }
+    ensures length_bound { IfOk result (λ n. n ≤ length out.old) }
 {
-    let n = out.len();
     // Stays: the job comes from the command line as a value, so what it does is found by a `match`.
     match job {
-        MuxJob::Mux => made_by(build(s, description, bytes, out), n),
-        MuxJob::Demux => made_by(read(s, description, bytes, out), n),
+        MuxJob::Mux => build(s, description, bytes, out)?,
+        MuxJob::Demux => read(s, description, bytes, out)?,
     }
+    Ok(out.len())
 }

@@ -4,6 +4,7 @@ ghost use Rattle.std.specs.Prelude.{◌≤◌, length};
 use std::env::{Env, FillError};
 
 // Puts argument i at the start of a buffer, and answers its length, or 0 where it is missing or longer than the buffer.
+// Stays: to each of the callers a missing word is an empty one, so that with an `Option` each would write `unwrap_or(0)`.
 pub fn argument(rt: HostRuntime, i: usize, bytes: &mut [u8]) -> usize
     ensures { result ≤ length bytes.new }
 {

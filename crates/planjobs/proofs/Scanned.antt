@@ -2,14 +2,16 @@
 use Prim.Native.Nat.{ℕ, ◌+◌, ◌-◌, ◌*◌, ◌≤◌, ◌<◌}
 use native.Mathlib.Numerals.{add-one}
 use native.Mathlib.Omega.{arith}
-use borrow.Author.Tests.{eqb-true}
+use borrow.Author.Tests.{eqb-true, lt-ltb, le-ltb}
 use mathlib.Core.Path.{◌≡◌, refl, sym, ap, ◌∙◌}
 use mathlib.Core.Bool.{Bool, true, false, ◌&&◌}
 use mathlib.Core.List.{List}
+use mathlib.Core.Logic.{inl, inr}
 use lib.ListN.{length, get_or, take, drop, drop_of_length-le, get_or-eq_default}
 use lib.Seq.{drop-cons}
 use lib.Dec.{eqb, ltb}
-use Rattle.lists.proofs.Bools.{and_left, and_right}
+use Rattle.lists.proofs.Bools.{and_left, and_right, never_both}
+use Rattle.lists.proofs.Counting.{below_or}
 use Rattle.lists.specs.Lists.{table}
 use Rattle.lists.proofs.Parts.{to_end, length_end}
 use Rattle.numerals.specs.Digits.{are_hex}
@@ -17,6 +19,7 @@ use Rattle.line.specs.Read.{digits}
 use Rattle.numerals.specs.Numbers.{is_digit}
 use Rattle.numerals.specs.Clauses.{held}
 use Rattle.planjobs.specs.declared.Number.{Number}
+use Rattle.planjobs.specs.Clauses.{no_number, NumberAt}
 use Rattle.planjobs.specs.Lines.{scanned, number_in, first_in, after_in, settings_from, is_rule, rule_byte, rule_in}
 
 -- before the byte at a place: the value of the digits before it, and what the rest leads to
@@ -44,6 +47,9 @@ module _ (line : List ℕ) (from : ℕ) where
   unfolding scanned
   scanning_end value next h w = rw (drop_of_length-le line h) at w.rest
 
+  pub scanning_whole : (value next : ℕ) → length line ≡ next → Scanning line from value next → record { value = value; next = length line } ≡ number_in line from
+  scanning_whole value next e w = rw e (scanning_end value next (omega (arith, e)) w)
+
 -- what a rule's line says of its settings' digits
 pub rule_digits : (line : List ℕ) → is_rule line ≡ true → (digits (drop (settings_from line) line) 0 20 ≡ true) × (length line ≡ settings_from line + 20)
 unfolding is_rule
@@ -54,15 +60,58 @@ rule_digits line h =
     let d = and_right (eqb (get_or line (after_in line).next 0) 32) _ c in
     (and_right (eqb (length line) (settings_from line + 20)) _ d, eqb-true (length line) (settings_from line + 20) (and_left _ (digits (drop (settings_from line) line) 0 20) d))
 
+pub no_digit : (line : List ℕ) (at : ℕ) → length line ≤ at → false ≡ is_digit (get_or line at 0)
+unfolding is_digit
+no_digit line at h = rw (get_or-eq_default line 0 h)
+
+pub no_number_at : (line : List ℕ) (from : ℕ) → is_digit (get_or line from 0) ≡ false → number_in line from ≡ no_number from
+no_number_at line from d =
+    elim (below_or from (length line)) [
+      | inl h ↦ sym (scanning_stop line from 0 from h d (scanning_start line from))
+      | inr h ↦ sym (scanning_end line from 0 from h (scanning_start line from))
+    ]
+
+-- a digit is inside the line, and what is none stands behind it
+pub digit_there : (line : List ℕ) (at : ℕ) → is_digit (get_or line at 0) ≡ true → at < length line
+digit_there line at d =
+    elim (below_or at (length line)) [
+      | inl h ↦ h
+      | inr h ↦ absurd (never_both (is_digit (get_or line at 0)) d (sym (no_digit line at h)))
+    ]
+
+pub moved_on : (line : List ℕ) (from next : ℕ) → from ≤ next → is_digit (get_or line from 0) ≡ true → is_digit (get_or line next 0) ≡ false → from < next
+moved_on line from next h d n =
+    elim (below_or from next) [
+      | inl k ↦ k
+      | inr k ↦ (
+          let e : next ≡ from = omega (arith, h, k) in
+          absurd (never_both (is_digit (get_or line from 0)) d (sym (ap (λ j. is_digit (get_or line j 0)) e) ∙ n)))
+    ]
+
 pub no_space : (line : List ℕ) (at : ℕ) → length line ≤ at → false ≡ eqb (get_or line at 0) 32
 no_space line at h = rw (get_or-eq_default line 0 h)
 
 -- the code's test of a line is the definition's
-pub good_rule : (line : List ℕ) (f g : Number) (x y z : Bool) → f ≡ number_in line 0 → g ≡ number_in line (f.next + 1) → x ≡ eqb (get_or line g.next 0) 32
+pub good_rule : (line : List ℕ) (f g : Number) (x y z : Bool) → NumberAt line 0 f → NumberAt line (f.next + 1) g → x ≡ eqb (get_or line g.next 0) 32
     → y ≡ (eqb (length line) (g.next + 1 + 20) && digits (drop (g.next + 1) line) 0 20) → z ≡ eqb (get_or line f.next 0) 32
-    → (ltb (length line) 256 && (ltb 0 f.next && (z && (ltb (f.next + 1) g.next && (x && y))))) ≡ is_rule line
+    → (ltb (length line) 256 && (z && (x && y))) ≡ is_rule line
 unfolding is_rule first_in after_in settings_from
-good_rule line f g x y z ef eg ex ey ez = rw (ex, ey, ez, eg, ef)
+good_rule line f g x y z F G ex ey ez = rw (ex, ey, ez, ← F.same, ← G.same, lt-ltb 0 f.next F.moved, lt-ltb (f.next + 1) g.next G.moved)
+
+-- a line without one of its minutes is no rule
+late : (a b c : Bool) → (a && (b && (c && false))) ≡ false
+late false b c = refl
+late true false c = refl
+late true true false = refl
+late true true true = refl
+
+pub no_first : (line : List ℕ) → number_in line 0 ≡ no_number 0 → is_rule line ≡ false
+unfolding is_rule first_in
+no_first line e = rw e (late (ltb (length line) 256) true true)
+
+pub no_after : (line : List ℕ) (f : Number) → f ≡ number_in line 0 → number_in line (f.next + 1) ≡ no_number (f.next + 1) → is_rule line ≡ false
+unfolding is_rule first_in after_in
+no_after line f ef e = rw (← ef, e, le-ltb (f.next + 1) (f.next + 1) (omega arith)) (late (ltb (length line) 256) (ltb 0 f.next) (eqb (get_or line f.next 0) 32))
 
 pub after_is : (line : List ℕ) (f g : Number) → f ≡ number_in line 0 → g ≡ number_in line (f.next + 1) → g ≡ after_in line
 unfolding first_in after_in

@@ -1,22 +1,24 @@
 -- The rule of a stretch of an accepted plan. Assumes nothing.
-use Prim.Native.Nat.{ℕ, ◌≤◌, ◌<◌}
+use Prim.Native.Nat.{ℕ, ◌-◌, ◌*◌, ◌≤◌, ◌<◌}
 use native.Mathlib.Omega.{arith}
-use borrow.Author.Tests.{ltb-true, leb-true, eqb-true}
+use borrow.Author.Tests.{ltb-true, leb-true, eqb-true, eq-eqb, ne_eqb}
 use mathlib.Core.Path.{◌≡◌, refl, sym, ap, ◌∙◌}
 use mathlib.Core.Bool.{Bool, true, false, cond}
-use mathlib.Core.List.{List}
+use mathlib.Core.List.{List, [], ◌∷◌}
 use lib.ListN.{length, get_or}
 use lib.Dec.{eqb, ltb, leb}
 use Rattle.lists.proofs.Bools.{and_left, and_right}
 use Rattle.plan.specs.declared.Rule.{Rule}
 use Rattle.plan.specs.declared.Mark.{Mark}
 use Rattle.plan.specs.declared.Mark.TheVariants.{Other, Closing, First}
-use Rattle.plan.specs.Rules.{week_minutes, no_rule, rules_of}
+use Rattle.plan.specs.Rules.{week_minutes, minute_frames, mark_of, no_rule, rules_of}
 use Rattle.plan.specs.Answers.{ordered, plan_refusal, Answered, accepted, refused, answer_of, mark_number}
 use Rattle.plan.specs.Clauses.{Covered}
 use Rattle.plan.proofs.Minutes.{at_rule}
 use Rattle.plan.proofs.Chain.{good}
 use Rattle.plan.proofs.WeekPlans.{week_plan}
+use Rattle.line.specs.Written.{decimal}
+use Rattle.planjobs.specs.Week.{closing_frame, closing_text}
 
 -- an answer's number is the plan's
 answer_number_lem : (plan : List Rule) (t : ℕ) → (answer_of plan t).refusal ≡ plan_refusal plan t
@@ -32,6 +34,16 @@ pub closing_mark : (m : Mark) → mark_number m ≡ 1 → m ≡ Closing
 closing_mark Other e = absurd (omega (arith, e))
 closing_mark Closing e = refl
 closing_mark First e = absurd (omega (arith, e))
+
+-- what is said of a closing
+pub closing_there : (plan : List Rule) (after : ℕ) → 1 ≤ after → mark_of plan (minute_frames * after - 1) ≡ 1
+    → decimal (minute_frames * after - 2) ≡ closing_text (closing_frame plan after)
+unfolding closing_frame closing_text
+closing_there plan after h e = rw (eq-eqb _ 1 e, ne_eqb (minute_frames * after - 2) 0 (λ z. omega (arith, z, h)))
+
+pub closing_none : (plan : List Rule) (after : ℕ) → (mark_of plan (minute_frames * after - 1) ≡ 1 → ⊥) → 45 ∷ [] ≡ closing_text (closing_frame plan after)
+unfolding closing_frame closing_text
+closing_none plan after n = rw (ne_eqb _ 1 n)
 
 module _ (bytes : List ℕ) (t : ℕ) (a : Answered) (e : a ≡ answer_of (rules_of bytes) t) (z : a.refusal ≡ 0) where
   abbrev plan : List Rule

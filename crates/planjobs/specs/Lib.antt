@@ -1,3 +1,4 @@
 pub mod Arguments
+pub mod Clauses
 pub mod Lines
 pub mod Week

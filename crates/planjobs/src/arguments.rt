@@ -12,8 +12,8 @@ pub fn asked(count: usize, frame: &[u8]) -> Option<Asked>
     if count == 3 {
         return Some(Asked::Week);
     }
-    let t = number(frame, 0);
-    if (frame.len() < 32) & ((0 < t.next) & (t.next == frame.len())) {
+    let t = number(frame, 0)?;
+    if (frame.len() < 32) & (t.next == frame.len()) {
         return Some(Asked::SuperFrame(t.value));
     }
     None

@@ -1,9 +1,11 @@
 // Lines of a plan's file.
-ghost use Rattle.std.specs.Prelude.{◌≡◌, true, cond, ◌&&◌, ◌+◌, ◌≤◌, Some, None, length, get_or, drop, eqb};
+ghost use Rattle.std.specs.Prelude.{◌≡◌, true, cond, ◌&&◌, ◌+◌, ◌≤◌, Some, None, IfNone, IfSome, length, get_or, drop, eqb};
 ghost use Rattle.lists.specs.Lists.{table};
 ghost use Rattle.line.specs.Read.{digits};
 ghost use Rattle.numerals.specs.Digits.{are_hex};
+ghost use Rattle.numerals.specs.Numbers.{is_digit};
 ghost use Rattle.planjobs.specs.Lines.{number_in, minute_bytes, is_rule, rule_byte, rule_in};
+ghost use Rattle.planjobs.specs.Clauses.{no_number, NumberAt};
 
 use crate::Number;
 use line::read::are_digits;
@@ -19,23 +21,33 @@ fn is_space(line: &[u8], at: usize) -> bool
     at < line.len() && line[at] == b' '
 }
 
-// The decimal number from a place on.
-pub fn number(line: &[u8], from: usize) -> Number
-    ensures value { result ≡ number_in line.now from }
-    ensures next_in_bounds { result.next ≤ length line.now + from }
+// Whether a digit stands at a place.
+#[tactic(auto, using(crate::proofs::Scanned::no_digit))]
+fn has_digit(line: &[u8], at: usize) -> bool
+    ensures { result ≡ is_digit (get_or line.now at 0) }
 {
+    at < line.len() && is_digit(line[at])
+}
+
+// The decimal number from a place on, or none where no digit stands there.
+pub fn number(line: &[u8], from: usize) -> Option<Number>
+    ensures none { IfNone result (number_in line.now from ≡ no_number from) }
+    ensures some { IfSome result (λ n. NumberAt line.now from n) }
+    ensures next_in_bounds { IfSome result (λ n. n.next ≤ length line.now) }
+{
+    if !has_digit(line, from) {
+        return None;
+    }
     let mut value = 0;
     for next in from..line.len() {
         let byte = line[next];
         if !is_digit(byte) {
-            return Number { value, next };
+            return Some(Number { value, next });
         }
         value = grown(value, byte - b'0');
     }
-    Number {
-        value,
-        next: from.max(line.len()),
-    }
+    let next = line.len();
+    Some(Number { value, next })
 }
 
 // A minute in two bytes, high byte first; one that they do not hold is the greatest of them.
@@ -74,13 +86,12 @@ pub fn rule_line(line: &[u8]) -> Option<[u8; RULE_BYTES]>
     requires { length line.now ≤ 256 }
     ensures { result ≡ cond (is_rule line.now) (Some (rule_in line.now)) None }
 {
-    let first = number(line, 0);
+    let first = number(line, 0)?;
     let a = first.next;
-    let after = number(line, a + 1);
+    let after = number(line, a + 1)?;
     let b = after.next;
     let ends = is_space(line, b) & ends_in_digits(line, b + 1);
-    let minutes = (0 < a) & (is_space(line, a) & ((a + 1 < b) & ends));
-    let good = (line.len() < 256) & minutes;
+    let good = (line.len() < 256) & (is_space(line, a) & ends);
     if !good {
         return None;
     }

@@ -3,7 +3,8 @@ ghost use Rattle.std.specs.Prelude.{◌≡◌, ℕ, ◌+◌, ◌≤◌, List, �
 ghost use Rattle.plan.specs.Rules.{rules_of};
 ghost use Rattle.plan.specs.Answers.{mark_number};
 ghost use Rattle.plan.specs.Clauses.{Covered};
-ghost use Rattle.planjobs.specs.Week.{line_yield, answer_text, answer_printed, closing_frame, closing_text, stretch_text, stretch_yield, stretch_printed, refused_line};
+ghost use Rattle.planjobs.specs.Week.{line_yield, answer_text, answer_printed, closing_frame, closing_text, stretch_yield, stretch_printed, refused_line};
+ghost use Rattle.planjobs.specs.Clauses.{closing_said, stretch_said};
 
 use crate::Stretch;
 use plan::answers::answer;
@@ -35,23 +36,21 @@ pub fn answer_line(rules: &[u8], t: u32) -> Result<Text, Refusal>
 }
 
 // The first super frame of a closing, or a hyphen.
-#[tactic(auto, unfolding(crate::specs::Week::closing_text))]
-fn put_closing(text: &mut Text, frame: u32)
+fn put_closing(text: &mut Text, closing: Option<u32>)
     requires { length text.old + 20 ≤ 1024 }
-    ensures put { text.new ≡ text.old ++ closing_text frame }
+    ensures put { text.new ≡ text.old ++ closing_said closing }
     ensures room { length text.new ≤ length text.old + 20 }
 {
-    if frame == 0 {
-        text.put(b"-");
-    } else {
-        text.put_decimal(frame as u64);
+    match closing {
+        Some(frame) => text.put_decimal(frame as u64),
+        None => text.put(b"-"),
     }
 }
 
 // A stretch: its first super frame, its rule's place, its closing.
-#[tactic(auto, using(std::proofs::Common::append_assoc), unfolding(crate::specs::Week::stretch_text, line::specs::Written::space, line::specs::Written::line_end))]
-fn stretch_text(frame: u32, place: u8, closing: u32) -> Text
-    ensures { result ≡ stretch_text frame place closing }
+#[tactic(auto, using(std::proofs::Common::append_assoc), unfolding(line::specs::Written::space, line::specs::Written::line_end))]
+fn stretch_text(frame: u32, place: u8, closing: Option<u32>) -> Text
+    ensures { result ≡ stretch_said frame place (closing_said closing) }
 {
     let mut text = Text::new();
     text.put_decimal(frame as u64);
@@ -63,18 +62,18 @@ fn stretch_text(frame: u32, place: u8, closing: u32) -> Text
     text
 }
 
-// The first super frame of the closing with which a rule ends, 0 where it has none.
-fn closing_frame(rules: &[u8], after: u16) -> u32
+// The first super frame of the closing with which a rule ends, or none.
+fn closing_frame(rules: &[u8], after: u16) -> Option<u32>
     requires covered { Covered rules.now }
     requires le_after { 1 ≤ after }
     requires after_bound { after ≤ 10080 }
-    ensures { result ≡ closing_frame (rules_of rules.now) after }
+    ensures { closing_said result ≡ closing_text (closing_frame (rules_of rules.now) after) }
 {
     let end = MINUTE_FRAMES * after as u32;
     if mark(rules, end - 1) == Mark::Closing {
-        return end - 2;
+        return Some(end - 2);
     }
-    0
+    None
 }
 
 // `plan FILE`: the stretch that begins with a minute.

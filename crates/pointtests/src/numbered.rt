@@ -16,6 +16,7 @@ pub fn all_pass(c: u8, blank: bool, cells: &[i16]) -> bool
 }
 
 // Every cell passes by a test, of which the constellation is the number's: some may be ignored.
+// Stays: with `0 < depth` as an invariant a caller could no longer make a PointTest of depth 0, and docs/DECISIONS.md names `points_pass`.
 pub fn points_pass(c: u8, test: PointTest, cells: &[i16]) -> bool
     requires { 0 < test.depth }
     ensures { result ≡ points_pass (of_number c test) cells.now }

@@ -68,6 +68,7 @@ pub fn all_pass(c: Constellation, blank: bool, cells: &[i16]) -> bool
 }
 
 // The same where some may be ignored, whose delays are counted along.
+// Stays: with `0 < depth` as an invariant a caller could no longer make a PointTest of depth 0, and docs/DECISIONS.md names `points_pass`.
 fn some_pass(test: PointTest, cells: &[i16]) -> bool
     requires { 0 < test.depth }
     ensures { result ≡ points_pass test cells.now }
@@ -83,6 +84,7 @@ fn some_pass(test: PointTest, cells: &[i16]) -> bool
 }
 
 // Every cell passes: without delays where the count has reached them all, since they stop a processor from testing several at once.
+// Stays: with `0 < depth` as an invariant a caller could no longer make a PointTest of depth 0, and docs/DECISIONS.md names `points_pass`.
 pub fn points_pass(test: PointTest, cells: &[i16]) -> bool
     requires { 0 < test.depth }
     ensures { result ≡ points_pass test cells.now }

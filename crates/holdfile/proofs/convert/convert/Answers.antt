@@ -2,20 +2,16 @@
 use mathlib.Core.Path.{◌∙◌, ap, sym}
 use Rattle.settings.proofs.Bounds.{accepted_of}
 use Rattle.holdlines.specs.Files.{file_length}
-use Rattle.holdfile.proofs.Turning.{refused_room, refused_file, file_turned}
+use Rattle.holdfile.proofs.Turning.{refused_room, turned}
 use Rattle.holdfile.proofs.convert.convert.Goals as goal
 
 pub returns-then-out-file_bytes : goal.returns-then-out-file_bytes
 returns-then-out-file_bytes c =
     refused_room _ _ _ _ (sym c.in_ok-check.ensures) (λ e. c.if-out-file_bytes.true (e ∙ sym (c.file_bytes.ensures ∙ ap (λ k. file_length k c.args.s) c.other_form.ensures)))
 
-pub returns-then-not-turn_file : goal.returns-then-not-turn_file
-returns-then-not-turn_file c =
-    refused_file _ _ _ _ (sym c.in_ok-check.ensures) (c.if-out-file_bytes.false ∙ c.file_bytes.ensures ∙ ap (λ k. file_length k c.args.s) c.other_form.ensures) _ _ c.turn_file.ensures c.if-not-turn_file.true
-
 pub returns : goal.returns
 returns c =
-    file_turned _ _ _ _ (sym c.in_ok-check.ensures) (c.if-out-file_bytes.false ∙ c.file_bytes.ensures ∙ ap (λ k. file_length k c.args.s) c.other_form.ensures) _ _ c.turn_file.ensures c.if-not-turn_file.false
+    turned _ _ _ _ (sym c.in_ok-check.ensures) (c.if-out-file_bytes.false ∙ c.file_bytes.ensures ∙ ap (λ k. file_length k c.args.s) c.other_form.ensures) _ _ c.turn_file.ensures
 
 pub file_bytes-requires : goal.file_bytes-requires
 file_bytes-requires c = accepted_of _ (sym c.in_ok-check.ensures)

@@ -1,6 +1,10 @@
-use Rattle.std.proofs.Common.{arith}
-use Rattle.howlong.proofs.Counting.{few_super_frames, super_frames_lem}
+use Prim.Native.Nat.{ℕ, ◌+◌}
+use mathlib.Core.Path.{ap, ◌∙◌}
+use native.Mathlib.Omega.{arith}
+use Rattle.howlong.proofs.Counting.{few_super_frames, super_frames_is, super_frames_lem}
 use Rattle.howlong.proofs.calls.super_frames.Goals as goal
 
 pub returns : goal.returns
-returns c = (super_frames_lem c.args.l2 c.args.n, few_super_frames _ _ _ (omega arith) (omega arith))
+returns c =
+    let e = super_frames_is c.args.l2 c.args.n _ _ c.requires.some c.div_ceil-frames.ensures c.div_ceil.ensures in
+    (ap (λ (k : ℕ). k + 2) e ∙ super_frames_lem c.args.l2 c.args.n, rw e (few_super_frames _ _ _ (omega arith) (omega arith)))

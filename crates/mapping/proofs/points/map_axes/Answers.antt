@@ -3,6 +3,7 @@ use mathlib.Core.Path.{sym, ◌∙◌}
 use borrow.Author.Rules.{rules, sfits_of}
 use mir.Syntax.{w16}
 use mir.Facts.{to_z-of_z}
+use Rattle.mapping.specs.Axes.{axis_number}
 use Rattle.mapping.proofs.Coordinates.{start, turn, done, weave_even, weave_odd}
 use Rattle.block.proofs.Mapping.{length-weave}
 use Rattle.mapping.proofs.points.map_axes.Goals as goal
@@ -11,6 +12,7 @@ pub loop-k-init : goal.loop-k-init
 loop-k-init c = start _ _ _ (c.requires.same ∙ sym (length-weave _ _))
 
 pub loop-k-preserved : goal.loop-k-preserved
+unfolding axis_number
 loop-k-preserved c =
     let l = c in
     let s = l in

@@ -10,10 +10,12 @@ use mir.Facts.{to_z-of_z}
 use Rattle.lists.proofs.Tables.{filled_turn, filled_end}
 use Rattle.block.specs.Mapping.{constellation}
 use Rattle.mapping.specs.Labels.{coordinates}
+use Rattle.mapping.specs.Axes.{axis_number}
 use Rattle.mapping.proofs.Coordinates.{alike}
 use Rattle.mapping.proofs.points.map_cells.Goals as goal
 
 pub loop-k-preserved : goal.loop-k-preserved
+unfolding axis_number
 loop-k-preserved c =
     let l = c.loop-k in
     let s = c in

@@ -8,11 +8,13 @@ use lib.IntN.{ℤ, pos}
 use mir.Syntax.{w16}
 use Rattle.lists.proofs.Tables.{filled_turn, filled_end}
 use Rattle.block.specs.Reading.{place_of, labels_of}
+use Rattle.mapping.specs.Axes.{axis_number}
 use Rattle.mapping.proofs.Coordinates.{alike}
 use Rattle.mapping.proofs.Labels.{number_read}
 use Rattle.mapping.proofs.points.unmap_cells.Goals as goal
 
 pub loop-k-preserved : goal.loop-k-preserved
+unfolding axis_number
 loop-k-preserved c =
     let l = c.loop-k in
     let s = c in

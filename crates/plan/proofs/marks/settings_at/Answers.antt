@@ -11,12 +11,12 @@ use Rattle.plan.proofs.marks.settings_at.Goals as goal
 pub rule_at-requires : goal.rule_at-requires
 unfolding found_in minute_of
 rule_at-requires c =
-    let a = c in
-    let plan = rules_of a.args.rules.now in
-    rw c.find-place.ensures (place-has plan (minute_of a.args.t) (minute_covered plan a.requires.all _ (minute_low a.args.t))).0
+    let plan = rules_of c.week.inside.rules.now in
+    rw c.find-place.ensures (place-has plan (minute_of c.args.t) (minute_covered plan c.week.invariant.all _ (minute_low c.args.t))).0
 
 pub returns : goal.returns
 unfolding settings_at found_in minute_of
 returns c =
-    let plan = rules_of c.args.rules.now in
+    let plan = rules_of c.week.inside.rules.now in
     ap (λ (r : Rule). r.settings) (c.rule_at.ensures ∙ ap (λ (f : Found). get_or plan f.place no_rule) c.find-place.ensures)
+    ∙ ap (λ p. settings_at p c.args.t) c.week.view_is
