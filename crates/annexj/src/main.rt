@@ -103,10 +103,7 @@ impl Group {
 // The bits of an SDC block: a row for 16-QAM and one for 4-QAM.
 fn sdc_bits(at: Place) -> usize {
     let cells = tables::n_sdc(at.mode, at.occupancy);
-    if 65535 < cells {
-        return 0;
-    }
-    formulas::sdc_bits(at.row, cells)
+    u16::try_from(cells).map_or(0, |n| formulas::sdc_bits(at.row, n))
 }
 
 // A row of a table: its name, and a count for each occupancy that the group uses.

@@ -10,6 +10,8 @@ use patterns::Pattern;
 pub mod buffers;
 
 // A level: its input bits in parts A and B, the puncturing patterns of both and of its tail, and the interleaver's t, 0 where it isn't interleaved.
+// Stays: t is a number in the definitions over levels (`Levels.mixed`, `Fits.Mixes`, `Reading.unmixed`, `channels` `Msc.vspp_level`), and 0 there is no
+// interleaving; with an Option these would be other definitions.
 #[derive(Clone, Copy)]
 pub struct Level {
     pub bitsa: usize,

@@ -1,8 +1,7 @@
 // The places of a block's coded bits: for each digit of the labels a table of part A's places and then of part B's, the digits' tables one after the
 // other. In HMmix the two levels of a digit are interleaved alike at every setting, and so they have one table.
-ghost use Rattle.std.specs.Prelude.{◌≡◌, cond, ◌*◌, take};
+ghost use Rattle.std.specs.Prelude.{◌≡◌, cond, ◌*◌, ◌≤◌, take};
 ghost use Rattle.block.specs.Block.{one_axis};
-ghost use Rattle.block.specs.Fits.{BlockFits};
 ghost use Rattle.block.specs.Reading.{size_a};
 ghost use Rattle.labels.specs.Clauses.{Ordered, LevelOrder};
 ghost use Rattle.blockplaces.specs.Clauses.{digit_at, BlockOrder, PartPlaces, LevelPlaces, BlockPlaces, part_over, level_over, block_over, shared};
@@ -10,6 +9,14 @@ ghost use Rattle.blockplaces.specs.Clauses.{digit_at, BlockOrder, PartPlaces, Le
 use block::{Block, Level};
 use component::code::coded_length;
 use interleaver::table::make_places;
+
+// A block and the places of its coded bits, as `block_places` makes them.
+#[derive(Clone, Copy)]
+pub struct Order<'a> {
+    pub block: Block,
+    pub places: &'a [u16],
+    pub ghost ordered: { BlockOrder block places.now },
+}
 
 // A part's places and a 0 after them, if it is interleaved.
 fn part_places(t: usize, n: usize, out: &mut [u16])
@@ -40,7 +47,7 @@ fn level_places(l: Level, n: usize, out: &mut [u16])
 
 // The coded bits of each level.
 fn level_bits(k: Block) -> usize
-    requires { BlockFits k }
+    requires { k.cells ≤ 6118 }
     ensures { result ≡ cond (one_axis k) k.cells (2 * k.cells) }
 {
     if k.one_axis() {

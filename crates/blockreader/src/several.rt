@@ -1,7 +1,6 @@
 // Blocks of a kind, up to three, each read into its own place. 01 "Buffers and state" and "Operations".
-// Stays, in this module: buffers stand one by one; with a struct of `&mut` a clause must also say that each reference is still the same one.
-ghost use Rattle.blockplaces.specs.Clauses.{BlockOrder};
-ghost use Rattle.block.specs.Fits.{WorkLent};
+// Stays, in this module: cells and bytes are the caller's; docs/PROMISES.md names `read_several`, which is lent them one by one, and with a struct of `&mut` a
+// clause must also say that each reference is still the same one.
 ghost use Rattle.blockcoder.specs.Clauses.{Enough};
 ghost use Rattle.blockreader.specs.Clauses.{SeveralLent, SeveralRead};
 
@@ -10,26 +9,24 @@ use block::Block;
 use block::buffers::{
     MOST_BITS, MOST_NUMBERS, MOST_PLACES, SMALL_BITS, SMALL_CELLS, SMALL_NUMBERS, SMALL_PLACES,
 };
-use blockplaces::tables::block_places;
+use blockcoder::work::Work;
+use blockplaces::tables::{Order, block_places};
 use lists::buffers::buffer;
 use multilevel::places::bit_count;
 
 // So many blocks, whose cells stand one after the other: whether bits give each, true in a place without a block; their bytes are written.
-fn read_each(
-    k: Block,
+fn read_each<const BITS: usize, const NUMBERS: usize>(
+    work: &mut Work<BITS, NUMBERS>,
     many: usize,
-    places: &[u16],
     cells: &[i16],
-    bits: &mut [u8],
-    labels: &mut [u8],
-    coded: &mut [u8],
     bytes: &mut [u8],
 ) -> [bool; 3]
-    requires several_lent { SeveralLent k many cells.now bytes.old × WorkLent k bits.old labels.old coded.old }
-    requires block_order { BlockOrder k places.now }
-    ensures { SeveralRead k many cells.now bytes.old result bytes.new }
+    requires { SeveralLent work.old.order.block many cells.now bytes.old }
+    ensures { SeveralRead work.old.order.block many cells.now bytes.old result bytes.new }
 {
-    let mut again: [i16; MOST_NUMBERS] = buffer(0);
+    let mut numbers: [i16; NUMBERS] = buffer(0);
+    let again = &mut numbers[..];
+    let k = work.order.block;
     let n = 2 * k.cells;
     let m = bit_count(k).div_ceil(8);
     let mut given = [true; 3];
@@ -37,12 +34,8 @@ fn read_each(
         let at = n * i;
         let to = m * i;
         given[i] = read_lent(
-            k,
-            places,
+            work,
             &cells[at..at + n],
-            bits,
-            labels,
-            coded,
             &mut again[0..n],
             &mut bytes[to..to + m],
         );
@@ -61,20 +54,17 @@ fn read_within<const PLACES: usize, const BITS: usize, const NUMBERS: usize>(
     ensures { SeveralRead k many cells.now bytes.old result bytes.new }
 {
     let mut places: [u16; PLACES] = buffer(0);
-    let mut bits: [u8; BITS] = buffer(0);
-    let mut labels: [u8; NUMBERS] = buffer(0);
-    let mut coded: [u8; NUMBERS] = buffer(0);
     block_places(k, &mut places);
-    read_each(
-        k,
-        many,
-        &places,
-        cells,
-        &mut bits,
-        &mut labels,
-        &mut coded,
-        bytes,
-    )
+    let mut work: Work<BITS, NUMBERS> = Work {
+        order: Order {
+            block: k,
+            places: &places,
+        },
+        bits: buffer(0),
+        labels: buffer(0),
+        coded: buffer(0),
+    };
+    read_each(&mut work, many, cells, bytes)
 }
 
 // So many blocks, whose cells stand one after the other: whether bits give each, true in a place without a block; their bytes are written.

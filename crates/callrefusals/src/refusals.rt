@@ -2,7 +2,6 @@
 ghost use Rattle.std.specs.Prelude.{◌≡◌, map, length, ◌*◌, ◌≤◌, Ok, IfOk};
 ghost use Rattle.refusal.specs.Numbers.{answer};
 ghost use Rattle.settings.specs.Sizes.{all_sizes, sizes_yield};
-ghost use Rattle.settings.specs.Refusal.{refusal};
 ghost use Rattle.settings.specs.Lengths.{l_sdc};
 ghost use Rattle.block.specs.Packing.{spare_zero};
 ghost use Rattle.lists.specs.Bools.{every};
@@ -86,11 +85,11 @@ fn frames_spare(bits: usize, bytes: usize, msc: &[u8]) -> bool
 }
 
 // The bits of an SDC block.
+#[tactic(auto, using(partlengths::proofs::Counts::sdc_low), unfolding(settings::specs::Lengths::l_sdc, settings::specs::Lengths::n_sdc))]
 fn sdc_bits(s: Settings) -> usize
-    requires { refusal s ≡ 0 }
     ensures { result ≡ l_sdc s }
 {
-    formulas::sdc_bits(s.sdc, tables::n_sdc(s.mode, s.occupancy))
+    formulas::sdc_bits(s.sdc, tables::n_sdc(s.mode, s.occupancy) as u16)
 }
 
 // 11: no spare bit is set.

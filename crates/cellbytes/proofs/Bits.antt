@@ -15,7 +15,6 @@ use Rattle.lists.specs.Lists.{table}
 use Rattle.lists.specs.Same.{same_number}
 use Rattle.lists.proofs.Bools.{table-every}
 use Rattle.lists.proofs.Counting.{below_or}
-use Rattle.lists.proofs.Rules.{less}
 use Rattle.lists.proofs.Same.{same_number_true, low_digits}
 use Rattle.cellbytes.specs.TwosComplement.{modulo, twos_complement}
 use Rattle.cellbytes.specs.CellBytes.{signed, four_bits}
@@ -36,9 +35,6 @@ pub same_below : (f g : ℕ → ℤ) (n : ℕ) → every (table (λ k. same_numb
 same_below f g n t k h = same_number_true (f k) (g k) (table-every (λ k. same_number (f k) (g k)) n t k h)
 
 -- four bits with the highest turned over, less 8, are their number
-pub turned_low : (n : ℕ) → n < 16 → bit_xor n 8 < 16
-turned_low = less (λ n. bit_xor n 8) (λ n. 16) 16 tt
-
 pub turned-signed : (n : ℕ) → n < 16 → to_z w16 (bit_xor n 8) -ℤ pos 8 ≡ signed n
 unfolding signed twos_complement same_number every table
 turned-signed = same_below (λ n. to_z w16 (bit_xor n 8) -ℤ pos 8) signed 16 refl

@@ -2,6 +2,7 @@
 ghost use Rattle.std.specs.Prelude.{◌≡◌, ◌*◌, ◌<◌, length};
 ghost use Rattle.cellbytes.specs.CellBytes.{signed, four_bits, cell_byte, real_of, imaginary_of, numbers, bytes};
 
+// Stays: a type for four bits would be made of a byte by the two callers below, and taken apart here.
 // Four bits as a number: with the highest turned over they are 8 more. No branch, which would follow the cells.
 fn signed_bits(n: u8) -> i16
     requires { n < 16 }

@@ -1,8 +1,8 @@
 -- A turn of the loops that send and take a row, cell by cell; D and n are the depth and N_MUX of the settings. Assumes nothing.
-use mathlib.Core.Path.{◌≡◌, refl, sym, ap, ◌∙◌}
+use mathlib.Core.Path.{◌≡◌, refl, sym, ap, ap₂, ◌∙◌}
 use mathlib.Core.Bool.{Bool, cond, true, false}
 use mathlib.Core.List.{List, [], ◌∷◌, ◌++◌, append_assoc}
-use Prim.Native.Nat.{ℕ, suc, ◌+◌, ◌-◌, ◌*◌, ◌/◌, ◌%◌, ◌≤◌, ◌<◌}
+use Prim.Native.Nat.{ℕ, suc, ◌+◌, ◌-◌, ◌*◌, ◌/◌, ◌%◌, ◌^◌, ◌≤◌, ◌<◌}
 use native.Mathlib.Nat.{add_assoc, suc-mul, mul_left_comm, mul-div_cancel, sub-zero, zero-mod, mod-lt, mod-add-mod}
 use native.Mathlib.Numerals.{add-one}
 use native.Mathlib.Omega.{arith}
@@ -10,8 +10,12 @@ use lib.ListN.{length, get_or, set, take, drop, length-set, length-append}
 use lib.IntN.{ℤ, pos}
 use lib.Seq.{get_or-set_same, get_or-take, set-set, take_at}
 use lib.Dec.{leb}
-use mir.Syntax.{w64}
-use mir.Val.{Fits}
+use Rattle.std.proofs.lemmas.List.{set-get_or}
+use lib.Signed.{mag}
+use mir.Syntax.{w16, w64}
+use mir.Val.{Fits, to_z, of_z}
+use mir.Facts.{to_z-of_z}
+use borrow.Author.Rules.{sfits_of}
 use Rattle.cellbytes.specs.CellBytes.{signed, four_bits, cell_byte, real_of, imaginary_of, number_at, numbers}
 use Rattle.cellbytes.proofs.CellBytes.{four_low, four-signed, real_cell, real_at, imaginary_at, number_real, number_imaginary, by_cells}
 use Rattle.interleaver.specs.Interleaving.{place}
@@ -28,7 +32,7 @@ use Rattle.settings.specs.Sizes.{depth}
 use Rattle.superframe.specs.declared.State.{State}
 use Rattle.superframe.specs.Memory.{slot_size, number_in, with_number, replaced}
 use Rattle.superframe.specs.Interleaving.{slot_before, delay, sent_place, sent_row, taken_from}
-use Rattle.cellmemory.specs.Clauses.{previous, sent_bytes, bytes_from, with_cell, CellFits, RowLent, RowRoom, RowOrder, row_over, ByPlaces, RowFits, Goes}
+use Rattle.cellmemory.specs.Clauses.{previous, sent_bytes, bytes_from, cell_after, RowLent, RowRoom, RowOrder, row_over, ByPlaces, RowFits, Goes}
 use Rattle.cellmemory.proofs.Progress.{memory_most}
 use Rattle.cellmemory.proofs.Ring.{slot_zero, slot_below, previous_later, slot_within, delay_even, delay_odd, place_even, place_odd}
 
@@ -98,8 +102,30 @@ cond-two : (b : Bool) (l : List ℕ) (f g : List ℕ → List ℕ) → cond b (g
 cond-two true l f g = refl
 cond-two false l f g = refl
 
+-- Memory with the cell from number k of a row at a place, or as it was where the cell is ignored.
+abbrev with_cell : ℕ → ℕ → List ℤ → ℕ → List ℕ → ℕ → List ℕ
+with_cell d count row k memory at =
+    cond (leb d count) (set memory at (cell_byte (get_or row k (pos 0)) (get_or row (k + 1) (pos 0)))) memory
+
+cell_put : (d count : ℕ) (row : List ℤ) (k : ℕ) (memory : List ℕ) (at b : ℕ)
+    → b ≡ cell_after d count (get_or row k (pos 0)) (get_or row (k + 1) (pos 0)) (get_or memory at 0) → set memory at b ≡ with_cell d count row k memory at
+unfolding cell_after
+cell_put d count row k memory at b e = rw e (go (leb d count))
+  where
+    byte : ℕ
+    byte = cell_byte (get_or row k (pos 0)) (get_or row (k + 1) (pos 0))
+
+    go : (t : Bool) → set memory at (cond t byte (get_or memory at 0)) ≡ cond t (set memory at byte) memory
+    go true = refl
+    go false = set-get_or memory at 0
+
+-- the same of numbers that were read from a slice
+pub cell_read : (d count : ℕ) (re im : ℤ) (held b : ℕ) → mag re < 2 ^ 15 → mag im < 2 ^ 15 → b ≡ cell_after d count (to_z w16 (of_z w16 re)) (to_z w16 (of_z w16 im)) held
+    → b ≡ cell_after d count re im held
+cell_read d count re im held b f g e =
+    e ∙ ap₂ (λ x y. cell_after d count x y held) (to_z-of_z {w = w16} (sfits_of {w = w16} {z = re} f)) (to_z-of_z {w = w16} (sfits_of {w = w16} {z = im} g))
+
 length_cell : (d count : ℕ) (row : List ℤ) (k : ℕ) (memory : List ℕ) (at : ℕ) → length (with_cell d count row k memory at) ≡ length memory
-unfolding with_cell
 length_cell d count row k memory at = go (leb d count)
   where
     go : (b : Bool) → length (cond b (set memory at (cell_byte (get_or row k (pos 0)) (get_or row (k + 1) (pos 0)))) memory) ≡ length memory
@@ -129,7 +155,7 @@ module _ (D n position slot p i : ℕ) (w : slot ≡ slot_before D position (i %
   take_slot : (s : Settings) → D ≡ depth s → n ≡ n_mux s → (d count m : ℕ) (row : List ℤ) (memory : List ℕ) → slot * n + p < length memory → d ≡ i % D
       → taken_from s position count row (2 * i) (suc (suc m)) memory
       ≡ taken_from s position count row (2 * (i + 1)) m (with_cell d count row (2 * i) memory (slot * n + p))
-  unfolding taken_from with_cell slot_size
+  unfolding taken_from slot_size
   take_slot s u v d count m row memory l g =
       let f : 2 * (i + 1) ≡ suc (suc (2 * i)) = omega arith in
       rw (f, ← add-one (2 * i), ← u, ← v, delay_odd, delay_even, place_odd, place_even, g, ← w, ← e)
@@ -253,9 +279,6 @@ module _ {n position : ℕ} {order memory : List ℕ} where
           next_fits = fits_64 (omega (arith, h, m));
         }
 
-    pub cell_fits : {row : List ℤ} {now : List ℕ} → length row ≡ 2 * n → length now ≡ length memory → CellFits row (2 * i) now (at + get_or order i 0)
-    cell_fits f e = record { whence = omega (arith, h, f); room = omega (arith, e, cell_there.cell_in) }
-
     pub stepping_turn : (r : ℕ) → r ≡ previous n (length memory - n) at → Stepping n position order memory r (i + 1)
     stepping_turn r e =
         record {
@@ -346,12 +369,14 @@ module _ (D n position count : ℕ) (row : List ℤ) (whole : List ℕ) where
   pub leading_start : position < D → Leading D n position count row whole 0 0 whole
   leading_start h = record { long = refl; delayed = delay-start D (omega arith); leads = λ s u v. rw sub-zero }
 
-  pub leading_turn : (p at i d d' : ℕ) (memory m : List ℕ) → at + p < length whole → InRing D n position at i → p ≡ place 5 n i → i < n
-      → Leading D n position count row whole d i memory → m ≡ with_cell d count row (2 * i) memory (at + p)
-      → d' ≡ (d + 1) % D → Leading D n position count row whole d' (i + 1) m
-  leading_turn p at i d d' memory m b w e h l g f =
+  pub leading_turn : (p at i d d' b : ℕ) (memory : List ℕ) → at + p < length whole → InRing D n position at i → p ≡ place 5 n i → i < n
+      → Leading D n position count row whole d i memory
+      → b ≡ cell_after d count (get_or row (2 * i) (pos 0)) (get_or row (2 * i + 1) (pos 0)) (get_or memory (at + p) 0)
+      → d' ≡ (d + 1) % D → Leading D n position count row whole d' (i + 1) (set memory (at + p) b)
+  leading_turn p at i d d' b memory j w e h l o f =
       let a : 2 * n - 2 * i ≡ suc (suc (2 * n - 2 * (i + 1))) = omega arith in
-      let k : at + p < length memory = omega (arith, b, l.long) in
+      let k : at + p < length memory = omega (arith, j, l.long) in
+      let g : set memory (at + p) b ≡ with_cell d count row (2 * i) memory (at + p) = cell_put d count row (2 * i) memory (at + p) b o in
       record {
         long = ap length g ∙ length_cell d count row (2 * i) memory (at + p) ∙ l.long;
         delayed = delay_turn D d i d' l.delayed f;

@@ -1,5 +1,5 @@
 -- What the functions of this crate require and promise: nothing of 01 is stated here.
-use Rattle.std.specs.Prelude.{ℕ, ◌+◌, ◌-◌, ◌*◌, ◌/◌, ◌%◌, ◌≤◌, ◌<◌, ◌≡◌, cond, List, [], ◌∷◌, ◌++◌, length, get_or, set, take, drop, ℤ, pos, negsuc, leb, ltb}
+use Rattle.std.specs.Prelude.{ℕ, ◌+◌, ◌-◌, ◌*◌, ◌/◌, ◌%◌, ◌≤◌, ◌<◌, ◌≡◌, cond, List, [], ◌∷◌, ◌++◌, length, get_or, take, drop, ℤ, pos, negsuc, leb, ltb}
 use Rattle.settings.specs.declared.Settings.{Settings}
 use Rattle.settings.specs.Accepted.{Accepted}
 use Rattle.settings.specs.Lengths.{n_mux}
@@ -73,15 +73,9 @@ sent_bytes D n memory position = table (λ i. get_or memory (slot_before D posit
 abbrev pub bytes_from : List ℕ → ℕ → ℕ → List ℕ
 bytes_from memory position n = sent_bytes (length memory / n) n memory position
 
--- Memory with the cell from number k of a row at a place, or as it was where the cell is ignored.
-unfoldable pub with_cell : ℕ → ℕ → List ℤ → ℕ → List ℕ → ℕ → List ℕ
-with_cell d count row k memory at =
-    cond (leb d count) (set memory at (cell_byte (get_or row k (pos 0)) (get_or row (k + 1) (pos 0)))) memory
-
--- What putting it there requires.
-pub record CellFits (row : List ℤ) (k : ℕ) (memory : List ℕ) (at : ℕ) : Type 0 where
-  pub whence : k + 1 < length row
-  pub room : at < length memory
+-- What memory holds of a cell after its row: its byte, or what it held where the cell is ignored.
+unfoldable pub cell_after : ℕ → ℕ → ℤ → ℤ → ℕ → ℕ
+cell_after d count re im held = cond (leb d count) (cell_byte re im) held
 
 -- The numbers of the fillers, as many as there can be.
 abbrev pub filler_numbers : List ℤ

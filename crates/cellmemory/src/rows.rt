@@ -1,11 +1,10 @@
 // Rows of MSC cells: what memory sends, and a row put back into memory. 01 "Cell interleaving"; 001 clause 7.6.
-ghost use Rattle.std.specs.Prelude.{◌≡◌, ◌+◌, ◌-◌, ◌<◌, min, length};
-ghost use Rattle.settings.specs.Accepted.{Accepted};
+ghost use Rattle.std.specs.Prelude.{◌≡◌, ◌+◌, ◌-◌, ◌<◌, ◌≤◌, min, length};
 ghost use Rattle.settings.specs.Sizes.{depth};
 ghost use Rattle.superframe.specs.Memory.{slot_size};
 ghost use Rattle.superframe.specs.Interleaving.{sent_row, taken};
 ghost use Rattle.superframe.specs.Code.{progress_of};
-ghost use Rattle.cellmemory.specs.Clauses.{RowLent, RowRoom, RowOrder, row_over, Goes, bytes_from, CellFits, next_state, previous, with_cell};
+ghost use Rattle.cellmemory.specs.Clauses.{RowLent, RowRoom, RowOrder, row_over, Goes, bytes_from, next_state, previous, cell_after};
 
 use block::buffers::MOST_CELLS;
 use cellbytes::cells::{cell_byte, to_numbers};
@@ -20,8 +19,8 @@ use superframe::State;
 const T: usize = 5;
 
 // The numbers of a row and of a multiplex frame's cells.
+#[tactic(auto, using(partlengths::proofs::Counts::mux_low), unfolding(settings::specs::Lengths::n_mux, superframe::specs::Memory::slot_size))]
 pub fn slot_size(s: Settings) -> usize
-    requires { Accepted s }
     ensures { result ≡ slot_size s }
 {
     2 * tables::n_mux(s.mode, s.occupancy)
@@ -37,12 +36,12 @@ fn slot_before(n: usize, last: usize, at: usize) -> usize
     at - n
 }
 
-// The count after a frame.
-fn next_count(depth: usize, count: usize) -> usize
-    requires { count < depth }
-    ensures { result ≡ min (count + 1) (depth - 1) }
+// The count after so many more frames: it stops at D - 1.
+pub fn count_after(depth: usize, count: usize, frames: usize) -> usize
+    requires { (count < depth) × (depth ≤ 5) × (frames ≤ 3) }
+    ensures { result ≡ min (count + frames) (depth - 1) }
 {
-    (count + 1).min(depth - 1)
+    (count + frames).min(depth - 1)
 }
 
 // The state after a frame: the position goes on to the next slot, and the count stops at D - 1.
@@ -53,7 +52,7 @@ pub fn next_state(state: State) -> State
     let scheme = state.scheme;
     let depth = answers::depth(scheme.settings);
     let position = next_modulo(depth, state.position as usize);
-    let count = next_count(depth, state.count as usize);
+    let count = count_after(depth, state.count as usize, 1);
     State {
         scheme,
         position: position as u8,
@@ -97,15 +96,15 @@ pub fn send_row(state: State, places: &[u16], memory: &[u8], out: &mut [i16])
     to_numbers(&cells[0..n], out);
 }
 
-// A cell of a row put into memory, unless it is of a frame before the first.
-fn take_cell(delay: usize, count: usize, row: &[i16], k: usize, memory: &mut [u8], at: usize)
-    requires { CellFits row.now k memory.old at }
-    ensures { memory.new ≡ with_cell delay count row.now k memory.old at }
+// A cell of a row put into its place in memory, unless it is of a frame before the first.
+#[tactic(auto, unfolding(crate::specs::Clauses::cell_after))]
+fn take_cell(delay: usize, count: usize, re: i16, im: i16, cell: &mut u8)
+    ensures { cell.new ≡ cell_after delay count re im cell.old }
 {
     if count < delay {
         return;
     }
-    memory[at] = cell_byte(row[k], row[k + 1]);
+    *cell = cell_byte(re, im);
 }
 
 // The numbers of a row put where the coder took them. Memory has as many slots as the depth.
@@ -122,7 +121,8 @@ pub fn take_row(state: State, places: &[u16], row: &[i16], memory: &mut [u8])
     let mut delay = 0;
     for i in 0..n {
         let p = places[i] as usize;
-        take_cell(delay, count, row, 2 * i, memory, at + p);
+        let k = 2 * i;
+        take_cell(delay, count, row[k], row[k + 1], &mut memory[at + p]);
         at = slot_before(n, last, at);
         delay = next_modulo(depth, delay);
     }

@@ -1,11 +1,10 @@
 -- What the code makes of the settings: levels, and six places for them. Assumes nothing.
 use Prim.Native.Nat.{ℕ, zero, suc, ◌+◌, ◌-◌, ◌*◌, ◌/◌, ◌%◌, ◌≤◌, ◌<◌}
-use mathlib.Core.Path.{◌≡◌, refl, sym, ap, ap₂, ◌∙◌}
+use mathlib.Core.Path.{◌≡◌, refl, sym, ap, ◌∙◌}
 use mathlib.Core.Bool.{true, false}
 use mathlib.Core.List.{List, [], ◌∷◌, ◌++◌}
 use native.Mathlib.Nat.{zero-mod, mod-lt, div-add-mod'}
 use native.Mathlib.Omega.{arith}
-use lib.Arith.{digits_div, digits_mod}
 use lib.Dec.{T, ltb, ltb→lt}
 use lib.ListN.{length, get_or, set, replicate, length-append, length-replicate, get_or-eq_default}
 use lib.Seq.{ext_get_or}
@@ -19,7 +18,7 @@ use Rattle.partlengths.specs.Rates.{rates, table67, table68, table69, table71, v
 use Rattle.partlengths.specs.Formulas.{hierarchical, width, bits_a, bits_b, remainder, fac_bits}
 use Rattle.partlengths.specs.Cells.{fac_cells}
 use Rattle.partlengths.specs.Clauses.{share}
-use Rattle.partlengths.proofs.LookUps.{all, all_at, values, value_at}
+use Rattle.partlengths.proofs.LookUps.{all, all_at}
 use Rattle.partlengths.proofs.PartA.{bits_a_exact, share_exact}
 use Rattle.settings.specs.Lengths.{n_mux, n_sdc, n1, n2, l_vspp}
 use Rattle.block.specs.declared.Level.{Level}
@@ -38,12 +37,23 @@ use Rattle.channels.proofs.Protected.{protected_at, protected_length}
 use Rattle.channels.proofs.Sdc.{length-levels as sdc-length}
 use Rattle.channels.proofs.Msc.{cells}
 
+-- zeros behind a list's end are what is found past it
+zeros_behind : (ls : List ℕ) (n i : ℕ) → get_or (ls ++ replicate n 0) i 0 ≡ get_or ls i 0
+zeros_behind [] zero i = refl
+zeros_behind [] (suc n) zero = refl
+zeros_behind [] (suc n) (suc i) = zeros_behind [] n i
+zeros_behind (l ∷ ls) n zero = refl
+zeros_behind (l ∷ ls) n (suc i) = zeros_behind ls n i
+
 -- t of level k of an MSC mode, in places of five
-pub step_at : (msc k : ℕ) → k < 5 → msc < 4
-    → get_or (values (λ i. get_or (msc_steps (i / 5)) (i % 5) 0) 20) (msc * 5 + k) 0 ≡ get_or (msc_steps msc) k 0
-step_at msc k h m =
-    value_at (λ i. get_or (msc_steps (i / 5)) (i % 5) 0) 20 (msc * 5 + k) (omega arith)
-    ∙ ap₂ (λ i j. get_or (msc_steps i) j 0) (digits_div msc h) (digits_mod msc h)
+pub step_at : (msc k : ℕ)
+    → get_or (get_or ((0 ∷ 13 ∷ 21 ∷ 0 ∷ 0 ∷ []) ∷ (0 ∷ 13 ∷ 13 ∷ 21 ∷ 21 ∷ []) ∷ (13 ∷ 21 ∷ 0 ∷ 0 ∷ 0 ∷ []) ∷ (13 ∷ 21 ∷ 0 ∷ 0 ∷ 0 ∷ []) ∷ []) msc []) k 0 ≡ get_or (msc_steps msc) k 0
+unfolding msc_steps
+step_at zero k = zeros_behind (0 ∷ 13 ∷ 21 ∷ []) 2 k
+step_at (suc zero) k = refl
+step_at (suc (suc zero)) k = zeros_behind (13 ∷ 21 ∷ []) 3 k
+step_at (suc (suc (suc zero))) k = zeros_behind (13 ∷ 21 ∷ []) 3 k
+step_at (suc (suc (suc (suc msc)))) k = refl
 
 -- every rate of the tables is one of the thirteen
 pub rates-known : (msc level : ℕ) → T (all (λ r. ltb r 13) (rates msc level))

@@ -1,11 +1,9 @@
 -- What the functions that make blocks require and promise: nothing of 01 is stated here.
-use Rattle.std.specs.Prelude.{ℕ, ◌%◌, ◌<◌, List}
+use Rattle.std.specs.Prelude.{ℕ, ◌%◌, List}
 use Rattle.patterns.specs.Patterns.{RY, pattern, tail_pattern}
 use Rattle.patterns.specs.Clauses.{pattern_from}
 use Rattle.partlengths.specs.Clauses.{share}
 use Rattle.block.specs.declared.Level.{Level}
-use Rattle.channels.specs.declared.Scheme.{Scheme}
-use Rattle.channels.specs.Scheme.{SchemeAccepted}
 
 -- A level from its coded bits in part A, those in part B without the twelve that its tail takes at least, the rates of both, and t.
 unfoldable pub level_by : List ℕ → ℕ → ℕ → ℕ → ℕ → ℕ → Level
@@ -18,8 +16,3 @@ level_by kept coded_a coded_b rate_a rate_b t =
       tail = pattern_from (tail_pattern (coded_b % RY rate_b));
       t = t;
     }
-
--- A place for a level of an accepted scheme.
-pub record Placed (c : Scheme) (i : ℕ) : Type 0 where
-  pub accepted : SchemeAccepted c
-  pub low : i < 6

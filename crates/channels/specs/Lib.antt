@@ -5,3 +5,4 @@ pub mod Sdc
 pub mod Msc
 pub mod Clauses
 pub mod Cases
+pub mod Once

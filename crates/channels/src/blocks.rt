@@ -3,11 +3,12 @@ ghost use Rattle.std.specs.Prelude.{◌≡◌, ◌<◌, length, get_or, replicat
 ghost use Rattle.settings.specs.Lengths.{n_sdc};
 ghost use Rattle.patterns.specs.Loaded.{Allowed};
 ghost use Rattle.channels.specs.Scheme.{SchemeAccepted};
+ghost use Rattle.channels.specs.Once.{accepted_once};
 ghost use Rattle.block.specs.Block.{no_level, six};
 ghost use Rattle.channels.specs.Fac.{fac_block};
 ghost use Rattle.channels.specs.Sdc.{sdc_levels, sdc_constellation, sdc_block};
 ghost use Rattle.channels.specs.Msc.{msc_vspp, msc_protected, msc_steps, msc_levels, msc_constellation, msc_block};
-ghost use Rattle.channels.specs.Clauses.{level_by, Placed};
+ghost use Rattle.channels.specs.Clauses.{level_by};
 
 use crate::Scheme;
 use block::{Block, Constellation, Level};
@@ -16,16 +17,19 @@ use partlengths::{formulas, tables};
 use patterns::Pattern;
 use patterns::table::{denominator, pattern, tail_pattern};
 
-// t of the standard protected part's levels: five places for each MSC mode.
-const MSC_STEPS: [usize; 20] = [
-    0, 13, 21, 0, 0, 0, 13, 13, 21, 21, 13, 21, 0, 0, 0, 13, 21, 0, 0, 0,
+// t of the standard protected part's levels by MSC mode: 0 for a level that isn't interleaved, and behind the last one.
+const MSC_STEPS: [[usize; 5]; 4] = [
+    [0, 13, 21, 0, 0],
+    [0, 13, 13, 21, 21],
+    [13, 21, 0, 0, 0],
+    [13, 21, 0, 0, 0],
 ];
 
 fn msc_step(msc: u8, k: usize) -> usize
     requires { (msc < 4) × (k < 5) }
     ensures { result ≡ get_or (msc_steps msc) k 0 }
 {
-    MSC_STEPS[msc as usize * 5 + k]
+    MSC_STEPS[msc as usize][k]
 }
 
 // A place for a level that a block hasn't.
@@ -46,70 +50,6 @@ fn no_level() -> Level
     }
 }
 
-// A level by its coded bits in parts A and B, without the twelve that its tail takes at least.
-fn level_by(s: Scheme, codeda: usize, codedb: usize, ratea: usize, rateb: usize, t: usize) -> Level
-    requires { Allowed s.table × ((ratea < 13) × (rateb < 13)) }
-    ensures { result ≡ level_by s.table codeda codedb ratea rateb t }
-{
-    let table = s.table;
-    Level {
-        bitsa: formulas::share(codeda, ratea),
-        bitsb: formulas::share(codedb, rateb),
-        patterna: pattern(&table, ratea),
-        patternb: pattern(&table, rateb),
-        tail: tail_pattern(codedb % denominator(rateb)),
-        t,
-    }
-}
-
-// Level k of a multiplex frame's standard protected part, or none.
-fn protected_level(s: Scheme, k: usize) -> Level
-    requires { Placed s k }
-    ensures { result ≡ get_or (msc_protected s) k no_level }
-{
-    if tables::rate_count(s.settings.msc, s.settings.levela) <= k {
-        return no_level();
-    }
-    let n1 = formulas::cells_a(s.settings.msc, s.settings.levela, s.settings.x);
-    let n2 = tables::n_mux(s.settings.mode, s.settings.occupancy) - n1;
-    level_by(
-        s,
-        formulas::coded(s.settings.msc, n1),
-        formulas::less_tail(formulas::coded(s.settings.msc, n2)),
-        tables::rate(s.settings.msc, s.settings.levela, k),
-        tables::rate(s.settings.msc, s.settings.levelb, k),
-        msc_step(s.settings.msc, k),
-    )
-}
-
-// The very strongly protected part: all its bits count with part A.
-fn vspp_level(s: Scheme) -> Level
-    requires { SchemeAccepted s }
-    ensures { result ≡ msc_vspp s }
-{
-    let n = tables::n_mux(s.settings.mode, s.settings.occupancy);
-    let rate = tables::vspp_rate(s.settings.vspp);
-    let coded = formulas::less_tail(formulas::coded(s.settings.msc, n));
-    let mut l = level_by(s, 0, coded, rate, rate, 0);
-    l.bitsa = l.bitsb;
-    l.bitsb = 0;
-    l
-}
-
-// Level i of a multiplex frame, or none.
-fn msc_level(s: Scheme, i: usize) -> Level
-    requires { Placed s i }
-    ensures { result ≡ get_or (msc_levels s) i no_level }
-{
-    if !formulas::hierarchical(s.settings.msc) {
-        return protected_level(s, i);
-    }
-    if i == 0 {
-        return vspp_level(s);
-    }
-    protected_level(s, i - 1)
-}
-
 // Room for six levels.
 fn no_levels() -> [Level; 6]
     ensures { result ≡ replicate 6 no_level }
@@ -118,16 +58,105 @@ fn no_levels() -> [Level; 6]
     [none; 6]
 }
 
-// The levels of a multiplex frame.
-fn msc_levels(s: Scheme) -> [Level; 6]
-    requires { SchemeAccepted s }
-    ensures { result ≡ six (msc_levels s) }
-{
-    let mut levels = no_levels();
-    for i in 0..6 {
-        levels[i] = msc_level(s, i);
+// A scheme that is not refused: what is known of it goes along with it.
+#[derive(Clone, Copy)]
+struct Accepted {
+    scheme: Scheme,
+    ghost known: { SchemeAccepted scheme } by { accepted_once scheme },
+}
+
+impl Accepted {
+    // A level by its coded bits in parts A and B, without the twelve that its tail takes at least.
+    fn level_by(self, codeda: usize, codedb: usize, ratea: usize, rateb: usize, t: usize) -> Level
+        requires { (ratea < 13) × (rateb < 13) }
+        ensures { result ≡ level_by self.scheme.table codeda codedb ratea rateb t }
+    {
+        let scheme = self.scheme;
+        let table = scheme.table;
+        Level {
+            bitsa: formulas::share(codeda, ratea),
+            bitsb: formulas::share(codedb, rateb),
+            patterna: pattern(&table, ratea),
+            patternb: pattern(&table, rateb),
+            tail: tail_pattern(codedb % denominator(rateb)),
+            t,
+        }
     }
-    levels
+
+    // Level k of a multiplex frame's standard protected part, or none.
+    fn protected_level(self, k: usize) -> Level
+        ensures { result ≡ get_or (msc_protected self.scheme) k no_level }
+    {
+        let settings = self.scheme.settings;
+        if tables::rate_count(settings.msc, settings.levela) <= k {
+            return no_level();
+        }
+        let n1 = formulas::cells_a(settings.msc, settings.levela, settings.x);
+        let n2 = tables::n_mux(settings.mode, settings.occupancy) - n1;
+        self.level_by(
+            formulas::coded(settings.msc, n1 as u16),
+            formulas::less_tail(formulas::coded(settings.msc, n2 as u16)),
+            tables::rate(settings.msc, settings.levela, k),
+            tables::rate(settings.msc, settings.levelb, k),
+            msc_step(settings.msc, k),
+        )
+    }
+
+    // The very strongly protected part: all its bits count with part A.
+    fn vspp_level(self) -> Level
+        ensures { result ≡ msc_vspp self.scheme }
+    {
+        let settings = self.scheme.settings;
+        let n = tables::n_mux(settings.mode, settings.occupancy);
+        let rate = tables::vspp_rate(settings.vspp);
+        let coded = formulas::less_tail(formulas::coded(settings.msc, n as u16));
+        let mut l = self.level_by(0, coded, rate, rate, 0);
+        l.bitsa = l.bitsb;
+        l.bitsb = 0;
+        l
+    }
+
+    // Level i of a multiplex frame, or none.
+    fn msc_level(self, i: usize) -> Level
+        ensures { result ≡ get_or (msc_levels self.scheme) i no_level }
+    {
+        let settings = self.scheme.settings;
+        if !formulas::hierarchical(settings.msc) {
+            return self.protected_level(i);
+        }
+        if i == 0 {
+            return self.vspp_level();
+        }
+        self.protected_level(i - 1)
+    }
+
+    // The levels of a multiplex frame.
+    fn msc_levels(self) -> [Level; 6]
+        ensures { result ≡ six (msc_levels self.scheme) }
+    {
+        let mut levels = no_levels();
+        for i in 0..6 {
+            levels[i] = self.msc_level(i);
+        }
+        levels
+    }
+
+    // The levels of an SDC block: two in 16-QAM, one in 4-QAM.
+    fn sdc_levels(self, n: usize) -> [Level; 6]
+        requires { n ≡ n_sdc self.scheme.settings }
+        ensures { result ≡ six (sdc_levels self.scheme) }
+    {
+        let settings = self.scheme.settings;
+        let coded = formulas::less_tail(2 * n);
+        let mut levels = no_levels();
+        if settings.sdc == 0 {
+            levels[0] = self.level_by(0, coded, R1_3, R1_3, 13);
+            levels[1] = self.level_by(0, coded, R2_3, R2_3, 21);
+            return levels;
+        }
+        levels[0] = self.level_by(0, coded, R1_2, R1_2, 21);
+        levels
+    }
 }
 
 // The constellation by MSC mode.
@@ -156,35 +185,21 @@ fn level_count(s: Scheme) -> usize
 }
 
 // A multiplex frame.
+// Stays: docs/PROMISES.md names it with a scheme, which its callers have as a field of a state; each of them would have to build an `Accepted` first.
 pub fn msc_block(s: Scheme) -> Block
     requires { SchemeAccepted s }
     ensures { result ≡ msc_block s }
 {
+    let accepted = Accepted { scheme: s };
     let n = tables::n_mux(s.settings.mode, s.settings.occupancy);
     Block {
-        vspp: formulas::part_vspp(s.settings.msc, s.settings.vspp, n),
-        levels: msc_levels(s),
+        vspp: formulas::part_vspp(s.settings.msc, s.settings.vspp, n as u16),
+        levels: accepted.msc_levels(),
         count: level_count(s),
         constellation: msc_constellation(s.settings.msc),
         cells: n,
         parta: formulas::cells_a(s.settings.msc, s.settings.levela, s.settings.x),
     }
-}
-
-// The levels of an SDC block: two in 16-QAM, one in 4-QAM.
-fn sdc_levels(s: Scheme, n: usize) -> [Level; 6]
-    requires { SchemeAccepted s × (n ≡ n_sdc s.settings) }
-    ensures { result ≡ six (sdc_levels s) }
-{
-    let coded = formulas::less_tail(2 * n);
-    let mut levels = no_levels();
-    if s.settings.sdc == 0 {
-        levels[0] = level_by(s, 0, coded, R1_3, R1_3, 13);
-        levels[1] = level_by(s, 0, coded, R2_3, R2_3, 21);
-        return levels;
-    }
-    levels[0] = level_by(s, 0, coded, R1_2, R1_2, 21);
-    levels
 }
 
 // The constellation by SDC mode.
@@ -198,14 +213,16 @@ pub fn sdc_constellation(sdc: u8) -> Constellation
 }
 
 // An SDC block.
+// Stays: docs/PROMISES.md names it with a scheme, which its callers have as a field of a state; each of them would have to build an `Accepted` first.
 pub fn sdc_block(s: Scheme) -> Block
     requires { SchemeAccepted s }
     ensures { result ≡ sdc_block s }
 {
+    let accepted = Accepted { scheme: s };
     let n = tables::n_sdc(s.settings.mode, s.settings.occupancy);
     Block {
         vspp: 0,
-        levels: sdc_levels(s, n),
+        levels: accepted.sdc_levels(n),
         count: (2 - s.settings.sdc) as usize,
         constellation: sdc_constellation(s.settings.sdc),
         cells: n,

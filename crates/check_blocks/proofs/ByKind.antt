@@ -1,5 +1,5 @@
 -- Blocks by kind. Assumes nothing.
-use Rattle.std.proofs.Common.{◌≡◌, ℕ, ◌+◌, ◌-◌, ◌*◌, ◌/◌, List, take, ℤ, ap, ◌∙◌, arith}
+use Rattle.std.proofs.Common.{◌≡◌, ℕ, ◌+◌, ◌-◌, ◌*◌, ◌/◌, ◌%◌, min, List, take, ℤ, ◌∙◌, arith}
 use Rattle.lists.specs.Buffers.{Long}
 use Rattle.lists.specs.Bytes.{bytes_for}
 use Rattle.lists.proofs.Parts.{length-start}
@@ -23,12 +23,13 @@ kind_fits s a Sdc = sdc-fits a
 kind_fits s a Frame = msc-fits a
 
 -- the first of buffers for the largest block are a block's
-pub lent-front : {k : Block} → BlockFits k → {bits : ℕ} → bits ≡ bit_count k → {bytes : List ℕ} {cells : List ℤ} → Long 4589 bytes → Long 12236 cells
-    → BlockLent k (take ((bits + 7) / 8 - 0) bytes) (take (2 * k.cells - 0) cells)
+pub lent-front : {k : Block} → BlockFits k → {bits n : ℕ} → bits ≡ bit_count k → n ≡ bits / 8 + min 1 (bits % 8) → {bytes : List ℕ} {cells : List ℤ} → Long 4589 bytes → Long 12236 cells
+    → BlockLent k (take (n - 0) bytes) (take (2 * k.cells - 0) cells)
 unfolding bytes_for
-lent-front {k} F {bits} e {bytes} {cells} a b =
+lent-front {k} F {bits} {n} e d {bytes} {cells} a b =
+    let m : n ≡ (bit_count k + 7) / 8 = rw (← e) (omega (arith, d)) in
     record {
       fits = F;
-      long = length-start ((bits + 7) / 8) bytes (omega (arith, e, F.short, a.long)) ∙ ap (λ n. (n + 7) / 8) e;
+      long = length-start n bytes (omega (arith, m, F.short, a.long)) ∙ m;
       cells = length-start (2 * k.cells) cells (omega (arith, F.most, b.long));
     }

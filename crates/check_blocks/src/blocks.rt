@@ -33,6 +33,7 @@ pub struct Drawn {
 }
 
 // The block of a kind, with the standard's table.
+// Stays: `sdc_block` and `msc_block` ask for accepted settings; `block` alone calls this, behind its test, and would make a type for one call.
 #[tactic(auto, unfolding(crate::specs::Kinds::block_of))]
 fn block_of(kind: Kind, s: Settings) -> Block
     requires { Accepted s }
@@ -77,12 +78,14 @@ fn block_in(
 }
 
 // A block in buffers for the largest.
+// Stays: `code_block` and `read_several` ask for a block that fits; `block` alone calls this, knows it of every kind, and would make a type there
+// for one call.
 fn block_with(k: Block, x: u64, bytes: &mut [u8], back: &mut [u8], cells: &mut [i16]) -> Drawn
     requires { BlockFits k × Largest bytes.old back.old cells.old }
     ensures { result ≡ drawn_from k x }
 {
     let bits = bit_count(k);
-    let n = (bits + 7) / 8;
+    let n = bits.div_ceil(8);
     let m = 2 * k.cells;
     block_in(
         k,

@@ -25,7 +25,6 @@ fn print(s: Settings, line: u64) {
 }
 
 // X by kind: 0, 1, half of the largest, the largest less 1, the largest.
-// Stays: the kind is a number that the program counts up, and each gives a value, no step.
 fn x_of(s: Settings, kind: usize) -> u16 {
     match kind {
         0 => 0,

@@ -4,6 +4,7 @@
 
 mod blocks;
 mod lines;
+mod numbered;
 
 fn main() {
     let line = lines::levels_and_x();

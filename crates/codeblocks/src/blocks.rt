@@ -17,6 +17,8 @@ use channels::blocks::{fac_block, msc_block};
 use superframe::State;
 
 // The cells of three FAC blocks.
+// Stays: `codecall::code_accepted` has the fact with what its refusals leave (`CodeFits`), and `fac_block` takes a Scheme; a type for an allowed table
+// would be built there for this one call, and made a Scheme again here.
 pub fn code_fac(s: Scheme, fac: &[u8], cells: &mut [i16])
     requires { Allowed s.table × (length fac.now ≡ 3 * fac_bytes) × (length cells.old ≡ 3 * fac_numbers) }
     ensures { cells.new ≡ joined (map (cells_from (fac_block s)) (parts fac_bytes fac.now)) }

@@ -1,5 +1,6 @@
 // The call Code. 01 "Buffers and state" and "Operations".
-// Stays, in this module: buffers stand one by one; with a struct of `&mut` a clause must also say that each reference is still the same one.
+// Stays, in this module: buffers stand one by one; with a struct of `&mut` a clause must also say that each reference is still the same one, and in the
+// checks, which only read, a clause would name one `lent.fac.now` and not `fac.now`, and `code` and `preview` would make that struct for one call.
 ghost use Rattle.std.specs.Prelude.{◌≡◌, Ok};
 ghost use Rattle.refusal.specs.Numbers.{answer};
 ghost use Rattle.superframe.specs.Answers.{done};

@@ -7,3 +7,4 @@ pub mod Lengths
 pub mod SevenBits
 pub mod Encoding
 mod Reading
+pub mod Widths

@@ -39,11 +39,23 @@ pub fn parity(register: u32, mask: u32) -> u8
 }
 
 // The column after column i of a pattern.
+// Stays: with `zip` and `pattern.iter().cycle()` the loop of `decode_columns` takes 20 instructions a bit in place of 19 (a sketch in Rust), and the proof of
+// `count_columns` did not close: std says of a cycle's item where it stands in a round, and not where the iterator stands.
+// `pointtests::next_modulo` promises a remainder, by which its definitions go; these go by `following`.
 pub fn following(columns: usize, i: usize) -> usize
     requires { i < columns }
     ensures { result ≡ cond (ltb (i + 1) columns) (i + 1) 0 }
 {
     if i + 1 < columns { i + 1 } else { 0 }
+}
+
+// A pattern that can be read back, and how many bits each of its columns keeps.
+#[derive(Clone, Copy)]
+pub struct Columns {
+    pub pattern: Pattern,
+    pub widths: [usize; 8],
+    pub ghost held: { Held pattern },
+    pub ghost known: { Widths (pattern_of pattern) widths },
 }
 
 impl Coder {
@@ -131,17 +143,23 @@ pub fn widths_of(columns: [u8; 8]) -> [usize; 8]
     widths
 }
 
+impl Columns {
+    // Those of a pattern.
+    // Stays: `Held` is no invariant of Pattern, since `channels::blocks::no_level` gives patterns without a column (docs/DECISIONS.md).
+    pub fn new(pattern: Pattern) -> Columns
+        requires { Held pattern }
+        ensures { result.pattern ≡ pattern }
+    {
+        let widths = widths_of(pattern.columns);
+        Columns { pattern, widths }
+    }
+}
+
 // The bits of a segment from the coded bits from the coder's place on, by the columns of its pattern and their widths: as many as out is long.
-// Stays: `Decodes` and `Widths` speak of slices; a struct with them as its invariant would hold references, of which the line at the top speaks.
-pub fn decode_columns(
-    pattern: &[u8],
-    widths: &[usize],
-    from: Coder,
-    coded: &[u8],
-    out: &mut [u8],
-) -> Coder
-    requires { Decodes pattern.now from.register coded.now from.at out.old × Widths pattern.now widths.now }
-    ensures { Decoded pattern.now from.register coded.now from.at (length out.old) result.register result.at out.new }
+// Stays: `Decodes` speaks of lent slices; a struct with it as its invariant would hold references, of which the line at the top speaks.
+pub fn decode_columns(columns: Columns, from: Coder, coded: &[u8], out: &mut [u8]) -> Coder
+    requires { Decodes (pattern_of columns.pattern) from.register coded.now from.at out.old }
+    ensures { Decoded (pattern_of columns.pattern) from.register coded.now from.at (length out.old) result.register result.at out.new }
 {
     let mut older = from.register / 2;
     let mut coder = from;
@@ -151,8 +169,8 @@ pub fn decode_columns(
         *place = bit;
         older = coder.register / 4;
         coder.register = next(coder.register, bit);
-        coder.at += widths[i];
-        i = following(pattern.len(), i);
+        coder.at += columns.widths[i];
+        i = following(columns.pattern.width, i);
     }
     coder
 }

@@ -7,8 +7,8 @@ use native.Mathlib.Omega.{arith}
 use lib.ListN.{length, replicate}
 use lib.Seq.{sets, sets-eq}
 use lib.Dec.{eqb}
-use borrow.Author.Tests.{eq-eqb, ne_eqb}
-use Rattle.std.specs.Prelude.{Option, None}
+use borrow.Author.Tests.{eq-eqb}
+use Rattle.std.specs.Prelude.{Option}
 use Rattle.std.specs.Str.{bytes_eq}
 use Rattle.settings.specs.declared.Settings.{Settings}
 use Rattle.line.specs.Read.{parse_of}
@@ -31,7 +31,3 @@ word_line line digits e h = rw (sets-eq digits line 0 (omega (arith, h, ap lengt
 pub word_parsed : (line line' digits : List ℕ) (r : Option Settings) → line ≡ replicate 21 10 → length digits ≡ 20 → line' ≡ sets line 0 digits → r ≡ parse_of line' → r ≡ settings_word digits
 unfolding settings_word
 word_parsed line line' digits r e h g f = f ∙ ap parse_of (g ∙ word_line line digits e h) ∙ rw (eq-eqb (length digits) 20 h)
-
-pub word-bad : (digits : List ℕ) → (length digits ≡ 20 → ⊥) → None ≡ settings_word digits
-unfolding settings_word
-word-bad digits h = rw (ne_eqb (length digits) 20 h)

@@ -11,6 +11,7 @@ use settings::Settings;
 use settings::refusals::check;
 
 // The settings of a word of twenty digits.
+#[tactic(auto, using(crate::proofs::Words::word_parsed), unfolding(crate::specs::Arguments::settings_word))]
 fn settings_word(digits: &[u8]) -> Option<Settings>
     ensures { result ≡ settings_word digits.now }
 {

@@ -21,6 +21,7 @@ fn has(word: &[u8], name: &[u8], job: SettingsJob, other: Option<Named>) -> Opti
 }
 
 // The jobs on super frames.
+#[tactic(auto, unfolding(crate::specs::Names::frames_named, crate::specs::Text::bytes_in, lists::specs::Lists::table))]
 fn frames_named(word: &[u8], other: Option<Named>) -> Option<Named>
     ensures { result ≡ frames_named word.now other }
 {
@@ -32,6 +33,7 @@ fn frames_named(word: &[u8], other: Option<Named>) -> Option<Named>
 }
 
 // The jobs on lines.
+#[tactic(auto, unfolding(crate::specs::Names::lines_named, crate::specs::Text::bytes_in, lists::specs::Lists::table))]
 fn lines_named(word: &[u8], other: Option<Named>) -> Option<Named>
     ensures { result ≡ lines_named word.now other }
 {
@@ -41,6 +43,7 @@ fn lines_named(word: &[u8], other: Option<Named>) -> Option<Named>
 }
 
 // The jobs on multiplex frames.
+#[tactic(auto, unfolding(crate::specs::Names::multiplex_named, crate::specs::Text::bytes_in, lists::specs::Lists::table))]
 fn multiplex_named(word: &[u8], other: Option<Named>) -> Option<Named>
     ensures { result ≡ multiplex_named word.now other }
 {
@@ -49,6 +52,7 @@ fn multiplex_named(word: &[u8], other: Option<Named>) -> Option<Named>
 }
 
 // The jobs on hold files.
+#[tactic(auto, unfolding(crate::specs::Names::turn_named, crate::specs::Text::bytes_in, lists::specs::Lists::table))]
 fn turn_named(word: &[u8], other: Option<Named>) -> Option<Named>
     ensures { result ≡ turn_named word.now other }
 {
@@ -57,6 +61,7 @@ fn turn_named(word: &[u8], other: Option<Named>) -> Option<Named>
 }
 
 // The jobs that ask one question.
+#[tactic(auto, unfolding(crate::specs::Names::asked_named, crate::specs::Text::bytes_in, lists::specs::Lists::table))]
 fn asked_named(word: &[u8], other: Option<Named>) -> Option<Named>
     ensures { result ≡ asked_named word.now other }
 {
@@ -66,6 +71,7 @@ fn asked_named(word: &[u8], other: Option<Named>) -> Option<Named>
 }
 
 // The job that a word names.
+#[tactic(auto, unfolding(crate::specs::Names::named))]
 pub fn named(word: &[u8]) -> Option<Named>
     ensures { result ≡ named word.now }
 {

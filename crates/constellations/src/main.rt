@@ -7,12 +7,19 @@ use block::Constellation;
 use mapping::points::map_axes;
 use vectors::text::print;
 
-// A coordinate behind a space.
+// A coordinate behind a space, in one piece.
 fn write_coordinate(v: i16) {
-    match v {
-        -7 | -5 | -3 | -1 | 1 | 3 | 5 | 7 => print(format_args!(" {v}")),
-        _ => print(" ?"),
-    }
+    print(match v {
+        -7 => " -7",
+        -5 => " -5",
+        -3 => " -3",
+        -1 => " -1",
+        1 => " 1",
+        3 => " 3",
+        5 => " 5",
+        7 => " 7",
+        _ => " ?",
+    });
 }
 
 // A line: the point of these numbers.

@@ -3,7 +3,7 @@ use Prim.Native.Nat.{ℕ, ◌%◌}
 use mathlib.Core.Path.{◌≡◌, refl}
 use mathlib.Core.Bool.{Bool, true, false, cond, ◌&&◌}
 use lib.Dec.{eqb}
-use lib.Ieee.{Float, nan, inf, fin}
+use lib.Ieee.{Float, nan, inf, fin, lt}
 use Rattle.std.specs.Float.{float_is_finite}
 use borrow.Author.Tests.{not-false}
 use Rattle.lists.proofs.Bools.{never_both, and_left, and_right}
@@ -17,6 +17,14 @@ unfolding is_finite float_is_finite
 finite_same nan = refl
 finite_same (inf s) = refl
 finite_same (fin s m d) = refl
+
+-- a float is finite exactly if it lies between the infinities
+pub between_infinities : (x : Float) → (lt (inf true) x && lt x (inf false)) ≡ float_is_finite x
+unfolding lt float_is_finite
+between_infinities nan = refl
+between_infinities (inf true) = refl
+between_infinities (inf false) = refl
+between_infinities (fin s m d) = refl
 
 pub finite_is : (x : Float) → is_finite x ≡ true → Finite x
 unfolding is_finite

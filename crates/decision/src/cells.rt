@@ -1,5 +1,6 @@
 // A measured cell: whether it is refused, its point and its bits. 02, S-10.
 ghost use Rattle.std.specs.Prelude.{◌≡◌, ◌/◌, ◌%◌, ◌^◌, ◌<◌};
+ghost use Rattle.std.specs.Float.{float_is_finite};
 ghost use Rattle.block.specs.Mapping.{constellation};
 ghost use Rattle.decision.specs.Cells.{refused_cell, value_on, point_on, bit_on};
 ghost use Rattle.decision.specs.Clauses.{OnCell, OnPoint};
@@ -9,13 +10,22 @@ use crate::{Measured, MeasuredCell};
 use block::Constellation;
 use mapping::points::axis_label;
 
+// Whether a float is neither infinite nor not a number, as std's `is_finite` says.
+// Stays: `is_finite` subtracts, and so raises the floating-point exception "invalid" for an infinity; a caller in C that has unmasked it would end there,
+// where it is to be answered. Comparisons with infinities raise none.
+fn finite(x: f32) -> bool
+    ensures { result ≡ float_is_finite x }
+{
+    (f32::NEG_INFINITY < x) & (x < f32::INFINITY)
+}
+
 // Whether a cell is refused by 22.
 pub fn refused(cell: MeasuredCell) -> bool
     ensures { result ≡ refused_cell cell }
 {
     match cell {
-        MeasuredCell::Pair(p) => !(p.real.is_finite() & p.imaginary.is_finite()),
-        MeasuredCell::Fade(gain) => !gain.is_finite() | (gain < 0.0),
+        MeasuredCell::Pair(p) => !(finite(p.real) & finite(p.imaginary)),
+        MeasuredCell::Fade(gain) => !finite(gain) | (gain < 0.0),
     }
 }
 

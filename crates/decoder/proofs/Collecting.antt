@@ -14,7 +14,7 @@ use Rattle.patterns.specs.Patterns.{Sound}
 use Rattle.component.specs.Bits.{Bits}
 use Rattle.component.specs.Codeword.{following}
 use Rattle.component.specs.Decoding.{coded_length}
-use Rattle.decoder.specs.Division.{first_bit, Collected, Collects, CollectsColumn}
+use Rattle.decoder.specs.Division.{first_bit, Collected, Collects}
 use Rattle.component.proofs.Codeword.{following_low}
 use Rattle.component.proofs.Lengths.{coded_length-add, column_after_round, coded_less, coded_low, coded_more}
 
@@ -118,14 +118,6 @@ columns-start p coded at d =
 module _ {p coded : List ℕ} {stride at : ℕ} {d₀ d : List ℕ} {place i : ℕ} (R : Collects p stride coded at d₀) (E : Columns p coded at d₀ d place i) where
   begins : place - coded_length p 0 i ≡ at
   begins = omega (arith, E.there)
-
-  pub columns-given : CollectsColumn p stride coded place d i
-  columns-given =
-      record {
-        whole = rw begins (record { sound = R.sound; few = R.few; round = R.round; room = rw E.same R.room });
-        begun = omega (arith, E.there);
-        others = rw begins E.done;
-      }
 
   -- the place of the next column is not far behind the buffer's end
   pub columns_room : i < length p → place + ones (get_or p i 0) ≤ length coded + 32

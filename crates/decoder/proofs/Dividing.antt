@@ -1,6 +1,6 @@
 -- The loops of `multiply` and `divide`: what stands in the buffer before a turn. Assumes nothing.
 use Prim.Native.Nat.{ℕ, ◌+◌, ◌-◌, ◌*◌, ◌%◌, ◌≤◌, ◌<◌}
-use mathlib.Core.Path.{◌≡◌, refl, ◌∙◌}
+use mathlib.Core.Path.{◌≡◌, ◌∙◌}
 use mathlib.Core.Logic.{inl, inr}
 use mathlib.Core.List.{List}
 use native.Mathlib.Decide.{ℕ_discrete}
@@ -9,7 +9,7 @@ use lib.ListN.{length, get_or, set, length-set}
 use lib.Seq.{get_or-set_same, get_or-set_other, set_out}
 use Rattle.lists.proofs.Counting.{below_or}
 use Rattle.component.specs.Bits.{Bits}
-use Rattle.decoder.specs.Division.{product, Reaches, Multiplied, Divided}
+use Rattle.decoder.specs.Division.{product}
 use Rattle.decoder.proofs.Division.{product_bit}
 
 -- the five bits of a product are bits
@@ -39,14 +39,7 @@ pub record Multiplying (s : ℕ) (d₀ d : List ℕ) (j : ℕ) : Type 0 where
   pub before : (q : ℕ) → q < j → get_or d q 0 ≡ get_or d₀ q 0
   pub from : (q : ℕ) → j ≤ q → q < length d₀ → get_or d q 0 ≡ product s d₀ q
 
-pub multiply_start : {s : ℕ} {d : List ℕ} → Bits d → 12 * s ≤ length d → Multiplying s d d (length d)
-multiply_start B h =
-    record { same = refl; input = B; enough = h; within = omega arith; before = λ q k. refl; from = λ q k l. absurd (omega arith) }
-
 module _ {s : ℕ} {d₀ d : List ℕ} {j : ℕ} (M : Multiplying s d₀ d j) where
-  pub multiply_reaches : 12 * s < j → Reaches s d (j - 1)
-  multiply_reaches h = record { input = M.input; back = omega arith; there = omega (arith, M.within, M.same) }
-
   -- the product of what stands there is that of what d₀ has
   unchanged : 12 * s < j → product s d (j - 1) ≡ product s d₀ (j - 1)
   unfolding product
@@ -73,10 +66,6 @@ module _ {s : ℕ} {d₀ d : List ℕ} {j : ℕ} (M : Multiplying s d₀ d j) wh
         ];
       }
 
-  pub multiply_done : j ≤ 12 * s → Multiplied s d₀ d
-  multiply_done h =
-      record { same = M.same; before = λ q k. M.before q (omega (arith, M.enough)); from = λ q k l. M.from q (omega arith) l }
-
 -- before a turn of `divide`: before j stand quotients, and from j on what d₀ has
 pub record Dividing (d₀ d : List ℕ) (j : ℕ) : Type 0 where
   pub same : length d ≡ length d₀
@@ -88,14 +77,7 @@ pub record Dividing (d₀ d : List ℕ) (j : ℕ) : Type 0 where
       → get_or d q 0 ≡ (get_or d₀ q 0 + get_or d (q - 8) 0 + get_or d (q - 12) 0 + get_or d (q - 20) 0 + get_or d (q - 24) 0) % 2
   pub from : (q : ℕ) → j ≤ q → get_or d q 0 ≡ get_or d₀ q 0
 
-pub divide-start : {d : List ℕ} → Bits d → Dividing d d 24
-divide-start B =
-    record { same = refl; input = B; enough = omega arith; first = λ q k. refl; before = λ q k l. absurd (omega arith); from = λ q k. refl }
-
 module _ {d₀ d : List ℕ} {j : ℕ} (D : Dividing d₀ d j) where
-  pub divide_reaches : j < length d₀ → Reaches 4 d j
-  divide_reaches h = record { input = D.input; back = omega (arith, D.enough); there = omega (arith, D.same) }
-
   -- what the code makes of the bits that stand there
   made : product 4 d j ≡ (get_or d₀ j 0 + get_or d (j - 8) 0 + get_or d (j - 12) 0 + get_or d (j - 20) 0 + get_or d (j - 24) 0) % 2
   unfolding product
@@ -117,6 +99,3 @@ module _ {d₀ d : List ℕ} {j : ℕ} (D : Dividing d₀ d j) where
             ]);
         from = λ q k. get_or-set_other d j q v 0 (omega arith) ∙ D.from q (omega arith);
       }
-
-  pub divide_done : length d₀ ≤ j → Divided d₀ d
-  divide_done h = record { same = D.same; before = D.first; from = λ q k l. D.before q k (omega arith) }

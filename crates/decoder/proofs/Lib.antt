@@ -1,4 +1,3 @@
-mod Widths
 mod Collecting
 mod Division
 mod Dividing

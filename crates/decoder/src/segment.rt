@@ -1,13 +1,13 @@
 // The bits of a segment from its coded ones, by division. 01 "Component code".
-// Stays, in this module: slices stand one by one, since a clause would name one in a struct `rows.now.pattern.now` and not `pattern.now`.
+// Stays, in this module: slices stand one by one, since a clause would name one in a struct `rows.now.coded.now` and not `coded.now`.
 ghost use Rattle.std.specs.Prelude.{◌≡◌, ◌+◌, ◌-◌, ◌*◌, ◌≤◌, ◌<◌, length};
 ghost use Rattle.patterns.specs.Clauses.{pattern_of, Held};
 ghost use Rattle.component.specs.Decoding.{coded_length};
 ghost use Rattle.component.specs.Bits.{Bits};
-ghost use Rattle.component.specs.Coding.{Widths, Decodes, Decoded};
+ghost use Rattle.component.specs.Coding.{Decodes, Decoded};
 ghost use Rattle.decoder.specs.Division.{product, Reaches, Multiplied, Divided, Collected, Collects, CollectsColumn, Raised};
 
-use component::code::{Coder, count_coded, count_columns, decode_columns, register_at, widths_of};
+use component::code::{Coder, Columns, count_coded, count_columns, decode_columns, register_at};
 use patterns::Pattern;
 
 // The first bits of a segment, which are decoded bit by bit: so far back reaches the mask with its digits four apart.
@@ -17,12 +17,19 @@ const FIRST: usize = 24;
 const LEAST: usize = 64;
 
 // Writes b0 of a column of each round, from the place of the first one on.
-fn collect_column(pattern: &[u8], stride: usize, coded: &[u8], at: usize, out: &mut [u8], i: usize)
-    requires { CollectsColumn pattern.now stride coded.now at out.old i }
+fn collect_column(
+    columns: Columns,
+    stride: usize,
+    coded: &[u8],
+    at: usize,
+    out: &mut [u8],
+    i: usize,
+)
+    requires { CollectsColumn (pattern_of columns.pattern) stride coded.now at out.old i }
     ensures { (length out.new ≡ length out.old)
-        × Collected pattern.now coded.now (at - coded_length pattern.now 0 i) (i + 1) out.new }
+        × Collected (pattern_of columns.pattern) coded.now (at - coded_length (pattern_of columns.pattern) 0 i) (i + 1) out.new }
 {
-    let width = pattern.len();
+    let width = columns.pattern.width;
     let mut at = at;
     let mut j = i;
     // Stays: a `for` by `step_by` was tried; reading a level then takes 16 % more instructions.
@@ -34,15 +41,15 @@ fn collect_column(pattern: &[u8], stride: usize, coded: &[u8], at: usize, out: &
 }
 
 // Writes b0 of every column, one column after the other, so that no place waits for another.
-fn collect(pattern: &[u8], widths: &[usize], stride: usize, coded: &[u8], at: usize, out: &mut [u8])
-    requires { Collects pattern.now stride coded.now at out.old × Widths pattern.now widths.now }
+fn collect(columns: Columns, stride: usize, coded: &[u8], at: usize, out: &mut [u8])
+    requires { Collects (pattern_of columns.pattern) stride coded.now at out.old }
     ensures { (length out.new ≡ length out.old)
-        × Collected pattern.now coded.now at (length pattern.now) out.new }
+        × Collected (pattern_of columns.pattern) coded.now at (length (pattern_of columns.pattern)) out.new }
 {
     let mut at = at;
-    for i in 0..pattern.len() {
-        collect_column(pattern, stride, coded, at, out, i);
-        at += widths[i];
+    for (i, width) in columns.widths[..columns.pattern.width].iter().enumerate() {
+        collect_column(columns, stride, coded, at, out, i);
+        at += *width;
     }
 }
 
@@ -78,47 +85,42 @@ fn divide(products: &mut [u8])
 }
 
 // Writes the input bits times the mask with its digits four apart: b0 times the mask, and that times the mask with its digits two apart.
-fn raise(pattern: &[u8], widths: &[usize], coded: &[u8], at: usize, out: &mut [u8])
-    requires { Collects pattern.now (coded_length pattern.now 0 (length pattern.now)) coded.now at out.old
-        × Widths pattern.now widths.now × (24 ≤ length out.old) }
-    ensures { Raised pattern.now coded.now at (length out.old) out.new }
+fn raise(columns: Columns, coded: &[u8], at: usize, out: &mut [u8])
+    requires { Collects (pattern_of columns.pattern) (coded_length (pattern_of columns.pattern) 0 (length (pattern_of columns.pattern))) coded.now at out.old
+        × (24 ≤ length out.old) }
+    ensures { Raised (pattern_of columns.pattern) coded.now at (length out.old) out.new }
 {
+    let pattern = columns.pattern.columns();
     let stride = count_columns(pattern, pattern.len());
-    collect(pattern, widths, stride, coded, at, out);
+    collect(columns, stride, coded, at, out);
     multiply(out, 1);
     multiply(out, 2);
 }
 
 // A segment of more bits: the first ones bit by bit, and the others by division.
-// Stays: `Decodes` and `Widths` speak of slices; a struct with them as its invariant would hold references, of which the line at the top speaks.
-fn decode_long(pattern: &[u8], widths: &[usize], from: Coder, coded: &[u8], out: &mut [u8]) -> Coder
-    requires { Decodes pattern.now from.register coded.now from.at out.old × Widths pattern.now widths.now × (24 ≤ length out.old) }
-    ensures { Decoded pattern.now from.register coded.now from.at (length out.old) result.register result.at out.new }
+// Stays: `Decodes` speaks of lent slices; a struct with it as its invariant would hold references, of which the line at the top speaks.
+fn decode_long(columns: Columns, from: Coder, coded: &[u8], out: &mut [u8]) -> Coder
+    requires { Decodes (pattern_of columns.pattern) from.register coded.now from.at out.old × (24 ≤ length out.old) }
+    ensures { Decoded (pattern_of columns.pattern) from.register coded.now from.at (length out.old) result.register result.at out.new }
 {
-    let at = from.at + count_coded(pattern, out.len());
-    raise(pattern, widths, coded, from.at, out);
-    decode_columns(pattern, widths, from, coded, &mut out[0..FIRST]);
+    let at = from.at + count_coded(columns.pattern.columns(), out.len());
+    raise(columns, coded, from.at, out);
+    decode_columns(columns, from, coded, &mut out[0..FIRST]);
     divide(out);
     let register = register_at(out, out.len() - 7) as u32;
     Coder { register, at }
 }
 
 // A segment: a short one, as the tail, bit by bit.
-// Stays: `Decodes` and `Widths` speak of slices; a struct with them as its invariant would hold references, of which the line at the top speaks.
-fn decode_segment(
-    pattern: &[u8],
-    widths: &[usize],
-    from: Coder,
-    coded: &[u8],
-    out: &mut [u8],
-) -> Coder
-    requires { Decodes pattern.now from.register coded.now from.at out.old × Widths pattern.now widths.now }
-    ensures { Decoded pattern.now from.register coded.now from.at (length out.old) result.register result.at out.new }
+// Stays: `Decodes` speaks of lent slices; a struct with it as its invariant would hold references, of which the line at the top speaks.
+fn decode_segment(columns: Columns, from: Coder, coded: &[u8], out: &mut [u8]) -> Coder
+    requires { Decodes (pattern_of columns.pattern) from.register coded.now from.at out.old }
+    ensures { Decoded (pattern_of columns.pattern) from.register coded.now from.at (length out.old) result.register result.at out.new }
 {
     if out.len() < LEAST {
-        return decode_columns(pattern, widths, from, coded, out);
+        return decode_columns(columns, from, coded, out);
     }
-    decode_long(pattern, widths, from, coded, out)
+    decode_long(columns, from, coded, out)
 }
 
 // The bits of a segment from the coded bits from the coder's place on: as many as out is long.
@@ -127,6 +129,5 @@ pub fn decode(pattern: Pattern, from: Coder, coded: &[u8], out: &mut [u8]) -> Co
     requires { Held pattern × Decodes (pattern_of pattern) from.register coded.now from.at out.old }
     ensures { Decoded (pattern_of pattern) from.register coded.now from.at (length out.old) result.register result.at out.new }
 {
-    let widths = widths_of(pattern.columns);
-    decode_segment(pattern.columns(), &widths, from, coded, out)
+    decode_segment(Columns::new(pattern), from, coded, out)
 }

@@ -28,8 +28,8 @@ fn take(
     fill(rt, bytes)?;
     let step = superframes::step(job, *state, bytes, memory, out);
     *state = step.state;
-    let n = step.made?;
-    turn::after_write(io::write_all(STDOUT_FILENO, &out[..n]))
+    let written = io::write_all(STDOUT_FILENO, &out[..step.made.unwrap_or(0)]);
+    turn::after_write(step.made, written)
 }
 
 // A run: how it ended, how many super frames went through, what it lost, and the state after them.

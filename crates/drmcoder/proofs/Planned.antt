@@ -9,7 +9,7 @@ use Rattle.settingbytes.specs.Numbers.{Numbers}
 use Rattle.drmcoder.specs.Plans.{plan_bytes}
 use Rattle.settingbytes.proofs.TwoLengths.{both_right}
 
-pub plan-right : (rules : List ℕ) (t : ℕ) (d : List ℕ) (y : Numbers) → length rules % 14 ≡ 0 → length d ≡ 2
+pub plan_right : (rules : List ℕ) (t : ℕ) (d : List ℕ) (y : Numbers) → length rules % 14 ≡ 0 → length d ≡ 2
     → y ≡ plan_into (answer_of (rules_of rules) t) d → y ≡ plan_bytes rules t d
 unfolding plan_bytes
-plan-right rules t d y w h ey = rw ey (both_right _ _ _ _ _ _ w h)
+plan_right rules t d y w h ey = rw ey (both_right _ _ _ _ _ _ w h)

@@ -8,7 +8,7 @@ use plan::rules::RULE_BYTES;
 use refusal::{Refusal, answer};
 
 // The rule's place in the list and the mark of a super frame of the week.
-#[tactic(auto, unfolding(crate::specs::Plans::plan_bytes))]
+#[tactic(auto, using(crate::proofs::Planned::plan_right), unfolding(crate::specs::Plans::plan_bytes))]
 pub fn drm_plan(rules: &[u8], superframe: u32, bytes: &mut [u8]) -> u8
     ensures { yielded result bytes.new ≡ plan_bytes rules.now superframe bytes.old }
 {

@@ -10,7 +10,7 @@ use lib.Seq.{sets, take-suc, take-add, take_all, drop-drop, get_or-drop, length-
 use lib.Count.{ones, ones_step}
 use Rattle.lists.specs.Lists.{table}
 use Rattle.lists.proofs.Tables.{get_or-table, table_ext, table_from, length-table}
-use Rattle.lists.proofs.Parts.{length-start, length-written, written-front}
+use Rattle.lists.proofs.Parts.{length-start, written-front}
 use Rattle.component.specs.Bits.{Bits}
 use Rattle.component.specs.Register.{next, parities, after}
 use Rattle.component.specs.Codeword.{kept, encode}
@@ -110,10 +110,6 @@ rounds_coded {p} {l} S B f (suc c) m d at h g =
 pub rest-lent : (l : List ℕ) (i : ℕ) → take (length l - i) (drop i l) ≡ drop i l
 rest-lent l i = take_all (length l - i) (drop i l) (rw length-drop (omega arith))
 
--- some rounds have a register for each column
-pub columns_there : {p rs : List ℕ} {c : ℕ} {d : List ℕ} {at s : ℕ} → LaysRounds p rs c d at s → (i : ℕ) → i < length p → i ≤ length rs
-columns_there {p} {c} L i h = let g : 1 * length p ≤ c * length p = mul-le-mul_right (length p) L.some in omega (arith, g, L.reads)
-
 -- the first register of each round from column i on, and room for what the column keeps
 pub lays_column : {p rs : List ℕ} {c : ℕ} {d₀ d : List ℕ} {at₀ at s i : ℕ} → LaysRounds p rs c d₀ at₀ s → length d ≡ length d₀ → at ≡ at₀ + coded_length p 0 i → i < length p
     → Lays (drop i rs) (length p) c d at s (ones (get_or p i 0))
@@ -176,30 +172,17 @@ module _ {p rs : List ℕ} {c : ℕ} {d₀ : List ℕ} {at₀ s : ℕ} (L : Lays
   pub columns_done : {d : List ℕ} {at i : ℕ} → LayingColumns p rs c d₀ at₀ s d at i → length p ≤ i → d ≡ rounds_laid p rs (length p) c d₀ at₀ s
   columns_done {d} {at} {i} E h = let e : i ≡ length p = omega (arith, E.columns) in rw e at E.written
 
--- there are no more rounds than bits
-pub rounds_few : {p : List ℕ} {s : ℕ} {l : List ℕ} {first pairs : ℕ} {out : List ℕ} {at : ℕ} → EncodesRounds p s l first pairs out at → 2 * pairs ≤ 2048
-rounds_few {pairs = pairs} E = let g = mul-le-mul_left (2 * pairs) E.sound.some in omega (arith, g, E.few)
-
 -- whole rounds with a buffer for the registers of their bits
 module _ {p : List ℕ} {s : ℕ} {l : List ℕ} {first pairs : ℕ} {out : List ℕ} {at : ℕ} (E : EncodesRounds p s l first pairs out at) (buffer : List ℕ) (b : length buffer ≡ 2048) where
   pub buffer_there : 2 * pairs * length p ≤ length buffer
   buffer_there = omega (arith, b, E.few)
 
-  pub registers_there : first - 6 + length (take (2 * pairs * length p - 0) buffer) + 6 ≤ length l
-  registers_there = rw (length-start (2 * pairs * length p) buffer buffer_there) (omega (arith, E.there, E.begun))
-
   module _ {rs : List ℕ} (e : rs ≡ table (λ k. register_at l (first - 6 + k)) 0 (length (take (2 * pairs * length p - 0) buffer))) where
     long : length rs ≡ 2 * pairs * length p
     long = ap length e ∙ length-table (λ k. register_at l (first - 6 + k)) 0 _ ∙ length-start (2 * pairs * length p) buffer buffer_there
 
-    pub written_there : 2 * pairs * length p ≤ length (rs ++ drop (2 * pairs * length p - 0) buffer)
-    written_there = rw (length-written buffer rs (2 * pairs * length p) buffer_there long) buffer_there
-
     lent : take (2 * pairs * length p - 0) (rs ++ drop (2 * pairs * length p - 0) buffer) ≡ rs
     lent = written-front rs buffer (2 * pairs * length p) long
-
-    pub lays_rounds : LaysRounds p (take (2 * pairs * length p - 0) (rs ++ drop (2 * pairs * length p - 0) buffer)) (2 * pairs) out at s
-    lays_rounds = rw lent (record { sound = E.sound; round = E.round; some = E.some; reads = omega (arith, long); writes = E.room })
 
     registers_are : (k : ℕ) → k < 2 * pairs * length p → get_or rs k 0 ≡ register_at l (suc (first - 7 + k))
     registers_are k i =

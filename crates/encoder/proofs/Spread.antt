@@ -172,20 +172,6 @@ module _ {f : ℕ → ℕ} {rs : List ℕ} {w pairs : ℕ} {d₀ : List ℕ} {at
       record { room = L; turns = omega arith; same = refl; written = rw (a, n) }
 
   module _ {d : List ℕ} {k : ℕ} (E : Laying f rs w pairs d₀ at s d k) where
-    -- in a turn the places that it reads and writes are there
-    pub laying_room : k < pairs
-        → (2 * k + 1 < length d) × (2 * k * w < length rs) × ((2 * k + 1) * w < length rs) × (at + 2 * k * s < length d) × (at + (2 * k + 1) * s < length d)
-    laying_room h =
-        let L = E.room in
-        let a : 2 * k < 2 * pairs = omega arith in
-        let b : 2 * k + 1 < 2 * pairs = omega arith in (
-          omega (arith, L.few, E.same),
-          L.reads (2 * k) a,
-          L.reads (2 * k + 1) b,
-          omega (arith, L.writes (2 * k) a, E.same),
-          omega (arith, L.writes (2 * k + 1) b, E.same),
-        )
-
     -- a turn
     pub laying_turn : {d' : List ℕ} → k < pairs
         → d' ≡ set (set d (at + 2 * k * s) (f (get_or rs (2 * k * w) 0))) (at + (2 * k + 1) * s) (f (get_or rs ((2 * k + 1) * w) 0))

@@ -21,67 +21,12 @@ const ROUNDS: usize = 7;
 // The registers of so many bits are made at a time.
 const BLOCK: usize = 2048;
 
-// Writes one parity a round, from the first register of each, where the lowest digit of the column says that it is kept: two rounds a turn.
-fn lay(
-    column: u8,
-    registers: &[u8],
+// Whole rounds, two and two: how many registers and how many coded bits each has, and how many pairs there are.
+#[derive(Clone, Copy)]
+struct Rounds {
     width: usize,
-    pairs: usize,
-    mask: u32,
-    out: &mut [u8],
-    at: usize,
     stride: usize,
-) -> usize
-    requires { Lays registers.now width (2 * pairs) out.old at stride (column % 2) }
-    ensures { (result ≡ at + column % 2) × (out.new
-        ≡ laid (λ x. kept column (parity mask x ∷ [])) registers.now width (2 * pairs) out.old at stride) }
-{
-    if column % 2 == 0 {
-        return at;
-    }
-    for k in 0..pairs {
-        out[at + 2 * k * stride] = parity(registers[2 * k * width] as u32, mask);
-        out[at + (2 * k + 1) * stride] = parity(registers[(2 * k + 1) * width] as u32, mask);
-    }
-    at + 1
-}
-
-// Writes what a column keeps of each round.
-fn lay_column(
-    column: u8,
-    registers: &[u8],
-    width: usize,
     pairs: usize,
-    out: &mut [u8],
-    at: usize,
-    stride: usize,
-) -> usize
-    requires { Lays registers.now width (2 * pairs) out.old at stride (ones column) × (column < 16) }
-    ensures { (result ≡ at + ones column) × (out.new
-        ≡ laid (λ x. kept column (parities x)) registers.now width (2 * pairs) out.old at stride) }
-{
-    let one = lay(column, registers, width, pairs, 0o133, out, at, stride);
-    let two = lay(column / 2, registers, width, pairs, 0o171, out, one, stride);
-    let three = lay(
-        column / 2 / 2,
-        registers,
-        width,
-        pairs,
-        0o145,
-        out,
-        two,
-        stride,
-    );
-    lay(
-        column / 2 / 2 / 2,
-        registers,
-        width,
-        pairs,
-        0o133,
-        out,
-        three,
-        stride,
-    )
 }
 
 // The registers of a run of bits, each from its own bit and the six before it, so that none waits for another.
@@ -96,53 +41,66 @@ fn registers_of(bits: &[u8], from: usize, registers: &mut [u8])
     }
 }
 
-// The coded bits of whole rounds from the registers of their bits, one column after the other.
-fn lay_columns(
-    pattern: &[u8],
-    registers: &[u8],
-    pairs: usize,
-    out: &mut [u8],
-    at: usize,
-    stride: usize,
-)
-    requires { LaysRounds pattern.now registers.now (2 * pairs) out.old at stride }
-    ensures { out.new
-        ≡ rounds_laid pattern.now registers.now (length pattern.now) (2 * pairs) out.old at stride }
-{
-    let mut at = at;
-    for (i, column) in pattern.iter().enumerate() {
-        at = lay_column(
-            *column,
-            &registers[i..],
-            pattern.len(),
-            pairs,
-            out,
-            at,
-            stride,
-        );
+impl Rounds {
+    // Stays: out is lent and cannot grow; the columns' bits lie between one another, a stride apart, so each column has its place in the whole.
+    // Writes one parity a round, from the first register of each, where the lowest digit of the column says that it is kept: two rounds a turn.
+    fn lay(self, column: u8, registers: &[u8], mask: u32, out: &mut [u8], at: usize) -> usize
+        requires { Lays registers.now self.width (2 * self.pairs) out.old at self.stride (column % 2) }
+        ensures { (result ≡ at + column % 2) × (out.new
+            ≡ laid (λ x. kept column (parity mask x ∷ [])) registers.now self.width (2 * self.pairs) out.old at self.stride) }
+    {
+        if column % 2 == 0 {
+            return at;
+        }
+        let width = self.width;
+        let stride = self.stride;
+        for k in 0..self.pairs {
+            out[at + 2 * k * stride] = parity(registers[2 * k * width] as u32, mask);
+            out[at + (2 * k + 1) * stride] = parity(registers[(2 * k + 1) * width] as u32, mask);
+        }
+        at + 1
     }
-}
 
-// Whole rounds, two and two, of the bits from first on: all their registers, and then one column after the other.
-fn encode_rounds(
-    pattern: &[u8],
-    stride: usize,
-    bits: &[u8],
-    first: usize,
-    pairs: usize,
-    out: &mut [u8],
-    at: usize,
-)
-    requires { EncodesRounds pattern.now stride bits.now first pairs out.old at }
-    ensures { out.new
-        ≡ sets out.old at
-        (encode pattern.now (register_at bits.now (first - 7)) 0
-        (take (2 * pairs * length pattern.now) (drop first bits.now))) }
-{
-    let n = 2 * pairs * pattern.len();
-    let mut registers: [u8; BLOCK] = buffer(0);
-    registers_of(bits, first - 6, &mut registers[0..n]);
-    lay_columns(pattern, &registers[0..n], pairs, out, at, stride);
+    // Stays: out is lent and cannot grow; the columns' bits lie between one another, a stride apart, so each column has its place in the whole.
+    // Writes what a column keeps of each round.
+    fn lay_column(self, column: u8, registers: &[u8], out: &mut [u8], at: usize) -> usize
+        requires { Lays registers.now self.width (2 * self.pairs) out.old at self.stride (ones column) × (column < 16) }
+        ensures { (result ≡ at + ones column) × (out.new
+            ≡ laid (λ x. kept column (parities x)) registers.now self.width (2 * self.pairs) out.old at self.stride) }
+    {
+        let one = self.lay(column, registers, 0o133, out, at);
+        let two = self.lay(column / 2, registers, 0o171, out, one);
+        let three = self.lay(column / 2 / 2, registers, 0o145, out, two);
+        self.lay(column / 2 / 2 / 2, registers, 0o133, out, three)
+    }
+
+    // Stays: out is lent and cannot grow; the columns' bits lie between one another, a stride apart, so each column has its place in the whole.
+    // The coded bits of the rounds from the registers of their bits, one column after the other.
+    fn lay_columns(self, pattern: &[u8], registers: &[u8], out: &mut [u8], at: usize)
+        requires { LaysRounds pattern.now registers.now (2 * self.pairs) out.old at self.stride × (self.width ≡ length pattern.now) }
+        ensures { out.new
+            ≡ rounds_laid pattern.now registers.now (length pattern.now) (2 * self.pairs) out.old at self.stride }
+    {
+        let mut at = at;
+        for (i, column) in pattern.iter().enumerate() {
+            at = self.lay_column(*column, &registers[i..], out, at);
+        }
+    }
+
+    // Stays: out is lent and cannot grow; the columns' bits lie between one another, a stride apart, so each column has its place in the whole.
+    // The rounds of the bits from first on: all their registers, and then one column after the other.
+    fn encode(self, pattern: &[u8], bits: &[u8], first: usize, out: &mut [u8], at: usize)
+        requires { EncodesRounds pattern.now self.stride bits.now first self.pairs out.old at × (self.width ≡ length pattern.now) }
+        ensures { out.new
+            ≡ sets out.old at
+            (encode pattern.now (register_at bits.now (first - 7)) 0
+            (take (2 * self.pairs * length pattern.now) (drop first bits.now))) }
+    {
+        let n = 2 * self.pairs * pattern.len();
+        let mut registers: [u8; BLOCK] = buffer(0);
+        registers_of(bits, first - 6, &mut registers[0..n]);
+        self.lay_columns(pattern, &registers[0..n], out, at);
+    }
 }
 
 // Stays: out is lent and cannot grow, so the place of the next coded bit goes along with it.
@@ -157,9 +115,13 @@ fn encode_blocks(pattern: &[u8], bits: &[u8], first: usize, out: &mut [u8], at: 
     let pairs = (bits.len() - first) / width / 2;
     let most = BLOCK / width / 2;
     for k in (0..pairs).step_by(most) {
-        let some = most.min(pairs - k);
+        let rounds = Rounds {
+            width,
+            stride,
+            pairs: most.min(pairs - k),
+        };
         let from = first + 2 * k * width;
-        encode_rounds(pattern, stride, bits, from, some, out, at + 2 * k * stride);
+        rounds.encode(pattern, bits, from, out, at + 2 * k * stride);
     }
     let rest = first + 2 * pairs * width;
     let register = register_at(bits, rest - 7) as u32;

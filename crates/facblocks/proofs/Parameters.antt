@@ -83,9 +83,6 @@ pub record Testing (vs : List ℕ) (k : ℕ) : Type 0 where
   pub turns : k ≤ 16
   pub known : fit (drop k widths) (drop k vs) ≡ fit widths vs
 
-pub test_start : (vs : List ℕ) → Testing vs 0
-test_start vs = record { turns = omega arith; known = refl }
-
 pub test_turn : {vs : List ℕ} {k : ℕ} → Testing vs k → length vs ≡ 16 → k < 16 → get_or vs k 0 < get_or values k 0 → Testing vs (k + 1)
 unfolding widths
 test_turn {vs} {k} I e h l =

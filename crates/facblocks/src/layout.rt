@@ -9,49 +9,53 @@ use settings::Settings;
 pub const FIELDS: usize = 14;
 
 // Fields from their fourteen numbers.
-#[tactic(auto, unfolding(crate::specs::Fields::fields_of))]
-pub fn fields_of(numbers: &[u32; FIELDS]) -> Fields
-    ensures { result ≡ fields_of numbers.now }
-{
-    Fields {
-        enhancement: numbers[0],
-        identity: numbers[1],
-        occupancy: numbers[2],
-        interleaving: numbers[3],
-        msc: numbers[4],
-        sdc: numbers[5],
-        services: numbers[6],
-        reconfiguration: numbers[7],
-        service: numbers[8],
-        shortid: numbers[9],
-        ca: numbers[10],
-        language: numbers[11],
-        dataflag: numbers[12],
-        descriptor: numbers[13],
+impl From<[u32; FIELDS]> for Fields {
+    ghost from_gives = { λ numbers f. f ≡ fields_of numbers };
+
+    #[tactic(auto, unfolding(crate::specs::Fields::fields_of))]
+    fn from(numbers: [u32; FIELDS]) -> Fields {
+        Fields {
+            enhancement: numbers[0],
+            identity: numbers[1],
+            occupancy: numbers[2],
+            interleaving: numbers[3],
+            msc: numbers[4],
+            sdc: numbers[5],
+            services: numbers[6],
+            reconfiguration: numbers[7],
+            service: numbers[8],
+            shortid: numbers[9],
+            ca: numbers[10],
+            language: numbers[11],
+            dataflag: numbers[12],
+            descriptor: numbers[13],
+        }
     }
 }
 
 // The fourteen numbers of fields.
-#[tactic(auto, unfolding(crate::specs::Fields::numbers_of))]
-pub fn numbers_of(f: Fields) -> [u32; FIELDS]
-    ensures { result ≡ numbers_of f }
-{
-    [
-        f.enhancement,
-        f.identity,
-        f.occupancy,
-        f.interleaving,
-        f.msc,
-        f.sdc,
-        f.services,
-        f.reconfiguration,
-        f.service,
-        f.shortid,
-        f.ca,
-        f.language,
-        f.dataflag,
-        f.descriptor,
-    ]
+impl From<Fields> for [u32; FIELDS] {
+    ghost from_gives = { λ f numbers. numbers ≡ numbers_of f };
+
+    #[tactic(auto, unfolding(crate::specs::Fields::numbers_of))]
+    fn from(f: Fields) -> [u32; FIELDS] {
+        [
+            f.enhancement,
+            f.identity,
+            f.occupancy,
+            f.interleaving,
+            f.msc,
+            f.sdc,
+            f.services,
+            f.reconfiguration,
+            f.service,
+            f.shortid,
+            f.ca,
+            f.language,
+            f.dataflag,
+            f.descriptor,
+        ]
+    }
 }
 
 // The sixteen parameters in the order of a block, the reserved ones zero.
@@ -84,7 +88,7 @@ pub fn parameters(f: Fields) -> [u32; 16]
 pub fn fields_among(p: [u32; 16]) -> Fields
     ensures { result ≡ fields_among p }
 {
-    fields_of(&[
+    Fields::from([
         p[0], p[1], p[2], p[3], p[4], p[5], p[6], p[7], p[9], p[10], p[11], p[12], p[13], p[14],
     ])
 }

@@ -4,8 +4,9 @@ ghost use Rattle.refusal.specs.Numbers.{answer};
 ghost use Rattle.facfields.specs.Build.{build_yield, build_of};
 ghost use Rattle.facfields.specs.Read.{read_yield, read_of};
 
+use facblocks::Fields;
 use facblocks::blocks::{block_of, crc_right, fields_in, within};
-use facblocks::layout::{FIELDS, agrees, fields_of, numbers_of};
+use facblocks::layout::{FIELDS, agrees};
 use facblocks::word::BLOCK_BYTES;
 use refusal::Refusal;
 use settings::Settings;
@@ -23,7 +24,7 @@ pub fn build(s: Settings, numbers: &[u32], block: &mut [u8]) -> Result<(), Refus
     if block.len() != BLOCK_BYTES {
         return Err(Refusal::OutputLength);
     }
-    let f = fields_of(numbers);
+    let f = Fields::from(*numbers);
     if !(within(f) && agrees(s, f)) {
         return Err(Refusal::Field);
     }
@@ -50,6 +51,6 @@ pub fn read(s: Settings, block: &[u8], numbers: &mut [u32]) -> Result<(), Refusa
     if !crc_right(block) {
         return Err(Refusal::Crc);
     }
-    numbers.copy_from_slice(&numbers_of(fields));
+    numbers.copy_from_slice(&<[u32; FIELDS]>::from(fields));
     Ok(())
 }

@@ -1,12 +1,12 @@
 -- The lowest block at fault: loops that stop at the first test that fails, and the tests of refusal 13. Assumes nothing.
-use mathlib.Core.Path.{◌≡◌, refl, sym, ap, ap₂, ◌∙◌}
-use mathlib.Core.Bool.{Bool, true, false, not, true≢false}
+use mathlib.Core.Path.{◌≡◌, refl, sym, ap, ap₂, subst, ◌∙◌}
+use mathlib.Core.Bool.{Bool, true, false, true≢false}
 use mathlib.Core.List.{List, ◌∷◌}
 use Prim.Native.Nat.{ℕ, suc, ◌+◌, ◌-◌, ◌*◌, ◌≤◌, ◌<◌, ◌%◌, min}
-use native.Mathlib.Nat.{sub-zero, zero-add, add-zero}
+use native.Mathlib.Nat.{add-zero}
 use native.Mathlib.Numerals.{add-one}
 use native.Mathlib.Omega.{arith}
-use borrow.Author.Tests.{ne_eqb, lt-ltb, le-ltb, not-true, not-false}
+use borrow.Author.Tests.{ne_eqb, lt-ltb, le-ltb}
 use lib.ListN.{length, take, drop, length-drop}
 use lib.IntN.{ℤ}
 use Rattle.lists.specs.Lists.{table}
@@ -65,25 +65,25 @@ pub record Faultless (f : ℕ → Bool) (n i : ℕ) : Type 0 where
   pub rest : first_fault (table f 0 n) ≡ i + first_fault (table f i (n - i))
 
 module _ (f : ℕ → Bool) (n : ℕ) where
-  pub faultless_start : Faultless f n 0
-  faultless_start = record { upto = omega arith; tests = rw sub-zero; rest = rw (sub-zero, zero-add) }
-
   one_more : (i : ℕ) → i < n → table f i (n - i) ≡ f i ∷ table f (i + 1) (n - (i + 1))
   unfolding table
   one_more i h = let e : n - i ≡ suc (n - (i + 1)) = omega arith in rw (e, add-one i)
 
-  pub faultless_turn : (i : ℕ) (b : Bool) → i < n → b ≡ f i → not b ≡ false → Faultless f n i → Faultless f n (i + 1)
+  pub faultless_turn : (i : ℕ) (b : Bool) → i < n → b ≡ f i → b ≡ true → Faultless f n i → Faultless f n (i + 1)
   unfolding every first_fault
   faultless_turn i b h e t w =
-      let g : f i ≡ true = sym e ∙ not-false b t in
+      let g : f i ≡ true = sym e ∙ t in
       let r : first_fault (table f i (n - i)) ≡ suc (first_fault (table f (i + 1) (n - (i + 1)))) = rw (one_more i h, g) in
       record { upto = omega arith; tests = w.tests ∙ rw (one_more i h, g); rest = w.rest ∙ omega arith }
 
-  pub faultless_stop : (i : ℕ) (b : Bool) → i < n → b ≡ f i → not b ≡ true → Faultless f n i → Some i ≡ fault_of (table f 0 n)
+  pub faultless_stop : (i : ℕ) (b : Bool) → i < n → b ≡ f i → b ≡ false → Faultless f n i → Some i ≡ fault_of (table f 0 n)
   unfolding every first_fault fault_of
   faultless_stop i b h e t w =
-      let g : f i ≡ false = sym e ∙ not-true b t in
+      let g : f i ≡ false = sym e ∙ t in
       sym (rw (w.tests, w.rest, one_more i h, g, add-zero i))
+
+  pub faultless_there : (i j : ℕ) → i ≡ j → Faultless f n i → Faultless f n j
+  faultless_there i j e w = subst (Faultless f n) e w
 
   pub faultless_end : (i : ℕ) → n ≤ i → Faultless f n i → None ≡ fault_of (table f 0 n)
   unfolding every fault_of table
@@ -112,10 +112,6 @@ module _ (s : Scheme) (count : ℕ) (fac sdc msc : List ℤ) (i : ℕ) (b : Bool
   unfolding point_test
   test_sdc k h l p e = e ∙ rw (p, h) (sdc_points s sdc l)
 
-  pub test_row : 3 ≤ i → (i ≡ 3 → ⊥) → i < 7 → b ≡ row_points s (count_at s.settings count (i - 4)) (part (slot_size s.settings) msc (i - 4)) → b ≡ point_test s count fac sdc msc i
-  unfolding point_test
-  test_row h g k e = e ∙ rw (le-ltb i 3 h, ne_eqb i 3 g, lt-ltb i 7 k)
-
   module _ (w : CellsLent s count fac sdc msc) (n : ℕ) (f : n ≡ slot_size s.settings) where
     pub fillers-within : 3 * n ≤ length msc
     unfolding slot_size
@@ -141,6 +137,14 @@ module _ (s : Scheme) (count : ℕ) (fac sdc msc : List ℤ) (i : ℕ) (b : Bool
     unfolding point_test fillers
     test_fillers h g k e =
         e ∙ ap₂ same_numbers rest_is (ap (λ (x : ℕ). take x filler_numbers) rest_long) ∙ rw (le-ltb i 3 h, ne_eqb i 3 g, le-ltb i 7 k)
+
+-- The test of a row, which is block 4 + row.
+pub test_of_row : (s : Scheme) (count : ℕ) (fac sdc msc : List ℤ) (row : ℕ) (b : Bool) → row < 3
+    → b ≡ row_points s (count_at s.settings count row) (part (slot_size s.settings) msc row) → b ≡ point_test s count fac sdc msc (4 + row)
+unfolding point_test
+test_of_row s count fac sdc msc row b h k =
+    let e : 4 + row - 4 ≡ row = omega arith in
+    k ∙ rw (le-ltb (4 + row) 3 (omega arith), ne_eqb (4 + row) 3 (λ g. absurd (omega arith)), lt-ltb (4 + row) 7 (omega arith), e)
 
 -- The tests of 13 in one table.
 pub tests_are : (s : Scheme) (count : ℕ) (c : ReadCall) → point_tests s count c ≡ table (point_test s count c.faccells c.sdccells c.msccells) 0 8

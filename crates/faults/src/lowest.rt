@@ -1,8 +1,7 @@
 // Refusals 13 and 14: the lowest block at fault. 01 "Operations".
 // Stays, in this module: buffers stand one by one, since a clause would name one in a struct `cells.now.fac.now` and not `fac.now`.
-ghost use Rattle.std.specs.Prelude.{◌≡◌, ◌+◌, ◌-◌, ◌*◌, ◌≤◌, ◌<◌, min, length, take};
+ghost use Rattle.std.specs.Prelude.{◌≡◌, ◌*◌, ◌≤◌, ◌<◌, length, take};
 ghost use Rattle.lists.specs.Lists.{table};
-ghost use Rattle.settings.specs.Accepted.{Accepted};
 ghost use Rattle.settings.specs.Sizes.{depth};
 ghost use Rattle.lists.specs.Same.{same_numbers};
 ghost use Rattle.superframe.specs.Memory.{slot_size};
@@ -13,7 +12,7 @@ ghost use Rattle.faults.specs.Clauses.{fault_of, point_test, CellsLent};
 
 use block::Constellation;
 use cellmemory::fillers::write_fillers;
-use cellmemory::rows::slot_size;
+use cellmemory::rows::{count_after, slot_size};
 use channels::Scheme;
 use channels::blocks::{msc_constellation, sdc_constellation};
 use lists::numbers::same;
@@ -33,17 +32,9 @@ fn fillers_right(cells: &[i16]) -> bool
     same(cells, &fillers[0..n])
 }
 
-// The frames seen before row i of a call begun at a count.
-fn count_at(depth: usize, count: usize, i: usize) -> usize
-    requires { (count < depth) × (i < 3) × (depth ≤ 5) }
-    ensures { result ≡ min (count + i) (depth - 1) }
-{
-    (count + i).min(depth - 1)
-}
-
 // Every cell of row i that is not ignored is a point.
 fn row_test(s: Scheme, count: usize, msc: &[i16], i: usize) -> bool
-    requires { (i < 3) × (count < depth s.settings) × Accepted s.settings × (3 * slot_size s.settings ≤ length msc.now) }
+    requires { (i < 3) × (count < depth s.settings) × (s.settings.msc < 4) × (3 * slot_size s.settings ≤ length msc.now) }
     ensures { result ≡ row_points s (count_at s.settings count i) (part (slot_size s.settings) msc.now i) }
 {
     let n = slot_size(s.settings);
@@ -51,42 +42,34 @@ fn row_test(s: Scheme, count: usize, msc: &[i16], i: usize) -> bool
     let test = PointTest {
         constellation: msc_constellation(s.settings.msc),
         depth,
-        count: count_at(depth, count, i),
+        count: count_after(depth, count, i),
         blank: false,
     };
     points_pass(test, &msc[n * i..n * i + n])
 }
 
-// The test of block i: 0 to 2 FAC, 3 SDC, 4 to 6 the sent rows, 7 the fillers.
-fn point_test(s: Scheme, count: usize, fac: &[i16], sdc: &[i16], msc: &[i16], i: usize) -> bool
-    requires { CellsLent s count fac.now sdc.now msc.now × (i < 8) }
-    ensures { result ≡ point_test s count fac.now sdc.now msc.now i }
-{
-    if i < 3 {
-        return all_pass(
-            Constellation::Qam4,
-            false,
-            &fac[FAC_NUMBERS * i..FAC_NUMBERS * i + FAC_NUMBERS],
-        );
-    }
-    if i == 3 {
-        return all_pass(sdc_constellation(s.settings.sdc), false, sdc);
-    }
-    if i < 7 {
-        return row_test(s, count, msc, i - 4);
-    }
-    fillers_right(&msc[3 * slot_size(s.settings)..])
-}
-
-// 13: the lowest block whose test fails.
+// 13: the lowest block whose test fails: 0 to 2 FAC, 3 SDC, 4 to 6 the sent rows, 7 the fillers.
 pub fn point_fault(s: Scheme, count: usize, fac: &[i16], sdc: &[i16], msc: &[i16]) -> Option<u8>
     requires { CellsLent s count fac.now sdc.now msc.now }
     ensures { result ≡ fault_of (table (point_test s count fac.now sdc.now msc.now) 0 8) }
 {
-    for i in 0..8 {
-        if !point_test(s, count, fac, sdc, msc, i as usize) {
+    let qam4 = Constellation::Qam4;
+    for i in 0..3 {
+        let at = FAC_NUMBERS * i as usize;
+        if !all_pass(qam4, false, &fac[at..at + FAC_NUMBERS]) {
             return Some(i);
         }
+    }
+    if !all_pass(sdc_constellation(s.settings.sdc), false, sdc) {
+        return Some(3);
+    }
+    for row in 0..3 {
+        if !row_test(s, count, msc, row as usize) {
+            return Some(4 + row);
+        }
+    }
+    if !fillers_right(&msc[3 * slot_size(s.settings)..]) {
+        return Some(7);
     }
     None
 }

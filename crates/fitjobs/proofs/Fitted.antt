@@ -2,7 +2,7 @@
 use Prim.Native.Nat.{ℕ, ◌+◌, ◌-◌, ◌*◌, ◌≤◌, ◌<◌}
 use mathlib.Core.Path.{◌≡◌, refl, sym, ap, ◌∙◌}
 use mathlib.Core.Bool.{Bool, true, false, ◌&&◌, and-false}
-use mathlib.Core.List.{List, [], ◌∷◌}
+use mathlib.Core.List.{List}
 use native.Mathlib.Numerals.{add-one}
 use borrow.Author.Tests.{lt-ltb, le-ltb}
 use lib.ListN.{length, get_or, drop, replicate, drop_of_length-le}
@@ -15,65 +15,53 @@ use Rattle.turns.specs.Yield.{made_yield, made_refused, made_bad, through, bad}
 use Rattle.howlong.specs.HowLong.{how_long_yield, how_long_of}
 use Rattle.std.specs.Prelude.{Some, None, cond}
 use Rattle.std.proofs.lemmas.Option.{none-some, cond_some}
-use Rattle.fitjobs.specs.Argument.{Count, with_digit, with_byte, count_from, count_in, is_count, counted}
+use Rattle.std.specs.Bool.{then_some}
+use Rattle.fitjobs.specs.declared.Count.{Count}
+use Rattle.fitjobs.specs.Argument.{with_digit, with_byte, count_from, count_in, is_count, counted}
 use Rattle.fitjobs.specs.Fit.{fit_text, fit_said, fit_of}
 
--- A word that is spoilt stays so.
-with_spoilt : (c : Count) (b : ℕ) → c.good ≡ false → (with_byte c b).good ≡ false
-unfolding with_byte with_digit
-with_spoilt c b e = go (is_digit b) (ltb (10 * c.value + (b - 48)) 4294967296)
-  where
-    go : (t u : Bool) → (cond {A = Count} t (cond {A = Count} u (record { value = 10 * c.value + (b - 48); good = c.good }) (record { value = c.value; good = false })) (record { value = c.value; good = false })).good ≡ false
-    go true true = e
-    go true false = refl
-    go false u = refl
-
-spoilt : (c : Count) → c.good ≡ false → (l : List ℕ) → (count_from c l).good ≡ false
-unfolding count_from
-spoilt c e [] = e
-spoilt c e (b ∷ l) = spoilt (with_byte c b) (with_spoilt c b e) l
-
--- What a word gives that is spoilt, and one that is not.
-none_counted : (c : Count) → c.good ≡ false → None ≡ counted c
-unfolding counted
-none_counted c e = rw e
-
-pub some_counted : (c : Count) → c.good ≡ true → Some c.value ≡ counted c
-unfolding counted
-some_counted c e = rw e
-
--- Before the byte at a place: what is left of a word leads to what the whole leads to.
-module _ (word : List ℕ) (value i : ℕ) where
-  step : i < length word → count_from (record { value = value; good = true }) (drop i word) ≡ count_in word
-      → count_from (with_byte (record { value = value; good = true }) (get_or word i 0)) (drop (i + 1) word) ≡ count_in word
-  unfolding count_from
-  step h G = rw add-one (rw (drop-cons word i 0 h) at G)
-
-  bad_byte : i < length word → count_from (record { value = value; good = true }) (drop i word) ≡ count_in word
-      → (with_byte (record { value = value; good = true }) (get_or word i 0)).good ≡ false → None ≡ counted (count_in word)
-  bad_byte h G b = none_counted (count_in word) (sym (ap (λ (c : Count). c.good) (step h G)) ∙ spoilt _ b (drop (i + 1) word))
-
-  pub no_digit : i < length word → count_from (record { value = value; good = true }) (drop i word) ≡ count_in word
-      → is_digit (get_or word i 0) ≡ false → None ≡ counted (count_in word)
+-- A byte: no digit, a digit in place, or one without room.
+module _ (c : Count) (byte : ℕ) where
+  pub byte_other : is_digit byte ≡ false → record { value = c.value; good = false } ≡ with_byte c byte
   unfolding with_byte
-  no_digit h G d = bad_byte h G (rw d)
+  byte_other d = rw d
 
-  pub too_large : i < length word → count_from (record { value = value; good = true }) (drop i word) ≡ count_in word
-      → is_digit (get_or word i 0) ≡ true → 4294967296 ≤ 10 * value + (get_or word i 0 - 48) → None ≡ counted (count_in word)
-  unfolding with_byte with_digit
-  too_large h G d k = bad_byte h G (rw (d, le-ltb (10 * value + (get_or word i 0 - 48)) 4294967296 k))
+  module _ (d : is_digit byte ≡ true) (n : ℕ) (e : n ≡ 10 * c.value + (byte - 48)) where
+    pub byte_low : n < 4294967296 → record { value = n; good = c.good } ≡ with_byte c byte
+    unfolding with_byte with_digit
+    byte_low h = rw (d, ← e, lt-ltb n 4294967296 h)
 
-  pub one_more : i < length word → count_from (record { value = value; good = true }) (drop i word) ≡ count_in word
-      → is_digit (get_or word i 0) ≡ true → (n : ℕ) → n ≡ 10 * value + (get_or word i 0 - 48) → n < 4294967296
-      → count_from (record { value = n; good = true }) (drop (i + 1) word) ≡ count_in word
-  unfolding with_byte with_digit
-  one_more h G d n e k = rw (d, ← e, lt-ltb n 4294967296 k) at (step h G)
+    pub byte_high : 4294967296 ≤ n → record { value = c.value; good = false } ≡ with_byte c byte
+    unfolding with_byte with_digit
+    byte_high h = rw (d, ← e, le-ltb n 4294967296 h)
 
-  pub all_read : length word ≤ i → count_from (record { value = value; good = true }) (drop i word) ≡ count_in word → Some value ≡ counted (count_in word)
-  unfolding count_from
-  all_read h G =
-      let e : record { value = value; good = true } ≡ count_in word = rw (drop_of_length-le word {i = i} h) at G in
-      some_counted (record { value = value; good = true }) refl ∙ ap counted e
+-- The loop: what is left of a word leads to what the whole leads to.
+pub record Going (word : List ℕ) (c : Count) (i : ℕ) : Type 0 where
+  pub left : count_from c (drop i word) ≡ count_in word
+
+pub going_start : (word : List ℕ) → Going word (record { value = 0; good = true }) 0
+unfolding count_in
+going_start word = record { left = refl }
+
+pub going_turn : {word : List ℕ} {c : Count} {i : ℕ} → Going word c i → i < length word → (r : Count) → r ≡ with_byte c (get_or word i 0) → Going word r (i + 1)
+unfolding count_from
+going_turn {word} {c} {i} G h r e = record { left = rw (e, add-one i) (rw (drop-cons word i 0 h) at G.left) }
+
+pub going_done : {word : List ℕ} {c : Count} {i : ℕ} → Going word c i → length word ≤ i → c ≡ count_in word
+unfolding count_from
+going_done {word} {c} {i} G h = rw (drop_of_length-le word {i = i} h) at G.left
+
+-- A number is given where the word is one.
+given : (c : Count) → then_some c.good c.value ≡ counted c
+unfolding counted
+given c = go c.good
+  where
+    go : (b : Bool) → then_some b c.value ≡ cond b (Some c.value) None
+    go true = refl
+    go false = refl
+
+pub count_given : (word : List ℕ) (c : Count) → c ≡ count_in word → then_some c.good c.value ≡ counted (count_in word)
+count_given word c e = given c ∙ ap counted e
 
 -- A word that is found to be a number, and one that is not.
 found : (bytes : ℕ) (c : Count) → Some bytes ≡ counted c → (c.good ≡ true) × (c.value ≡ bytes)

@@ -1,11 +1,7 @@
 -- BYTES, the third argument of `desk fit`: a decimal number below 2^32.
 use Rattle.std.specs.Prelude.{ℕ, ◌+◌, ◌-◌, ◌*◌, Bool, true, false, cond, ◌&&◌, Option, Some, None, List, [], ◌∷◌, length, ltb}
 use Rattle.numerals.specs.Numbers.{is_digit}
-
--- A word of digits as far as it is read: its number, and whether every byte was a digit and the number has 32 bits.
-pub record Count : Type 0 where
-  pub value : ℕ
-  pub good : Bool
+use Rattle.fitjobs.specs.declared.Count.{Count}
 
 -- A byte behind the digits before it: one that is no digit, or that makes a number of 2^32 or more, makes the word none.
 unfoldable pub with_digit : Count → ℕ → Count

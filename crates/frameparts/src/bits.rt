@@ -3,13 +3,15 @@ ghost use Rattle.std.specs.Prelude.{◌≡◌, length, eqb};
 ghost use Rattle.lists.specs.Lists.{total};
 ghost use Rattle.block.specs.Packing.{bit_at, unpacked};
 
-// A bit of packed bytes, zero past their end.
+// A bit of packed bytes, zero past their end, and there without a shift: most bits of a frame that its streams don't fill lie there.
 #[tactic(auto, unfolding(block::specs::Packing::bit_at))]
 fn bit_at(bytes: &[u8], i: usize) -> u8
     ensures { result ≡ bit_at bytes.now i }
 {
-    let byte = bytes.get(i / 8).copied().unwrap_or(0);
-    (byte >> (7 - i % 8)) % 2
+    match bytes.get(i / 8) {
+        Some(byte) => (byte >> (7 - i % 8)) % 2,
+        None => 0,
+    }
 }
 
 // As many bits of packed bytes as there is room for; past their end they are zero.

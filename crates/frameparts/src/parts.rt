@@ -14,14 +14,15 @@ pub fn sums(numbers: &[u16]) -> Share
 {
     let mut a = 0;
     let mut b = 0;
-    for k in 0..numbers.len() / 2 {
-        a += numbers[2 * k] as usize;
-        b += numbers[2 * k + 1] as usize;
+    for share in numbers.chunks_exact(2) {
+        a += share[0] as usize;
+        b += share[1] as usize;
     }
     Share { a, b }
 }
 
 // A logical frame with a bytes of part A: part A from place `toa` on, part B from place `tob` on.
+// Stays: both parts lie in one buffer that is written; lent as two slices it would be taken apart by `split_at_mut` anew for each stream.
 fn put_logical(frame: &[u8], a: usize, toa: usize, tob: usize, parts: &mut [u8])
     requires { Puts frame.now a toa tob parts.old }
     ensures { parts.new ≡ sets (sets parts.old toa (take a frame.now)) tob (drop a frame.now) }
@@ -32,6 +33,7 @@ fn put_logical(frame: &[u8], a: usize, toa: usize, tob: usize, parts: &mut [u8])
 }
 
 // Part A of each stream, then part B of each, from the logical frames.
+// Stays: three places are counted along; streams differ in length, so that no chunks of one size give them.
 pub fn lay_parts(numbers: &[u16], streams: &[u8], parts: &mut [u8])
     requires { Lays numbers.now streams.now parts.old }
     ensures { parts.new ≡ parts_a (lent_in (shares_in numbers.now) streams.now)
@@ -40,9 +42,9 @@ pub fn lay_parts(numbers: &[u16], streams: &[u8], parts: &mut [u8])
     let mut toa = 0;
     let mut tob = sums(numbers).a;
     let mut from = 0;
-    for k in 0..numbers.len() / 2 {
-        let a = numbers[2 * k] as usize;
-        let b = numbers[2 * k + 1] as usize;
+    for share in numbers.chunks_exact(2) {
+        let a = share[0] as usize;
+        let b = share[1] as usize;
         put_logical(&streams[from..from + (a + b)], a, toa, tob, parts);
         toa += a;
         tob += b;
@@ -51,6 +53,7 @@ pub fn lay_parts(numbers: &[u16], streams: &[u8], parts: &mut [u8])
 }
 
 // A logical frame with a bytes of part A: part A stands from place `froma` on, part B from place `fromb` on.
+// Stays: it writes the frame that `put_logical` reads; one function for both would be handed a closure that copies, and the two places all the same.
 fn take_logical(parts: &[u8], froma: usize, fromb: usize, a: usize, frame: &mut [u8])
     requires { Puts frame.old a froma fromb parts.now }
     ensures { frame.new
@@ -62,6 +65,7 @@ fn take_logical(parts: &[u8], froma: usize, fromb: usize, a: usize, frame: &mut 
 }
 
 // The logical frames from part A of each stream and then part B of each.
+// Stays: laying writes the parts and taking the logical frames, so that one function for both would take a closure over both buffers.
 pub fn take_parts(numbers: &[u16], parts: &[u8], streams: &mut [u8])
     requires { Lays numbers.now parts.now streams.old }
     ensures { streams.new ≡ lent_of (frames_in (shares_in numbers.now) parts.now
@@ -70,9 +74,9 @@ pub fn take_parts(numbers: &[u16], parts: &[u8], streams: &mut [u8])
     let mut froma = 0;
     let mut fromb = sums(numbers).a;
     let mut to = 0;
-    for k in 0..numbers.len() / 2 {
-        let a = numbers[2 * k] as usize;
-        let b = numbers[2 * k + 1] as usize;
+    for share in numbers.chunks_exact(2) {
+        let a = share[0] as usize;
+        let b = share[1] as usize;
         take_logical(parts, froma, fromb, a, &mut streams[to..to + (a + b)]);
         froma += a;
         fromb += b;

@@ -9,6 +9,7 @@ ghost use Rattle.grid.specs.Clauses.{lengths_refusal, CallFits, sizes_yield, pla
 ghost use Rattle.placing.specs.Clauses.{cells_from};
 
 use crate::GridSizes;
+use kinds::pairings::Pairing;
 use kinds::{rows, tables};
 use lists::buffers::buffer;
 use partlengths::tables::{FAC_NUMBERS, n_sdc, n_sfa};
@@ -25,8 +26,9 @@ pub fn sizes(s: Settings) -> Result<GridSizes, Refusal>
     ensures { sizes_yield result ≡ grid_sizes s }
 {
     refusals::check(s)?;
-    let symbols = 3 * tables::frame_symbols(s.mode);
-    let carriers = tables::carriers(s.mode, s.occupancy);
+    let pairing = Pairing::numbered(s.mode, s.occupancy);
+    let symbols = 3 * tables::frame_symbols(pairing.mode);
+    let carriers = tables::carriers(pairing);
     Ok(GridSizes {
         symbols: symbols as u32,
         carriers: carriers as u32,
@@ -47,6 +49,7 @@ pub fn put_grid_sizes(sizes: Result<GridSizes, Refusal>, numbers: &mut [u32]) ->
 }
 
 // Whether a call is refused: by 1 to 7, by the refusal for cells of the wrong length, or by 17, lowest number first.
+// Stays: four lengths as numbers; a struct of them would be built by both callers from the same four `len`, and be taken apart here.
 fn check(
     s: Settings,
     cells: Refusal,

@@ -2,6 +2,7 @@
 #![tactic(auto)]
 
 pub mod calls;
+pub mod numbered;
 pub mod theorems;
 
 // The symbols of a super frame, the carriers of a symbol and the numbers of a grid.

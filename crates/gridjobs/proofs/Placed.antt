@@ -5,6 +5,7 @@ use mathlib.Core.List.{List}
 use native.Mathlib.Omega.{arith}
 use lib.ListN.{length, take, drop, replicate, length-replicate}
 use lib.IntN.{ℤ, pos}
+use Rattle.std.proofs.lemmas.List.{drop-drop}
 use Rattle.std.specs.Prelude.{⊤, Result, Ok, Err}
 use Rattle.std.specs.Result.{result_and}
 use Rattle.refusal.specs.declared.Refusal.{Refusal}
@@ -15,22 +16,29 @@ use Rattle.settings.specs.Sizes.{SizesYield, sizes_of}
 use Rattle.superframe.specs.declared.State.{State}
 use Rattle.grid.specs.Calls.{grid_sizes, place_of, take_of}
 use Rattle.placing.specs.Clauses.{cells_from}
+use Rattle.placing.specs.Cells.{Cells}
 use Rattle.console.specs.declared.Job.TheVariants.{Grid, Ungrid}
 use Rattle.deskcells.specs.Cells.{bytes_cells}
-use Rattle.jobs.specs.Clauses.{Enough, GridRoom, Lent}
+use Rattle.jobs.specs.Clauses.{Enough, Lent}
 use Rattle.jobs.specs.SuperFrame.{JobYield, grid_length, input_length, output_length, cells_length, cells_in, blank_cells, grid_written, cells_written, job_call}
 use Rattle.deskcells.proofs.Turns.{bytes-cells_long}
 use Rattle.jobs.proofs.Rooms.{enough}
 use Rattle.jobs.proofs.Lengths.{grid_most}
-use Rattle.jobs.proofs.Fronts.{front_blank, front_long, past}
+use Rattle.jobs.proofs.Fronts.{front_blank, front_long}
 
-pub place_called : (state : State) (z : SizesYield) (memory : List ℕ) (cells grid : List ℤ) (bytes out : List ℕ) (n : ℕ) (y : JobYield) → z ≡ sizes_of state.scheme.settings → cells ≡ bytes_cells bytes
-    → grid ≡ replicate 62235 (pos 0) → n ≡ (grid_sizes state.scheme.settings).numbers
-    → y ≡ grid_written (place_of state.scheme.settings (cells_from (take 390 cells) (take (390 + z.sdcnumbers - 390) (drop 390 cells)) (drop (390 + z.sdcnumbers) cells)) (take (n - 0) grid)) state memory out
+-- The cells of an input, in three parts.
+pub cells_parted : (z : SizesYield) (cells rest first second third : List ℤ) → first ≡ take 390 cells → rest ≡ drop 390 cells → second ≡ take z.sdcnumbers rest → third ≡ drop z.sdcnumbers rest
+    → cells_from first second third ≡ cells_in z cells
+unfolding cells_in
+cells_parted z cells rest first second third e1 er e2 e3 = rw (e1, e2, e3, er, drop-drop z.sdcnumbers 390 cells)
+
+pub place_called : (state : State) (z : SizesYield) (memory : List ℕ) (cells grid : List ℤ) (parts : Cells) (bytes out : List ℕ) (n : ℕ) (y : JobYield) → z ≡ sizes_of state.scheme.settings → cells ≡ bytes_cells bytes
+    → grid ≡ replicate 62235 (pos 0) → n ≡ (grid_sizes state.scheme.settings).numbers → parts ≡ cells_in z cells
+    → y ≡ grid_written (place_of state.scheme.settings parts (take (n - 0) grid)) state memory out
     → y ≡ job_call Grid state memory bytes out
-unfolding job_call cells_in
-place_called state z memory cells grid bytes out n y e f g k h =
-    h ∙ rw (past 390 z.sdcnumbers, front_blank (pos 0) n 62235 grid g (rw k (grid_most state.scheme.settings)), f, e, k)
+unfolding job_call
+place_called state z memory cells grid parts bytes out n y e f g k p h =
+    h ∙ rw (p, front_blank (pos 0) n 62235 grid g (rw k (grid_most state.scheme.settings)), f, e, k)
 
 pub take_called : (state : State) (z : SizesYield) (memory : List ℕ) (fac sdc msc grid : List ℤ) (bytes out : List ℕ) (y : JobYield) → Enough z → z ≡ sizes_of state.scheme.settings → grid ≡ bytes_cells bytes
     → fac ≡ replicate 390 (pos 0) → sdc ≡ replicate 1692 (pos 0) → msc ≡ replicate 36712 (pos 0)
@@ -45,17 +53,15 @@ pub after_taking : (state : State) (taken : Result ⊤ Refusal) → done state (
 after_taking state (Ok t) = refl
 after_taking state (Err refusal) = refl
 
--- What the calls require of the buffers.
-pub place_room : (state : State) (z : SizesYield) (bytes : List ℕ) (cells grid : List ℤ) (n : ℕ) (out : List ℕ) → Lent Grid state z bytes out → cells ≡ bytes_cells bytes
-    → grid ≡ replicate 62235 (pos 0) → n ≡ (grid_sizes state.scheme.settings).numbers → GridRoom (390 + z.sdcnumbers) cells (take (n - 0) grid) out
-unfolding input_length output_length cells_length grid_length
-place_room state z bytes cells grid n out p e g k =
-    let h = enough state.scheme.settings z p.sizes p.accepted in
-    record {
-      first = omega arith;
-      last = omega (arith, p.input, h.facnumbers, ap length e, bytes-cells_long bytes);
-      room = omega (arith, p.output, k, front_long (pos 0) n 62235 grid g (rw k (grid_most state.scheme.settings)));
-    }
+-- The input has the cells of the FAC and SDC blocks, and the output room for the bytes of a grid or of all cells.
+pub cells_first : (s : Settings) (z : SizesYield) (g : ℕ) (bytes : List ℕ) (cells : List ℤ) → z ≡ sizes_of s → z.refusal ≡ 0 → length bytes ≡ input_length Grid z g → cells ≡ bytes_cells bytes → 390 + z.sdcnumbers ≤ length cells
+unfolding input_length cells_length
+cells_first s z g bytes cells e a h f = omega (arith, h, (enough s z e a).facnumbers, ap length f, bytes-cells_long bytes)
+
+pub place_room : (state : State) (z : SizesYield) (bytes : List ℕ) (grid : List ℤ) (n : ℕ) (out : List ℕ) → Lent Grid state z bytes out
+    → grid ≡ replicate 62235 (pos 0) → n ≡ (grid_sizes state.scheme.settings).numbers → 2 * length (take (n - 0) grid) ≤ length out
+unfolding output_length grid_length
+place_room state z bytes grid n out p g k = omega (arith, p.output, k, front_long (pos 0) n 62235 grid g (rw k (grid_most state.scheme.settings)))
 
 pub take_room : (state : State) (z : SizesYield) (bytes out : List ℕ) (fac sdc msc : List ℤ) → Lent Ungrid state z bytes out
     → fac ≡ replicate 390 (pos 0) → sdc ≡ replicate 1692 (pos 0) → msc ≡ replicate 36712 (pos 0)

@@ -10,7 +10,6 @@ use vectors::text::print;
 
 // A kind as a digit.
 fn write_kind(kind: i16) {
-    // Stays: a grid has kinds as numbers, as the C interface lends them; a number is printed, and no step is chosen.
     match kind {
         0..=6 => print(kind),
         _ => print("?"),

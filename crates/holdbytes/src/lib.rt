@@ -2,4 +2,5 @@
 #![tactic(auto)]
 
 pub mod holds;
+pub mod numbered;
 pub mod restores;

@@ -6,6 +6,7 @@ use mathlib.Core.List.{List}
 use native.Mathlib.Omega.{arith}
 use borrow.Author.Tests.{eq-eqb, ne_eqb}
 use lib.ListN.{length, get_or}
+use Rattle.settings.specs.declared.Settings.{Settings}
 use Rattle.settings.specs.Refusal.{first}
 use Rattle.settings.specs.Accepted.{Accepted}
 use Rattle.settings.specs.Lengths.{n_mux}
@@ -23,6 +24,7 @@ use Rattle.holdlines.specs.declared.Form.{Form}
 use Rattle.holdlines.specs.Files.{held_in, valid}
 use Rattle.holdwriting.specs.Clauses.{held_from}
 use Rattle.holdlines.specs.Clauses.{digit_or}
+use Rattle.holdreading.specs.Clauses.{FileTaken}
 use Rattle.holdreading.proofs.Valid.{valid_long, three_bytes}
 use Rattle.holdfile.proofs.Turning.{held_memory}
 use Rattle.std.proofs.Common.{Err}
@@ -33,6 +35,10 @@ use Rattle.superframe.specs.Answers.{done}
 use Rattle.holdcalls.specs.Restore.{restore_refusal, held_state, restore_yield, restore_of}
 use Rattle.holdcalls.specs.Clauses.{Cells, Kept}
 use Rattle.holdcalls.proofs.StoreCalls.{reset_chain, early_fits}
+
+-- A file that is not valid, and memory that is kept.
+pub kept_memory : (form : Form) (s : Settings) (file memory after : List ℕ) (e : Refusal) → FileTaken form s file false after → number e ≡ 18 → Kept form s file memory e memory
+kept_memory form s file memory after e t h = record { wrong = sym t.test; hold_file = h; kept = refl }
 
 module _ (form : Form) (old : State) (s : Scheme) (file memory : List ℕ) where
   restore_then : restore_refusal form s file memory ≡ refusal_then s memory true true (first (not (valid form s.settings file)) 18 0)

@@ -102,9 +102,6 @@ module _ (form : Form) (state : State) (memory file : List ℕ) where
 
   -- The call from its refusal.
   module _ (r : ℕ) (e : r ≡ store_refusal form state memory file) where
-    pub refused_store : (r ≡ 0 → ⊥) → convert_yield r file ≡ store_of form state memory file
-    refused_store h = sym (store_refuses r (sym e) (omega arith))
-
     pub store_room : r ≡ 0 → FileRoom form state.scheme.settings state.position state.count memory file
     unfolding memory_length
     store_room h =

@@ -1,5 +1,6 @@
 // State and memory restored from a file. 02, S-7 and S-11.
-// Stays, in this module: buffers stand one by one; with a struct of `&mut` a clause must also say that each reference is still the same one.
+// Stays, in this module: buffers stand one by one; with a struct of `&mut` a clause must also say that each reference is still the same one. Form,
+// settings and file are three parameters of the calls; a struct of them would be made for one use in each call, and a clause would name `file.bytes.now`.
 ghost use Rattle.std.specs.Prelude.{◌≡◌, ◌*◌, length};
 ghost use Rattle.settings.specs.Accepted.{Accepted};
 ghost use Rattle.settings.specs.Lengths.{n_mux};
@@ -22,6 +23,7 @@ use settings::Settings;
 use superframe::State;
 
 // The cells of a file into memory, by way of a working memory. Refusal 18.
+#[tactic(auto, using(crate::proofs::RestoreCalls::kept_memory))]
 fn take_in(
     form: Form,
     s: Settings,
@@ -32,9 +34,7 @@ fn take_in(
     requires { MemoryRoom s work.old memory.old }
     ensures { MemoryTaken form s file.now memory.old result memory.new }
 {
-    if !take_file(form, s, file, work) {
-        return Err(Refusal::HoldFile);
-    }
+    take_file(form, s, file, work)?;
     memory.copy_from_slice(work);
     Ok(())
 }

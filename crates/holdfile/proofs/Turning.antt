@@ -1,7 +1,7 @@
 -- A file in the other form, and each way undoes the other. Assumes nothing.
 use Prim.Native.Nat.{ℕ, ◌*◌, ◌/◌, ◌%◌, ◌<◌}
-use mathlib.Core.Path.{◌≡◌, sym, ap, ap₂, ◌∙◌}
-use mathlib.Core.Bool.{Bool, true, ◌&&◌}
+use mathlib.Core.Path.{◌≡◌, refl, sym, ap, ap₂, ◌∙◌}
+use mathlib.Core.Bool.{Bool, true, false, ◌&&◌}
 use mathlib.Core.List.{List, [], ◌∷◌}
 use native.Mathlib.Omega.{arith}
 use borrow.Author.Tests.{lt-ltb, ltb-true, eqb-true, eq-eqb, ne_eqb}
@@ -10,7 +10,7 @@ use lib.IntN.{ℤ}
 use lib.Dec.{ltb, eqb}
 use Rattle.std.specs.Prelude.{⊤, Result, Ok, Err}
 use Rattle.refusal.specs.declared.Refusal.{Refusal}
-use Rattle.refusal.specs.Numbers.{answer}
+use Rattle.refusal.specs.Numbers.{number, answer}
 use Rattle.lists.specs.Bools.{every}
 use Rattle.lists.proofs.Bools.{both, and_left, and_right}
 use Rattle.settings.specs.declared.Settings.{Settings}
@@ -28,7 +28,7 @@ use Rattle.holdlines.specs.declared.Form.TheVariants.{Old, New}
 use Rattle.holdlines.specs.Hexadecimal.{digit, digit_value, is_digit}
 use Rattle.holdlines.specs.Files.{number_digits, LINE_FEED, ended, Held, file_of, held_in, file_length, is_line, are_lines, holds, valid}
 use Rattle.holdfile.specs.Convert.{other, convert_yield, convert_refusal, convert_of, file_sizes_of}
-use Rattle.holdfile.specs.Clauses.{TurnRoom, Turned, Turnable}
+use Rattle.holdfile.specs.Clauses.{TurnRoom, Kept, Turned, Turnable}
 use Rattle.holdreading.specs.Clauses.{FileTaken}
 use Rattle.holdwriting.specs.Clauses.{held_from, FileRoom}
 use Rattle.holdlines.specs.Clauses.{digit_or}
@@ -196,6 +196,10 @@ module _ (form : Form) (s : Settings) (file memory out : List ℕ) (t : Turnable
 pub turnable : (form : Form) (s : Settings) (file memory out after : List ℕ) (r : Bool) → r ≡ true → TurnRoom form s memory out → FileTaken form s file r after
     → Turnable form s file after out
 turnable form s file memory out after r e l t = record { accepted = l.accepted; right = sym t.test ∙ e; cells = t.cells e; room = l.room }
+
+-- a file that is not valid, and room that is kept
+pub kept_room : (form : Form) (s : Settings) (file out after : List ℕ) (e : Refusal) → FileTaken form s file false after → number e ≡ 18 → Kept form s file out e out
+kept_room form s file out after e t h = record { wrong = sym t.test; hold_file = h; kept = refl }
 
 -- the call's answers in order
 module _ (form : Form) (s : Settings) (file out : List ℕ) where

@@ -1,5 +1,6 @@
 // The calls that turn a file into the other form, and the bytes of files. 02, S-7.
-// Stays, in this module: buffers stand one by one; with a struct of `&mut` a clause must also say that each reference is still the same one.
+// Stays, in this module: buffers stand one by one; with a struct of `&mut` a clause must also say that each reference is still the same one. Form,
+// settings and file are three parameters of the calls; a struct of them would be made for one use in each call, and a clause would name `file.bytes.now`.
 ghost use Rattle.std.specs.Prelude.{◌≡◌, length};
 ghost use Rattle.refusal.specs.Numbers.{answer};
 ghost use Rattle.settings.specs.Accepted.{Accepted};
@@ -53,6 +54,7 @@ fn put_other(form: Form, s: Settings, file: &[u8], memory: &[u8], out: &mut [u8]
 }
 
 // A file in the other form, by way of memory. Refusal 18.
+#[tactic(auto, using(crate::proofs::Turning::kept_room))]
 fn turn_in(
     form: Form,
     s: Settings,
@@ -63,14 +65,12 @@ fn turn_in(
     requires { TurnRoom form s memory.old out.old }
     ensures { Turned form s file.now out.old result out.new }
 {
-    if !take_file(form, s, file, memory) {
-        return Err(Refusal::HoldFile);
-    }
+    take_file(form, s, file, memory)?;
     put_other(form, s, file, memory, out);
     Ok(())
 }
 
-// Stays: `settings` answers take any Settings, so that a type for accepted ones would be made Settings again at each call.
+// Stays: `convert` alone calls this, behind its test; a type for accepted settings would be made there and taken apart for `take_file`.
 fn turn_file(form: Form, s: Settings, file: &[u8], out: &mut [u8]) -> Result<(), Refusal>
     requires { Accepted s × (length out.old ≡ file_length (other form) s) }
     ensures { Turned form s file.now out.old result out.new }

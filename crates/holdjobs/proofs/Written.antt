@@ -18,7 +18,7 @@ use Rattle.holdlines.specs.declared.Form.TheVariants.{New}
 use Rattle.holdfile.specs.Convert.{ConvertYield, convert_yield, other, convert_refusal, convert_of}
 use Rattle.holdlines.specs.Files.{file_of, held_in}
 use Rattle.holdcalls.specs.Store.{held_of, store_refusal, store_of}
-use Rattle.std.specs.Prelude.{Result, IfOk, Ok, Err}
+use Rattle.std.specs.Prelude.{Result, Ok, Err}
 use Rattle.std.specs.Result.{IsErrAnd}
 use Rattle.refusal.specs.declared.Refusal.{Refusal}
 use Rattle.refusal.specs.Numbers.{number as number_of}
@@ -92,11 +92,3 @@ unfolding stored_of
 stored state memory out n number part made en e long em =
     made-written number part out n (omega (arith, en)) long (store_keeps New state memory (take (n - 0) out) number part e) made em
     ∙ ap (λ y. written y out) (e ∙ ap (store_of New state memory) (least_front n (file_bytes New state.scheme.settings) out en))
-
-low_by : (b : Bool) (number n m : ℕ) → n ≤ m → IfOk (cond b (made_through n) (made_refused number)) (λ k. k ≤ m)
-low_by true number n m h = h
-low_by false number n m h = tt
-
-pub made_low : (number n m : ℕ) (made : Result ℕ Failure) → made ≡ made_by number n → n ≤ m → IfOk made (λ k. k ≤ m)
-unfolding made_by
-made_low number n m made e h = rw e (low_by (eqb number 0) number n m h)

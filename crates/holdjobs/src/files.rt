@@ -1,6 +1,6 @@
 // A hold file at the start of a buffer: one in its other form, and that of a run.
 // Stays, in this module: buffers stand one by one; with a struct of `&mut` a clause must also say that each reference is still the same one.
-ghost use Rattle.std.specs.Prelude.{◌≡◌, ◌≤◌, min, length, replicate, IfOk, Ok};
+ghost use Rattle.std.specs.Prelude.{◌≡◌, ◌≤◌, min, length, IfOk, Ok};
 ghost use Rattle.holdfile.specs.Convert.{file_sizes_yield};
 ghost use Rattle.turns.specs.Yield.{made_yield};
 ghost use Rattle.holdjobs.specs.Files.{size_in, file_bytes, turned_of, turn_of, stored_of};
@@ -16,12 +16,6 @@ use turns::Failure;
 
 // A byte more than the largest file has, so that a longer one is seen.
 pub const FILE_BYTES: usize = 244729;
-
-pub fn file_buffer() -> [u8; FILE_BYTES]
-    ensures { result ≡ replicate 244729 0 }
-{
-    [0u8; FILE_BYTES]
-}
 
 // The bytes of a file of one form.
 #[tactic(auto, unfolding(crate::specs::Files::size_in))]

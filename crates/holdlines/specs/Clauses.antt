@@ -6,6 +6,7 @@ use Rattle.holdlines.specs.Hexadecimal.{is_digit, digit_value}
 unfoldable pub digit_or : ℕ → ℕ
 digit_or b = cond (is_digit b) (digit_value b) 16
 
--- A number below 16 as the code finds it, and none for any other.
+-- A number below 16 as the code finds it, and none for any other. `line` has the same of its own digits: neither crate is built on the other, and what both
+-- are built on knows no digits.
 unfoldable pub found : ℕ → Option ℕ
 found n = cond (ltb n 16) (Some n) None

@@ -4,6 +4,8 @@ ghost use Rattle.holdlines.specs.Hexadecimal.{digit};
 ghost use Rattle.holdlines.specs.Clauses.{digit_or, found};
 
 // A digit of 0 to 15.
+// Stays: a number below 16 is half a byte, position or count here, and Rust has no type for it; one of ours would be built at each of these places, and
+// taken apart here and in `wide_digit`. `line::write::glyph` promises another definition, that of the line of lengths.
 pub fn digit(n: u8) -> u8
     requires { n < 16 }
     ensures { result ≡ digit n }

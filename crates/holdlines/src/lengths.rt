@@ -1,6 +1,5 @@
 // The bytes of a line and of a file. 02, S-7.
 ghost use Rattle.std.specs.Prelude.{◌≡◌, ◌+◌, ◌*◌, ◌≤◌};
-ghost use Rattle.settings.specs.Accepted.{Accepted};
 ghost use Rattle.holdlines.specs.Files.{number_digits, file_length};
 
 use crate::Form;
@@ -24,7 +23,6 @@ pub fn line_bytes(form: Form, n: usize) -> usize
 
 // The bytes of a file.
 pub fn file_bytes(form: Form, s: Settings) -> usize
-    requires { Accepted s }
     ensures { result ≡ file_length form s }
 {
     let long = line_bytes(form, tables::n_mux(s.mode, s.occupancy));

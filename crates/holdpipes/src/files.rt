@@ -9,8 +9,10 @@ ghost use Rattle.holdpipes.specs.Begun.{begun_yield, blank_state, restored_begun
 use channels::tables::standard_scheme;
 use console::TurnJob;
 use holdcalls::restore::restore;
+use holdjobs::files::FILE_BYTES;
 use holdjobs::{asked, files};
 use holdlines::Form;
+use jobs::buffers;
 use pipes::arguments::{argument, argument_count};
 use pipes::input::{take_all, take_none};
 use pipes::output::{STDOUT_FILENO, say_file};
@@ -23,14 +25,15 @@ use turns::{End, turn};
 
 // A file that has come.
 fn pass_file(job: TurnJob, s: Settings, file: &[u8]) -> Result<(), End> {
-    let mut out = files::file_buffer();
-    let n = files::turn_file(job, s, file, &mut out)?;
-    turn::after_write(io::write_all(STDOUT_FILENO, &out[..n]))
+    let mut out = buffers::bytes::<FILE_BYTES>();
+    let made = files::turn_file(job, s, file, &mut out);
+    let written = io::write_all(STDOUT_FILENO, &out[..made.unwrap_or(0)]);
+    turn::after_write(made, written)
 }
 
 // The whole input.
 fn pass_input(rt: HostRuntime, job: TurnJob, s: Settings) -> Result<(), End> {
-    let mut file = files::file_buffer();
+    let mut file = buffers::bytes::<FILE_BYTES>();
     let n = take_all(&mut rt.stdin(), &mut file)?;
     pass_file(job, s, &file[..n])
 }
@@ -93,7 +96,7 @@ pub fn restore_from(
 ) -> Result<State, End>
     ensures { FromFile s memory.old (begun_yield result memory.new) }
 {
-    let mut file = files::file_buffer();
+    let mut file = buffers::bytes::<FILE_BYTES>();
     let n = take_file(rt, path, &mut file)?;
     restore_file(s, &file[..n], memory)
 }
@@ -135,9 +138,13 @@ fn write_file(rt: HostRuntime, path: &[u8], file: &[u8]) -> bool {
 
 // The state and its memory to a new file of a name.
 fn store_to(rt: HostRuntime, path: &[u8], state: State, memory: &[u8]) -> Result<(), End> {
-    let mut file = files::file_buffer();
-    let n = files::store_file(state, memory, &mut file)?;
-    turn::after_write(write_file(rt, path, &file[..n]))
+    let mut file = buffers::bytes::<FILE_BYTES>();
+    let made = files::store_file(state, memory, &mut file);
+    let written = match made {
+        Ok(n) => write_file(rt, path, &file[..n]),
+        Err(_) => true,
+    };
+    turn::after_write(made, written)
 }
 
 // Stores a run's state and memory in the file that the fourth argument names, where there is one.

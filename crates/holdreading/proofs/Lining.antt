@@ -2,10 +2,11 @@
 use Prim.Native.Nat.{ℕ, suc, ◌+◌, ◌-◌, ◌*◌, ◌/◌, ◌≤◌, ◌<◌}
 use mathlib.Core.Path.{◌≡◌, refl, sym, ap, ap₂, subst, ◌∙◌}
 use mathlib.Core.Bool.{Bool, true, false, ◌&&◌}
-use mathlib.Core.List.{List, [], ◌++◌}
+use mathlib.Core.List.{List, [], ◌++◌, append_assoc}
 use native.Mathlib.Omega.{arith}
 use lib.ListN.{length, take, drop, length-take, length-drop}
-use lib.Seq.{sets, drop-drop, take-take}
+use lib.Seq.{sets, drop-drop, take-take, length-sets, sets-eq}
+use borrow.Rule.Slice.PartMut.{put_mid, Post-is}
 use Rattle.lists.specs.Lists.{table}
 use Rattle.lists.proofs.Bools.{never_both}
 use Rattle.lists.proofs.Parts.{sets-whole}
@@ -15,7 +16,7 @@ use Rattle.cellbytes.proofs.CellBytes.{length-bytes}
 use Rattle.holdreading.proofs.Bytes.{bytes-append}
 use Rattle.holdlines.specs.declared.Form.{Form}
 use Rattle.holdlines.specs.Files.{number_digits, all_read, held_by}
-use Rattle.holdreading.specs.Clauses.{line_test, lines_test, LineLent, LineTaken, LinesLent, LinesTaken}
+use Rattle.holdreading.specs.Clauses.{line_test, lines_test, LineTaken, LinesLent, LinesTaken}
 use Rattle.holdlines.proofs.Numbers.{length-all_read}
 use Rattle.holdlines.proofs.Lines.{left_over, length-held}
 use Rattle.holdreading.proofs.Taking.{all_read-take}
@@ -40,18 +41,6 @@ module _ (form : Form) (n lines : ℕ) (file : List ℕ) where
         sets now from (bytes (held_by form (2 * n) (lines - k) (drop at file))) ≡ sets memory 0 (bytes (held_by form (2 * n) lines (drop 3 file)))
     pub long : length now ≡ length memory
 
-  pub lining_start : (memory : List ℕ) → LinesLent form n lines file memory → Lining memory 3 0 0 memory
-  lining_start memory l =
-      let e : lines - 0 ≡ lines = omega arith in
-      record {
-        upto = omega arith;
-        left = ap (λ m. 3 + m * L) e ∙ sym l.long;
-        room = ap (λ m. 0 + m * n) e ∙ omega (arith, l.room);
-        test = ap (λ m. lines_test form n m (drop 3 file)) e;
-        cells = ap (λ m. sets memory 0 (bytes (held_by form (2 * n) m (drop 3 file)))) e;
-        long = refl;
-      }
-
   test_left : (j at : ℕ) → lines_test form n (suc j) (drop at file) ≡ (line_test form n (take L (drop at file)) && lines_test form n j (drop (at + L) file))
   unfolding lines_test
   test_left j at = ap (λ bs. line_test form n (take L (drop at file)) && lines_test form n j bs) (drop-drop L at file)
@@ -71,16 +60,22 @@ module _ (form : Form) (n lines : ℕ) (file : List ℕ) where
     pub slot_within : from + n ≤ length now
     slot_within = omega (arith, l.long, l.room, left_over lines k n h)
 
-    pub line-lent : n ≤ 6118 → LineLent form n (take (at + long - at) (drop at file)) now from
-    line-lent few =
-        record {
-          long = length-take (at + long - at) (drop at file) ∙ omega (arith, same, length-drop at file, line-within);
-          room = slot_within;
-          few = few;
-        }
+    abbrev slot : List ℕ
+    slot = take (from + n - from) (drop from now)
 
-    passed : (after : List ℕ) (r : Bool) → r ≡ true → LineTaken form n (take L (drop at file)) now from r after → Lining memory (at + L) (from + n) (k + 1) after
-    passed after r e t =
+    slot_long : length slot ≡ n
+    slot_long = length-take (from + n - from) (drop from now) ∙ omega (arith, length-drop from now, slot_within)
+
+    -- a slot put in its place
+    slot_put : (vs : List ℕ) → length vs ≡ n → put_mid from (from + n - from) now vs ≡ sets now from vs
+    slot_put vs e =
+        let b : from + n ≡ from + length vs = omega (arith, e) in
+        ap (λ z. take from now ++ (vs ++ z)) (Post-is from (from + n) now (omega arith))
+        ∙ rw (b, ← append_assoc (take from now) vs (drop (from + length vs) now), sets-eq vs now from (omega (arith, e, slot_within)))
+
+    passed : (after : List ℕ) → length after ≡ length now → after ≡ sets now from (bytes (all_read form (2 * n) (take L (drop at file)))) → line_test form n (take L (drop at file)) ≡ true
+        → Lining memory (at + L) (from + n) (k + 1) after
+    passed after whole there right =
         let j = lines - (k + 1) in
         let count : lines - k ≡ suc j = omega arith in
         let line = all_read form (2 * n) (take L (drop at file)) in
@@ -93,38 +88,49 @@ module _ (form : Form) (n lines : ℕ) (file : List ℕ) where
           room = omega (arith, l.room, left_over lines k n h);
           test =
               sym (sym l.test ∙ ap (λ m. lines_test form n m (drop at file)) count ∙ test_left j at
-              ∙ ap (λ b. b && lines_test form n j (drop (at + L) file)) (sym t.test ∙ e));
+              ∙ ap (λ b. b && lines_test form n j (drop (at + L) file)) right);
           cells =
               sym (sym l.cells ∙ ap (λ m. sets now from (bytes (held_by form (2 * n) m (drop at file)))) count
               ∙ ap (λ v. sets now from (bytes v)) (held-left j at) ∙ ap (sets now from) (bytes-append line rest n two)
               ∙ sets-append now from (bytes line) (bytes rest)
-              ∙ ap₂ (λ m i. sets m (from + i) (bytes rest)) (sym (t.cells e)) size);
-          long = t.long ∙ l.long;
+              ∙ ap₂ (λ m i. sets m (from + i) (bytes rest)) (sym there) size);
+          long = whole ∙ l.long;
         }
 
-    failed : (after : List ℕ) (r : Bool) → r ≡ false → LineTaken form n (take L (drop at file)) now from r after → LinesTaken form n lines file false after
-    failed after r e t =
+    failed : (after : List ℕ) → line_test form n (take L (drop at file)) ≡ false → LinesTaken form n lines file false after
+    failed after wrong =
         let j = lines - (k + 1) in
         let count : lines - k ≡ suc j = omega arith in
         record {
           test =
               sym (sym l.test ∙ ap (λ m. lines_test form n m (drop at file)) count ∙ test_left j at
-              ∙ ap (λ b. b && lines_test form n j (drop (at + L) file)) (sym t.test ∙ e));
+              ∙ ap (λ b. b && lines_test form n j (drop (at + L) file)) wrong);
           cells = λ b. absurd (never_both false b refl);
         }
 
     -- a line that passes, and one that does not
-    this_line : (after : List ℕ) (r : Bool) → LineTaken form n (take (at + long - at) (drop at file)) now from r after
-        → LineTaken form n (take L (drop at file)) now from r after
-    this_line after r t = let e : at + long - at ≡ L = omega (arith, same) in subst (λ j. LineTaken form n (take j (drop at file)) now from r after) e t
+    module _ (part : List ℕ) (r : Bool) (t : LineTaken form (take (at + long - at) (drop at file)) slot r part) where
+      line_right : r ≡ line_test form n (take L (drop at file))
+      line_right = let e : at + long - at ≡ L = omega (arith, same) in t.test ∙ ap₂ (λ m j. line_test form m (take j (drop at file))) slot_long e
 
-    pub lining_turn : (after : List ℕ) (r : Bool) → r ≡ true → LineTaken form n (take (at + long - at) (drop at file)) now from r after
-        → Lining memory (at + long) (from + n) (k + 1) after
-    lining_turn after r e t = subst (λ j. Lining memory (at + j) (from + n) (k + 1) after) (sym same) (passed after r e (this_line after r t))
+      line_cells : r ≡ true → part ≡ bytes (all_read form (2 * n) (take L (drop at file)))
+      line_cells b =
+          let e : at + long - at ≡ L = omega (arith, same) in
+          t.cells b ∙ ap₂ (λ m j. bytes (all_read form (2 * m) (take j (drop at file)))) slot_long e
 
-    pub lining_stop : (after : List ℕ) (r : Bool) → r ≡ false → LineTaken form n (take (at + long - at) (drop at file)) now from r after
-        → LinesTaken form n lines file false after
-    lining_stop after r e t = failed after r e (this_line after r t)
+      pub lining_turn : r ≡ true → Lining memory (at + long) (from + n) (k + 1) (put_mid from (from + n - from) now part)
+      lining_turn b =
+          let after = put_mid from (from + n - from) now part in
+          let line = bytes (all_read form (2 * n) (take L (drop at file))) in
+          let here : part ≡ line = line_cells b in
+          let size : length line ≡ n =
+          length-bytes (all_read form (2 * n) (take L (drop at file))) ∙ ap (λ m. m / 2) (length-all_read form (2 * n) (take L (drop at file))) ∙ omega arith
+          in
+          let put : after ≡ sets now from line = slot_put part (ap length here ∙ size) ∙ ap (sets now from) here in
+          subst (λ j. Lining memory (at + j) (from + n) (k + 1) after) (sym same) (passed after (ap length put ∙ length-sets now from line) put (sym line_right ∙ b))
+
+      pub lining_stop : r ≡ false → (after : List ℕ) → LinesTaken form n lines file false after
+      lining_stop b after = failed after (sym line_right ∙ b)
 
   pub lining_end : (memory : List ℕ) (at from k : ℕ) (now : List ℕ) → lines ≤ k → LinesLent form n lines file memory → Lining memory at from k now
       → LinesTaken form n lines file true now

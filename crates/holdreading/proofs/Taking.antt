@@ -3,30 +3,47 @@ use Prim.Native.Nat.{ℕ, zero, suc, ◌+◌, ◌*◌, ◌/◌, ◌≤◌, ◌<�
 use mathlib.Core.Path.{◌≡◌, refl, sym, ap, ap₂, ◌∙◌}
 use mathlib.Core.Bool.{Bool, true, false, cond, ◌&&◌}
 use mathlib.Core.List.{List, [], ◌∷◌, ◌++◌, map, map-append}
-use native.Mathlib.Nat.{suc-mul, suc-add, add_comm, zero-add, zero-mul, mul-le-mul_right}
+use native.Mathlib.Nat.{suc-mul, suc-add, add_comm, zero-add, zero-mul}
 use native.Mathlib.Omega.{arith}
 use borrow.Author.Tests.{lt-ltb, le-ltb, eq-eqb}
 use lib.ListN.{length, get_or, set, take, drop, replicate, length-take, length-drop, length-set}
 use lib.Seq.{sets, drop-drop, take-add, take-take, take-nil}
 use lib.IntN.{pos}
+use Rattle.std.specs.Prelude.{Result, Ok, Err, is_ok, IsErr}
+use Rattle.std.specs.Option.{ok_or}
+use Rattle.std.proofs.Common.{Option, Some, None}
+use Rattle.refusal.specs.declared.Refusal.{Refusal}
 use lib.Dec.{ltb, eqb}
 use Rattle.lists.specs.Lists.{table}
 use Rattle.lists.specs.Bools.{every}
 use Rattle.lists.proofs.Bools.{never_both, both, and_left, and_right, every_append, table-every}
 use Rattle.lists.proofs.Tables.{length-table, table_ext, table-add, table_from}
+use Rattle.lists.proofs.Parts.{sets-whole}
 use Rattle.lists.proofs.Tests.{every_pairs, Tested, tested_start, tested_turn, tested_stop, tested_end}
 use Rattle.component.proofs.Sets.{sets-append}
 use Rattle.cellbytes.specs.CellBytes.{four_bits, cell_byte, bytes}
-use Rattle.cellbytes.proofs.CellBytes.{four_low}
+use Rattle.cellbytes.proofs.CellBytes.{four_low, length-bytes}
 use Rattle.holdlines.specs.declared.Form.{Form}
 use Rattle.holdlines.specs.Hexadecimal.{is_digit}
 use Rattle.holdlines.specs.Files.{number_digits, read, all_read, held_by, LINE_FEED, is_line, are_lines}
 use Rattle.holdreading.specs.Clauses.{is_small, number_bytes, small_digits, bits_at, cell_test, line_test, lines_test, LineTaken}
+use Rattle.holdlines.specs.Clauses.{found}
+use Rattle.holdlines.proofs.FoundDigits.{found_is, missing}
 use Rattle.holdlines.proofs.Numbers.{length-all_read}
 
--- number k of m has its digits within the line
-pub number_room : (k m w : ℕ) → k < m → k * w + w ≤ m * w
-number_room k m w h = let e = suc-mul k w in let l : suc k * w ≤ m * w = mul-le-mul_right w h in omega (arith, e, l)
+-- what is found of a number, where a missing one is a refusal
+pub found_ok : (n m : ℕ) (o : Option ℕ) (e : Refusal) → o ≡ found n → Ok m ≡ ok_or o e → (m ≡ n) × (m < 16)
+found_ok n m None e f h = absurd (cc)
+found_ok n m (Some k) e f h = let s : Some m ≡ found n = cc in found_is n m s
+
+pub missing_err : (n : ℕ) (o : Option ℕ) (e r : Refusal) → o ≡ found n → Err r ≡ ok_or o e → 16 ≤ n
+missing_err n None e r f h = missing n f
+missing_err n (Some k) e r f h = absurd (cc)
+
+-- what was found wrong is passed on as an Err
+pub not_ok : {A : Type 0} (r : Result A Refusal) → IsErr r → false ≡ is_ok r
+not_ok (Ok x) h = absurd (cc)
+not_ok (Err e) h = refl
 
 -- the part of a list after some elements and before others
 drop-take : (n m : ℕ) (l : List ℕ) → drop n (take (n + m) l) ≡ take m (drop n l)
@@ -175,60 +192,62 @@ module _ (form : Form) where
       (bits_is line (2 * i) (cell_left line i t) ∙ ap four_bits (sym (all_read_at (2 * n) line (2 * i) (omega arith))))
       (bits_is line (2 * i + 1) (cell_right line i t) ∙ ap four_bits (sym (all_read_at (2 * n) line (2 * i + 1) (omega arith))))))
 
--- before turn i of the loop that takes a line's cells: those before i pass and are in memory from a place on
-pub record Taking (form : Form) (n : ℕ) (line memory : List ℕ) (from i : ℕ) (now : List ℕ) : Type 0 where
-  pub tested : Tested (cell_test form line) n i
-  pub there : now ≡ sets memory from (table (λ j. 16 * bits_at form line (2 * j) + bits_at form line (2 * j + 1)) 0 i)
-  pub long : length now ≡ length memory
+-- before turn i of the loop that takes a line's cells: those before i pass and are in the slot
+pub record Taking (form : Form) (line slot : List ℕ) (i : ℕ) (now : List ℕ) : Type 0 where
+  pub tested : Tested (cell_test form line) (length slot) i
+  pub there : now ≡ sets slot 0 (table (λ j. 16 * bits_at form line (2 * j) + bits_at form line (2 * j + 1)) 0 i)
+  pub long : length now ≡ length slot
 
-module _ (form : Form) (n : ℕ) (line memory : List ℕ) (from : ℕ) where
-  pub taking-start : Taking form n line memory from 0 memory
+module _ (form : Form) (line slot : List ℕ) where
+  pub taking-start : Taking form line slot 0 slot
   unfolding table
-  taking-start = record { tested = tested_start (cell_test form line) n; there = refl; long = refl }
+  taking-start = record { tested = tested_start (cell_test form line) (length slot); there = refl; long = refl }
 
   -- both numbers were found, or one was not
   passes : (i re im : ℕ) → re ≡ bits_at form line (2 * i) → im ≡ bits_at form line (2 * i + 1) → re < 16 → im < 16 → cell_test form line i ≡ true
   unfolding cell_test
   passes i re im e f h k = both (ap (λ b. ltb b 16) (sym e) ∙ lt-ltb re 16 h) (ap (λ b. ltb b 16) (sym f) ∙ lt-ltb im 16 k)
 
-  pub taking_turn : (i re im : ℕ) (now : List ℕ) → i < n → re ≡ bits_at form line (2 * i) → im ≡ bits_at form line (2 * i + 1) → re < 16 → im < 16
-      → Taking form n line memory from i now → Taking form n line memory from (i + 1) (set now (from + i) (16 * re + im))
+  pub taking_turn : (i re im : ℕ) (now : List ℕ) → i < length slot → re ≡ bits_at form line (2 * i) → im ≡ bits_at form line (2 * i + 1) → re < 16 → im < 16
+      → Taking form line slot i now → Taking form line slot (i + 1) (set now i (16 * re + im))
   unfolding table bits_at
   taking_turn i re im now h e f k l t =
       let g : ℕ → ℕ = λ j. 16 * bits_at form line (2 * j) + bits_at form line (2 * j + 1) in
       record {
-        tested = tested_turn (cell_test form line) n i true h (sym (passes i re im e f k l)) refl t.tested;
+        tested = tested_turn (cell_test form line) (length slot) i true h (sym (passes i re im e f k l)) refl t.tested;
         there =
-            ap₂ (λ m v. set m (from + i) v) t.there (ap₂ (λ a b. 16 * a + b) e f)
-            ∙ sym (ap (sets memory from) (table-add g 0 i 1) ∙ sets-append memory from (table g 0 i) (table g (0 + i) 1) ∙ ap₂ (λ j v. set (sets memory from (table g 0 i)) (from + j) v) (length-table g 0 i) (ap g (zero-add i)));
-        long = length-set now (from + i) (16 * re + im) ∙ t.long;
+            ap₂ (λ m v. set m i v) t.there (ap₂ (λ a b. 16 * a + b) e f)
+            ∙ sym (ap (sets slot 0) (table-add g 0 i 1) ∙ sets-append slot 0 (table g 0 i) (table g (0 + i) 1) ∙ ap₂ (λ j v. set (sets slot 0 (table g 0 i)) j v) (zero-add (length (table g 0 i)) ∙ length-table g 0 i) (ap g (zero-add i)));
+        long = length-set now i (16 * re + im) ∙ t.long;
       }
 
   -- a number that is missing ends it
-  stopped : (i : ℕ) (now : List ℕ) → i < n → cell_test form line i ≡ false → Taking form n line memory from i now → LineTaken form n line memory from false now
+  stopped : (i : ℕ) (now : List ℕ) → i < length slot → cell_test form line i ≡ false → Taking form line slot i now → LineTaken form line slot false now
   unfolding line_test
   stopped i now h f t =
-      let e : false ≡ every (table (cell_test form line) 0 n) = tested_stop (cell_test form line) n i false h (sym f) refl t.tested in
-      record { test = rw (sym e); cells = λ b. absurd (never_both false b refl); long = t.long }
+      let e : false ≡ every (table (cell_test form line) 0 (length slot)) = tested_stop (cell_test form line) (length slot) i false h (sym f) refl t.tested in
+      record { test = rw (sym e); cells = λ b. absurd (never_both false b refl) }
 
-  pub real_missing : (i re : ℕ) (now : List ℕ) → i < n → re ≡ bits_at form line (2 * i) → 16 ≤ re → Taking form n line memory from i now
-      → LineTaken form n line memory from false now
+  pub real_missing : (i re : ℕ) (now : List ℕ) → i < length slot → re ≡ bits_at form line (2 * i) → 16 ≤ re → Taking form line slot i now
+      → LineTaken form line slot false now
   unfolding cell_test
   real_missing i re now h e k t = stopped i now h (rw (sym e, le-ltb re 16 k)) t
 
-  pub imaginary_missing : (i im : ℕ) (now : List ℕ) → i < n → im ≡ bits_at form line (2 * i + 1) → 16 ≤ im → Taking form n line memory from i now
-      → LineTaken form n line memory from false now
+  pub imaginary_missing : (i im : ℕ) (now : List ℕ) → i < length slot → im ≡ bits_at form line (2 * i + 1) → 16 ≤ im → Taking form line slot i now
+      → LineTaken form line slot false now
   unfolding cell_test
   imaginary_missing i im now h e k t = stopped i now h (rw (sym e, le-ltb im 16 k) (and_false (ltb (bits_at form line (2 * i)) 16))) t
 
-  pub line_taken : (i : ℕ) (now : List ℕ) (feed : ℕ) → n ≤ i → feed ≡ get_or line (2 * n * number_digits form) 0 → Taking form n line memory from i now
-      → LineTaken form n line memory from (eqb feed LINE_FEED) now
+  pub line_taken : (i : ℕ) (now : List ℕ) (feed : ℕ) → length slot ≤ i → feed ≡ get_or line (2 * length slot * number_digits form) 0 → Taking form line slot i now
+      → LineTaken form line slot (eqb feed LINE_FEED) now
   unfolding line_test
   line_taken i now feed h e t =
-      let all : true ≡ every (table (cell_test form line) 0 n) = tested_end (cell_test form line) n i h t.tested in
-      let last : i ≡ n = omega (arith, h, t.tested.upto) in
-      record {
-        test = rw (sym all, e);
-        cells = λ b. t.there ∙ ap (sets memory from) (ap (table _ 0) last ∙ cells-taken form n line (sym all));
-        long = t.long;
-      }
+      let all : true ≡ every (table (cell_test form line) 0 (length slot)) = tested_end (cell_test form line) (length slot) i h t.tested in
+      let last : i ≡ length slot = omega (arith, h, t.tested.upto) in
+      let cells : now ≡ sets slot 0 (bytes (all_read form (2 * length slot) line)) =
+      t.there ∙ ap (sets slot 0) (ap (table _ 0) last ∙ cells-taken form (length slot) line (sym all))
+      in
+      let size : length (bytes (all_read form (2 * length slot) line)) ≡ length slot =
+      length-bytes (all_read form (2 * length slot) line) ∙ ap (λ m. m / 2) (length-all_read form (2 * length slot) line) ∙ omega arith
+      in
+      record { test = rw (sym all, e); cells = λ b. cells ∙ sets-whole slot (bytes (all_read form (2 * length slot) line)) (sym size) }

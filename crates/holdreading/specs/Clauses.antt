@@ -1,6 +1,5 @@
 -- What functions inside a call require and find: nothing of 02 is stated here.
 use Rattle.std.specs.Prelude.{ℕ, zero, suc, ◌+◌, ◌*◌, ◌≤◌, ◌≡◌, Bool, true, cond, ◌&&◌, List, map, length, get_or, take, drop, ℤ, eqb, ltb}
-use Rattle.std.proofs.lemmas.List.Edits.{sets}
 use Rattle.lists.specs.Lists.{table}
 use Rattle.lists.specs.Same.{same_number}
 use Rattle.lists.specs.Bools.{every}
@@ -52,16 +51,14 @@ lines_test form n zero bs = true
 lines_test form n (suc k) bs =
     line_test form n (take (2 * n * number_digits form + 1) bs) && lines_test form n k (drop (2 * n * number_digits form + 1) bs)
 
--- A line of n cells, and memory from a place on with their bytes where the test is passed.
-pub record LineLent (form : Form) (n : ℕ) (line memory : List ℕ) (from : ℕ) : Type 0 where
-  pub long : length line ≡ 2 * n * number_digits form + 1
-  pub room : from + n ≤ length memory
-  pub few : n ≤ 6118
+-- A line of as many cells as a slot has, and the slot with their bytes where the test is passed.
+pub record LineLent (form : Form) (line slot : List ℕ) : Type 0 where
+  pub long : length line ≡ 2 * length slot * number_digits form + 1
+  pub few : length slot ≤ 6118
 
-pub record LineTaken (form : Form) (n : ℕ) (line memory : List ℕ) (from : ℕ) (r : Bool) (after : List ℕ) : Type 0 where
-  pub test : r ≡ line_test form n line
-  pub cells : r ≡ true → after ≡ sets memory from (bytes (all_read form (2 * n) line))
-  pub long : length after ≡ length memory
+pub record LineTaken (form : Form) (line slot : List ℕ) (r : Bool) (after : List ℕ) : Type 0 where
+  pub test : r ≡ line_test form (length slot) line
+  pub cells : r ≡ true → after ≡ bytes (all_read form (2 * length slot) line)
 
 -- k lines of n cells after a heading of three bytes, and memory with their bytes where the test is passed.
 pub record LinesLent (form : Form) (n k : ℕ) (file memory : List ℕ) : Type 0 where

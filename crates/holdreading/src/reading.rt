@@ -1,6 +1,7 @@
 // Lines of digits to bytes of cells. 02, S-7.
 // Stays, in this module: buffers stand one by one; with a struct of `&mut` a clause must also say that each reference is still the same one.
-ghost use Rattle.std.specs.Prelude.{◌≡◌, ◌+◌, ◌*◌, ◌≤◌, ◌<◌, length, get_or, ltb};
+ghost use Rattle.std.specs.Prelude.{◌≡◌, ◌+◌, ◌*◌, ◌≤◌, ◌<◌, length, get_or, ltb, is_ok, IfErr};
+ghost use Rattle.refusal.specs.Numbers.{number};
 ghost use Rattle.settings.specs.Accepted.{Accepted};
 ghost use Rattle.settings.specs.Lengths.{n_mux};
 ghost use Rattle.settings.specs.Sizes.{depth};
@@ -14,6 +15,7 @@ use holdlines::digits::digit_value;
 use holdlines::lengths::{LINE_FEED, file_bytes, line_bytes};
 use partlengths::tables;
 use pointtests::tests::bytes_pass;
+use refusal::Refusal;
 use settings::{Settings, answers};
 
 // The four bits of a 16-bit number by what its digits stand for: all above the lowest are those of its sign.
@@ -31,6 +33,7 @@ fn wide_bits(digits: [u8; 4]) -> Option<u8>
 }
 
 // Those of the four digits from a place on.
+// Stays: a place and not a part of the line, as the definitions `wide_at` and `bits_at` have it, which speak of number k of a whole line in both forms.
 fn wide_at(line: &[u8], at: usize) -> Option<u8>
     requires { at + 4 ≤ length line.now }
     ensures { result ≡ found (wide_at line.now at) }
@@ -54,36 +57,42 @@ fn number_bits(form: Form, line: &[u8], k: usize) -> Option<u8>
     }
 }
 
-// The cells of a line into memory from a place on, if it is right.
-fn take_line(form: Form, n: usize, line: &[u8], memory: &mut [u8], from: usize) -> bool
-    requires { LineLent form n line.now memory.old from }
-    ensures { LineTaken form n line.now memory.old from result memory.new }
+// The cells of a line into a slot of memory, if it is right. Refusal 18.
+fn take_line(form: Form, line: &[u8], slot: &mut [u8]) -> Result<(), Refusal>
+    requires { LineLent form line.now slot.old }
+    ensures taken { LineTaken form line.now slot.old (is_ok result) slot.new }
+    ensures refused { IfErr result (λ e. number e ≡ 18) }
 {
-    for i in 0..n {
-        let Some(re) = number_bits(form, line, 2 * i) else {
-            return false;
-        };
-        let Some(im) = number_bits(form, line, 2 * i + 1) else {
-            return false;
-        };
-        memory[from + i] = 16 * re + im;
+    for i in 0..slot.len() {
+        let re = number_bits(form, line, 2 * i).ok_or(Refusal::HoldFile)?;
+        let im = number_bits(form, line, 2 * i + 1).ok_or(Refusal::HoldFile)?;
+        slot[i] = 16 * re + im;
     }
-    line[line.len() - 1] == LINE_FEED
+    if line[line.len() - 1] != LINE_FEED {
+        return Err(Refusal::HoldFile);
+    }
+    Ok(())
 }
 
-// The cells of every line after the heading into memory, if all are right.
-pub fn take_lines(form: Form, n: usize, file: &[u8], memory: &mut [u8], lines: usize) -> bool
+// The cells of every line after the heading into memory, if all are right. Refusal 18.
+pub fn take_lines(
+    form: Form,
+    n: usize,
+    file: &[u8],
+    memory: &mut [u8],
+    lines: usize,
+) -> Result<(), Refusal>
     requires { LinesLent form n lines file.now memory.old }
-    ensures { LinesTaken form n lines file.now result memory.new }
+    ensures taken { LinesTaken form n lines file.now (is_ok result) memory.new }
+    ensures refused { IfErr result (λ e. number e ≡ 18) }
 {
     let long = line_bytes(form, n);
     for k in 0..lines {
         let at = 3 + k * long;
-        if !take_line(form, n, &file[at..at + long], memory, k * n) {
-            return false;
-        }
+        let from = k * n;
+        take_line(form, &file[at..at + long], &mut memory[from..from + n])?;
     }
-    true
+    Ok(())
 }
 
 // A digit below the depth.
@@ -92,10 +101,7 @@ fn digit_below(b: u8, depth: usize) -> bool
     requires { depth ≤ 16 }
     ensures { result ≡ ltb (digit_or b) depth }
 {
-    match digit_value(b) {
-        Some(digit) => usize::from(digit) < depth,
-        None => false,
-    }
+    digit_value(b).is_some_and(|digit| usize::from(digit) < depth)
 }
 
 // The heading: two digits below the depth, and a line feed.
@@ -107,27 +113,24 @@ fn heading_right(file: &[u8], depth: usize) -> bool
     digit_below(file[0], depth) && digit_below(file[1], depth) && file[2] == LINE_FEED
 }
 
-// The cells of a file into memory, if it is valid.
-// Stays: `settings` answers take any Settings, so that a type for accepted ones would be made Settings again at each call.
-pub fn take_file(form: Form, s: Settings, file: &[u8], memory: &mut [u8]) -> bool
+// The cells of a file into memory, if it is valid. Refusal 18.
+// Stays: docs/PROMISES.md names this function with these parameters; with a type for accepted settings its callers would make one for this call.
+pub fn take_file(form: Form, s: Settings, file: &[u8], memory: &mut [u8]) -> Result<(), Refusal>
     requires { Accepted s × (length memory.old ≡ depth s * n_mux s) }
-    ensures { FileTaken form s file.now result memory.new }
+    ensures taken { FileTaken form s file.now (is_ok result) memory.new }
+    ensures refused { IfErr result (λ e. number e ≡ 18) }
 {
     let depth = answers::depth(s);
     if file.len() != file_bytes(form, s) {
-        return false;
+        return Err(Refusal::HoldFile);
     }
     if !heading_right(file, depth) {
-        return false;
+        return Err(Refusal::HoldFile);
     }
-    if !take_lines(
-        form,
-        tables::n_mux(s.mode, s.occupancy),
-        file,
-        memory,
-        depth,
-    ) {
-        return false;
+    let n = tables::n_mux(s.mode, s.occupancy);
+    take_lines(form, n, file, memory, depth)?;
+    if !bytes_pass(msc_constellation(s.msc), false, memory) {
+        return Err(Refusal::HoldFile);
     }
-    bytes_pass(msc_constellation(s.msc), false, memory)
+    Ok(())
 }

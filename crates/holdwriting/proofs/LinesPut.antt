@@ -1,6 +1,6 @@
 -- The loop that writes a file's lines. Assumes nothing.
 use Prim.Native.Nat.{ℕ, suc, ◌+◌, ◌-◌, ◌*◌, ◌≤◌, ◌<◌}
-use mathlib.Core.Path.{◌≡◌, refl, sym, ap, ap₂, subst, ◌∙◌}
+use mathlib.Core.Path.{◌≡◌, sym, ap, ap₂, subst, ◌∙◌}
 use mathlib.Core.List.{List, ◌++◌, append_assoc}
 use native.Mathlib.Nat.{mul-le-mul}
 use native.Mathlib.Omega.{arith}
@@ -12,7 +12,7 @@ use Rattle.cellbytes.specs.CellBytes.{numbers}
 use Rattle.cellbytes.proofs.CellBytes.{numbers-take, numbers-drop}
 use Rattle.holdlines.specs.declared.Form.{Form}
 use Rattle.holdlines.specs.Files.{number_digits, all_written, ended, lines_of}
-use Rattle.holdwriting.specs.Clauses.{LineRoom, LinesRoom, lines_from}
+use Rattle.holdwriting.specs.Clauses.{LineRoom, lines_from}
 use Rattle.holdlines.proofs.Lines.{left_over, length-ended}
 use Rattle.holdwriting.proofs.Putting.{length-line}
 
@@ -45,17 +45,6 @@ module _ (form : Form) (n lines : ℕ) (memory out : List ℕ) where
       let b : at + w ≡ at + length vs = omega (arith, e) in
       ap (λ z. take at now ++ (vs ++ z)) (Post-is at (at + w) now (omega arith))
       ∙ rw (b, ← append_assoc (take at now) vs (drop (at + length vs) now), sets-eq vs now at (omega (arith, e)))
-
-  pub writing_start : LinesRoom form n lines memory out → Writing 3 0 0 out
-  writing_start r =
-      let e : lines - 0 ≡ lines = omega arith in
-      record {
-        upto = omega arith;
-        left = ap (λ m. 3 + m * L) e ∙ sym r.room;
-        cells = ap (λ m. 0 + m * n) e ∙ omega (arith, r.cells);
-        rest = ap (λ m. sets out 3 (lines_from form n m memory)) e;
-        long = refl;
-      }
 
   lines_left : (j from : ℕ) → lines_from form n (suc j) (drop from memory)
       ≡ ended (all_written form (numbers (take n (drop from memory)))) ++ lines_from form n j (drop (from + n) memory)

@@ -6,7 +6,7 @@ use mathlib.Core.List.{List, [], ◌∷◌}
 use native.Mathlib.Nat.{div-le_self, add-div_right, div-add-mod', div-eq_of_lt, zero-mul, mul-le-mul}
 use native.Mathlib.Omega.{arith}
 use borrow.Author.Tests.{eq-eqb, ne_eqb}
-use mir.Syntax.{w32, w64}
+use mir.Syntax.{w32}
 use mir.Val.{Fits}
 use lib.ListN.{length, set, length-set}
 use lib.Dec.{T, eqb, leb, leb→le}
@@ -96,24 +96,17 @@ module _ (s : Settings) (ok : refusal s ≡ 0) (none : s.x ≡ 0) (plain : hiera
       let low = frame_low s (accepted_of s ok) in
       record { some = omega (arith, a_byte); few = omega (arith, low); low = h }
 
--- depth and N_MUX are few, and so is a product of two that are
-pub depth_few : (s : Settings) {d : ℕ} → d ≡ depth s → d ≤ 5
+-- the bytes of memory are few
+depth_few : (s : Settings) → depth s ≤ 5
 unfolding depth
-depth_few s e = rw e (go (eqb s.interleaving 0))
+depth_few s = go (eqb s.interleaving 0)
   where
     go : (b : Bool) → cond b 5 1 ≤ 5
     go true = omega arith
     go false = omega arith
 
-pub mux_few : (s : Settings) → refusal s ≡ 0 → {m : ℕ} → m ≡ entry mux_table s.mode s.occupancy → m ≤ 6118
-unfolding n_mux
-mux_few s ok e = omega (arith, e, (accepted_of s ok).ranges.mux_most)
-
-pub product-fits : (d m : ℕ) → d ≤ 5 → m ≤ 6118 → Fits w64 (d * m)
-product-fits d m h k = omega (arith, mul-le-mul h k)
-
-pub product-fits_32 : (d m : ℕ) → d ≤ 5 → m ≤ 6118 → Fits w32 (d * m)
-product-fits_32 d m h k = omega (arith, mul-le-mul h k)
+pub memory-fits : (s : Settings) → refusal s ≡ 0 → Fits w32 (depth s * n_mux s)
+memory-fits s ok = let m = (accepted_of s ok).ranges.mux_most in omega (arith, mul-le-mul (depth_few s) m)
 
 -- three numbers written over three
 pub three : (l : List ℕ) (a b c : ℕ) → length l ≡ 3 → set (set (set l 0 a) 1 b) 2 c ≡ a ∷ b ∷ c ∷ []
@@ -132,7 +125,7 @@ unfolding accepted
 l2_is s ok e = ap (λ (y : LengthsYield). y.l2) e
 
 -- the three numbers from their parts
-pub numbers-made : (s : Settings) (n : ℕ) {bits a d m z : ℕ} → bits ≡ l2 s → a ≡ super_frames bits n → d ≡ depth s → m ≡ entry mux_table s.mode s.occupancy → z ≡ zero_bits bits n
-    → a ∷ d * m ∷ z ∷ [] ≡ numbers_for s n
-unfolding numbers_for memory_bytes n_mux
-numbers-made s n e ea ed em ez = rw (ea, ed, em, ez, e)
+pub numbers-made : (s : Settings) (n : ℕ) {bits a m z : ℕ} → bits ≡ l2 s → a ≡ super_frames bits n → m ≡ depth s * n_mux s → z ≡ zero_bits bits n
+    → a ∷ m ∷ z ∷ [] ≡ numbers_for s n
+unfolding numbers_for memory_bytes
+numbers-made s n e ea em ez = rw (ea, em, ez, e)

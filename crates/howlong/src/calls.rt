@@ -5,10 +5,9 @@ ghost use Rattle.howlong.specs.HowLong.{super_frames, zero_bits, how_long_refusa
 ghost use Rattle.howlong.specs.Clauses.{Counts};
 
 use partlengths::formulas::hierarchical;
-use partlengths::tables::n_mux;
 use refusal::Refusal;
 use settings::Settings;
-use settings::answers::{all_lengths, depth};
+use settings::answers::{all_lengths, memory_bytes};
 
 // The numbers that the call answers.
 const NUMBERS: usize = 3;
@@ -62,7 +61,7 @@ pub fn how_long(s: Settings, bytes: u32, numbers: &mut [u32]) -> Result<(), Refu
     let l2 = l.l2 as usize;
     let n = bytes as usize;
     numbers[0] = super_frames(l2, n) as u32;
-    numbers[1] = (depth(s) * n_mux(s.mode, s.occupancy)) as u32;
+    numbers[1] = memory_bytes(s) as u32;
     numbers[2] = zero_bits(l2, n) as u32;
     Ok(())
 }

@@ -267,5 +267,5 @@ reset_length old s memory h p =
       λ e. ap (λ y. y.done.refusal) (reset_accepts old s memory (fits_reset old s memory (record { scheme = allowed; long = e ∙ sym (memory_is s.settings) }))),
     )
 
-pub bytes-coded : BytesCoded
-bytes-coded = record { resets = reset_length; most = λ s p r h. most_bytes s (taken s 3 h) p r; codable = codable; holds = run_holds }
+pub bytes_coded : BytesCoded
+bytes_coded = record { resets = reset_length; most = λ s p r h. most_bytes s (taken s 3 h) p r; codable = codable; holds = run_holds }

@@ -262,13 +262,7 @@ module _ {t n s q : ℕ} {d out : List ℕ} {x y z w end i : ℕ} (v : Making t 
   fits : Interleaves t n
   fits = v.tabulates.fits
 
-  -- When all steps were taken there is room for the 0, and with it the table is whole.
-  pub making_room : n < length out
-  making_room = omega (arith, v.laid.long, v.tabulates.room)
-
-  pub making_long : length (set out n 0) ≡ length d
-  making_long = length-set out n 0 ∙ v.laid.long
-
+  -- When all steps were taken, the table with the 0 behind it is whole.
   pub making_end : s ≤ i → set out n 0 ≡ places t n ++ (0 ∷ [])
   making_end l = laid_end t n fits.cycles d v.tabulates.room (omega (arith, v.within, v.size_is)) v.laid
 
@@ -293,6 +287,9 @@ module _ {t n s q : ℕ} {d out : List ℕ} {x y z w end i : ℕ} (v : Making t 
     -- The steps of a turn are steps of the walk.
     turn_within : i + 4 ≤ size n
     turn_within = omega (arith, v.fours, v.size_is, size_fours t n fits.cycles)
+
+    pub making_small : i + 4 < 2 ^ 16
+    making_small = omega (arith, turn_within, (sized t n fits.cycles).least, fits.high)
 
     -- There is room for a number where those before it were laid,
     keeps : {u j end' : ℕ} {out' : List ℕ} → u ≡ visit t n j → j < i + 4 → Laid t n d out' j end' → Keeps u end' out'

@@ -3,6 +3,7 @@ ghost use Rattle.std.specs.Prelude.{◌≡◌, ◌-◌, ◌/◌, ◌≤◌};
 ghost use Rattle.interleaver.specs.Interleaving.{size};
 ghost use Rattle.interleaver.specs.Deinterleaving.{Sizes};
 
+// Stays: by leading zeros, as 01 has it, in place of `next_power_of_two` (docs/PROMISES.md, its sentence on parities and s).
 // s, the smallest power of two not below n: n - 1 has as many digits as s has zeros.
 pub fn size_of(n: usize) -> usize
     requires { Sizes n }

@@ -1,3 +1,4 @@
 pub mod Output
 pub mod SuperFrame
 pub mod Clauses
+pub mod Numbered

@@ -2,6 +2,7 @@
 #![tactic(auto)]
 
 pub mod buffers;
+pub mod numbered;
 pub mod output;
 pub mod refusals;
 pub mod sizes;

@@ -7,6 +7,7 @@ use console::bytes::put_bytes;
 use deskcells::numbers::put_cells;
 
 // The bytes of the cells of a super frame from the start of a buffer on, and how many there are.
+// Stays: `write_cells` alone calls this and requires the same; a type for slices with room would hold all four, and the clauses would name `lent.now.fac.now`.
 pub fn join_cells(fac: &[i16], sdc: &[i16], msc: &[i16], out: &mut [u8]) -> usize
     requires { 2 * length fac.now + 2 * length sdc.now + 2 * length msc.now ≤ length out.old }
     ensures { Joined (length out.old) (cell_output fac.now sdc.now msc.now)
@@ -35,6 +36,7 @@ fn frames_length(n: u8, all: usize) -> usize
 }
 
 // What tells of lost blocks, FAC, SDC, the number of finished frames, and those frames, from the start of a buffer on, and how many bytes there are.
+// Stays: `written::write_read`, which docs/PROMISES.md names, alone calls this and requires the same; a type would be made there for one call.
 pub fn join_blocks(lost: &[u8], fac: &[u8], sdc: &[u8], n: u8, msc: &[u8], out: &mut [u8]) -> usize
     requires { length lost.now + length fac.now + length sdc.now + 1 + length msc.now ≤ length out.old }
     ensures { Joined (length out.old)

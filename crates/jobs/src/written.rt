@@ -26,6 +26,7 @@ pub fn refused(refusal: Refusal, state: State) -> Step
 }
 
 // What the output is after Code and after taking: the bytes of the cells, or nothing where the call was refused, which leaves the old state.
+// Stays: that the room is enough is known of all four slices together; a type for it would hold them, `&mut` of the output among them.
 pub fn write_cells(
     called: Result<State, Refusal>,
     old: State,
@@ -48,7 +49,9 @@ pub fn write_cells(
     }
 }
 
-// What the output is after reading: what tells of lost blocks, FAC, SDC and the finished frames, or nothing where the call was refused, which leaves the old state.
+// What the output is after reading: what tells of lost blocks, FAC, SDC and the finished frames, or nothing where the call was refused, which leaves the
+// old state.
+// Stays: docs/PROMISES.md names this function; a type for slices that have room would ask of a caller to make it.
 pub fn write_read(
     read: Result<Finished, ReadRefusal>,
     old: State,

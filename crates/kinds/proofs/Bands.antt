@@ -14,6 +14,29 @@ use Rattle.kinds.specs.References.{table90, spacing, offset}
 use Rattle.kinds.specs.Places.{places}
 use Rattle.kinds.specs.Clauses.{Pairing, RowOf90}
 use Rattle.kinds.specs.declared.tables.GainReferences.{GainReferences}
+use Rattle.kinds.specs.declared.pairings.Mode.{Mode}
+use Rattle.kinds.specs.declared.pairings.Mode.TheVariants.{A, B, C, D}
+use Rattle.kinds.specs.declared.pairings.Occupancy.{Occupancy}
+use Rattle.kinds.specs.declared.pairings.Occupancy.TheVariants.{Khz4Half, Khz5, Khz9, Khz10, Khz18, Khz20}
+use Rattle.kinds.specs.Numbered.{mode_number, occupancy_number}
+
+-- The numbers of modes and occupancies.
+pub mode_low : (m : Mode) → mode_number m < 4
+mode_low A = omega arith
+mode_low B = omega arith
+mode_low C = omega arith
+mode_low D = omega arith
+
+occupancy_low : (o : Occupancy) → occupancy_number o < 6
+occupancy_low Khz4Half = omega arith
+occupancy_low Khz5 = omega arith
+occupancy_low Khz9 = omega arith
+occupancy_low Khz10 = omega arith
+occupancy_low Khz18 = omega arith
+occupancy_low Khz20 = omega arith
+
+pub pairing_low : (m : Mode) (o : Occupancy) → Pairing (mode_number m) (occupancy_number o)
+pairing_low m o = record { mode_low = mode_low m; occupancy_low = occupancy_low o }
 
 -- The test passes at every mode, and at every pairing.
 pub mode_at : (f : ℕ → Bool) → T (below f 0 4) → (m : ℕ) → m < 4 → T (f m)

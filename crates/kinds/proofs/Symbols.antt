@@ -163,7 +163,6 @@ module _ (mode occupancy : ℕ) (d : List ℕ) (s c : ℕ) where
         let size : n * c + c - n * c ≡ c = omega arith in
         let room : c ≤ length (drop (n * c) out) = rw length-drop (omega (arith, (here h).end, w.filled.long)) in
         record {
-          pairing = w.fits.pairing;
           symbol_low = (here h).symbol_low;
           long = rw size (length-take-le c (drop (n * c) out) room ∙ w.wide);
         }

@@ -30,18 +30,6 @@ pub record Pairing (mode occupancy : ℕ) : Type 0 where
   pub mode_low : mode < 4
   pub occupancy_low : occupancy < 6
 
--- A row of kinds, from carrier -120 to 350, and one of a mode's lists of carriers.
-pub record Listed (mode list : ℕ) (row : List ℕ) : Type 0 where
-  pub mode_low : mode < 4
-  pub list_low : list < 27
-  pub long : length row ≡ 471
-
--- Such a row for a symbol of a mode.
-pub record Row (mode symbol : ℕ) (row : List ℕ) : Type 0 where
-  pub mode_low : mode < 4
-  pub symbol_low : symbol < 24
-  pub long : length row ≡ 471
-
 -- A row of data with all that goes before data: what goes first is painted last.
 unfoldable pub painted_symbol : ℕ → ℕ → List ℕ → List ℕ
 painted_symbol mode symbol row =
@@ -51,7 +39,6 @@ painted_symbol mode symbol row =
 
 -- A symbol of a pairing, and a buffer for the kinds of its places.
 pub record SymbolFits (mode occupancy symbol : ℕ) (out : List ℕ) : Type 0 where
-  pub pairing : Pairing mode occupancy
   pub symbol_low : symbol < 24
   pub long : length out ≡ carriers mode occupancy
 

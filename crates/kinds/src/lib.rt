@@ -4,6 +4,7 @@
 ghost use Rattle.std.specs.Prelude.{◌≡◌};
 ghost use Rattle.kinds.specs.Kinds.{number, Decodes};
 
+pub mod pairings;
 pub mod rows;
 pub mod tables;
 

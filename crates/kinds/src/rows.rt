@@ -1,13 +1,16 @@
 // The kinds of the places of a super frame.
-// Stays, in this module: buffers stand one by one; with a struct of `&mut` a clause must also say that each reference is still the same one.
+// Stays, in this module: mode and symbol stand apart; lists of carriers go by the mode alone, so that a struct of both would be built for each symbol
+// and taken apart again for each list (`paint(at.mode, ..)`), and the row that is lent would stand beside it as now.
 ghost use Rattle.std.specs.Prelude.{◌≡◌, ◌<◌, replicate};
 ghost use Rattle.lists.specs.Lists.{table};
 ghost use Rattle.kinds.specs.Carriers.{lower, carriers};
 ghost use Rattle.kinds.specs.References.{time, is_gain};
 ghost use Rattle.kinds.specs.Kinds.{number, has, data_kind, kind_of};
+ghost use Rattle.kinds.specs.Numbered.{mode_number, mode_of, occupancy_of};
 ghost use Rattle.kinds.specs.Places.{grid_kinds};
-ghost use Rattle.kinds.specs.Clauses.{carrier_list, painted, painted_symbol, Listed, Row, SymbolFits, KindsFit};
+ghost use Rattle.kinds.specs.Clauses.{carrier_list, painted, painted_symbol, SymbolFits, KindsFit};
 
+use crate::pairings::{Mode, Pairing};
 use crate::{Kind, tables};
 
 // Carriers -120 to 350.
@@ -17,11 +20,11 @@ pub const ROW: usize = 471;
 pub const MOST_PLACES: usize = 20745;
 
 // Paints the carriers of one of the mode's lists.
-fn paint(mode: u8, list: usize, kind: Kind, row: &mut [u8])
-    requires { Listed mode list row.old }
-    ensures { row.new ≡ painted (has (carrier_list mode list)) (number kind) row.old }
+fn paint(mode: Mode, list: usize, kind: Kind, row: &mut [u8; ROW])
+    requires { list < 27 }
+    ensures { row.new ≡ painted (has (carrier_list (mode_number mode) list)) (number kind) row.old }
 {
-    let carriers = tables::listed(mode, list);
+    let carriers = tables::listed(mode.number(), list);
     let number = kind.number();
     for &carrier in carriers {
         row[carrier as usize] = number;
@@ -29,9 +32,8 @@ fn paint(mode: u8, list: usize, kind: Kind, row: &mut [u8])
 }
 
 // Paints the gain references of a symbol.
-fn paint_gain(mode: u8, symbol: usize, row: &mut [u8])
-    requires { Row mode symbol row.old }
-    ensures { row.new ≡ painted (is_gain mode symbol) 3 row.old }
+fn paint_gain(mode: Mode, symbol: usize, row: &mut [u8; ROW])
+    ensures { row.new ≡ painted (is_gain (mode_number mode) symbol) 3 row.old }
 {
     let number = Kind::Gain.number();
     for k in (tables::offset(mode, symbol)..row.len()).step_by(tables::spacing(mode)) {
@@ -40,9 +42,8 @@ fn paint_gain(mode: u8, symbol: usize, row: &mut [u8])
 }
 
 // Paints the time references, which are in the first symbol of a frame.
-fn paint_time(mode: u8, symbol: usize, row: &mut [u8])
-    requires { Row mode symbol row.old }
-    ensures { row.new ≡ painted (has (time mode symbol)) 2 row.old }
+fn paint_time(mode: Mode, symbol: usize, row: &mut [u8; ROW])
+    ensures { row.new ≡ painted (has (time (mode_number mode) symbol)) 2 row.old }
 {
     if symbol != 0 {
         return;
@@ -51,9 +52,8 @@ fn paint_time(mode: u8, symbol: usize, row: &mut [u8])
 }
 
 // SDC in the SDC symbols, otherwise MSC.
-fn data_kind(mode: u8, frame: usize, symbol: usize) -> Kind
-    requires { mode < 4 }
-    ensures { number result ≡ data_kind mode frame symbol }
+fn data_kind(mode: Mode, frame: usize, symbol: usize) -> Kind
+    ensures { number result ≡ data_kind (mode_number mode) frame symbol }
 {
     if frame != 0 {
         return Kind::Msc;
@@ -73,9 +73,9 @@ fn data_row(kind: Kind) -> [u8; 471]
 }
 
 // All that goes before data, what goes first painted last.
-fn paint_symbol(mode: u8, symbol: usize, row: &mut [u8])
-    requires { Row mode symbol row.old }
-    ensures { row.new ≡ painted_symbol mode symbol row.old }
+fn paint_symbol(mode: Mode, symbol: usize, row: &mut [u8; ROW])
+    requires { symbol < 24 }
+    ensures { row.new ≡ painted_symbol (mode_number mode) symbol row.old }
 {
     paint(mode, tables::FAC_LISTS + symbol, Kind::Fac, row);
     paint_gain(mode, symbol, row);
@@ -85,13 +85,13 @@ fn paint_symbol(mode: u8, symbol: usize, row: &mut [u8])
 }
 
 // The kinds of a symbol's places.
-fn symbol_kinds(mode: u8, occupancy: u8, frame: usize, symbol: usize, out: &mut [u8])
-    requires { SymbolFits mode occupancy symbol out.old }
-    ensures { out.new ≡ table (kind_of mode frame symbol) (lower mode occupancy) (carriers mode occupancy) }
+fn symbol_kinds(p: Pairing, frame: usize, symbol: usize, out: &mut [u8])
+    requires { SymbolFits (mode_of p) (occupancy_of p) symbol out.old }
+    ensures { out.new ≡ table (kind_of (mode_of p) frame symbol) (lower (mode_of p) (occupancy_of p)) (carriers (mode_of p) (occupancy_of p)) }
 {
-    let mut row = data_row(data_kind(mode, frame, symbol));
-    paint_symbol(mode, symbol, &mut row);
-    let first = tables::lower(mode, occupancy);
+    let mut row = data_row(data_kind(p.mode, frame, symbol));
+    paint_symbol(p.mode, symbol, &mut row);
+    let first = tables::lower(p);
     let end = first + out.len();
     out.copy_from_slice(&row[first..end]);
 }
@@ -101,12 +101,12 @@ pub fn grid_kinds(mode: u8, occupancy: u8, out: &mut [u8])
     requires { KindsFit mode occupancy out.old }
     ensures { out.new ≡ grid_kinds mode occupancy }
 {
-    let symbols = tables::frame_symbols(mode);
-    let carriers = tables::carriers(mode, occupancy);
+    let pairing = Pairing::numbered(mode, occupancy);
+    let symbols = tables::frame_symbols(pairing.mode);
+    let carriers = tables::carriers(pairing);
     for n in 0..3 * symbols {
         symbol_kinds(
-            mode,
-            occupancy,
+            pairing,
             n / symbols,
             n % symbols,
             &mut out[n * carriers..n * carriers + carriers],

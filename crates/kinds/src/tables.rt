@@ -3,7 +3,10 @@ ghost use Rattle.std.specs.Prelude.{◌≡◌, ◌<◌};
 ghost use Rattle.kinds.specs.Carriers.{frame_symbols, lower, upper, carriers};
 ghost use Rattle.kinds.specs.References.{spacing, offset};
 ghost use Rattle.kinds.specs.Control.{sdc_symbols};
-ghost use Rattle.kinds.specs.Clauses.{carrier_list, Pairing, RowOf90};
+ghost use Rattle.kinds.specs.Numbered.{mode_number, mode_of, occupancy_of};
+ghost use Rattle.kinds.specs.Clauses.{carrier_list, RowOf90};
+
+use crate::pairings::{Mode, Pairing};
 
 // Table 80: symbols per transmission frame.
 const FRAME_SYMBOLS: [usize; 4] = [15, 15, 20, 24];
@@ -195,8 +198,10 @@ const CARRIERS: [[&[u8]; LISTS]; 4] = [
 ];
 
 // Lists of a mode: unused carriers, frequency references, time references, FAC cells of symbol 0, 1, ..
-const LISTS: usize = 27;
+pub const LISTS: usize = 27;
 
+// Stays: lists have numbers, which are their places in the table; an enum would be numbered again in `listed`, and its variant for FAC cells
+// would ask `symbol < 24` there, where the place asks `list < 27`, which a caller may count to by `LISTS`.
 pub const UNUSED_LIST: usize = 0;
 
 pub const FREQUENCY_LIST: usize = 1;
@@ -206,6 +211,7 @@ pub const TIME_LIST: usize = 2;
 pub const FAC_LISTS: usize = 3;
 
 // A mode's list of carriers.
+// Stays: the mode by its number, which the list's number stands beside; docs/ARCHITECTURE.md names this function.
 pub fn listed(mode: u8, list: usize) -> &'static [u8]
     requires { (mode < 4) × (list < 27) }
     ensures { result.now ≡ carrier_list mode list }
@@ -214,66 +220,58 @@ pub fn listed(mode: u8, list: usize) -> &'static [u8]
 }
 
 // Symbols per transmission frame.
-pub fn frame_symbols(mode: u8) -> usize
-    requires { mode < 4 }
-    ensures { result ≡ frame_symbols mode }
+pub fn frame_symbols(mode: Mode) -> usize
+    ensures { result ≡ frame_symbols (mode_number mode) }
 {
-    FRAME_SYMBOLS[mode as usize]
+    FRAME_SYMBOLS[mode.number() as usize]
 }
 
 // SDC symbols at the beginning of a super frame.
-pub fn sdc_symbols(mode: u8) -> usize
-    requires { mode < 4 }
-    ensures { result ≡ sdc_symbols mode }
+pub fn sdc_symbols(mode: Mode) -> usize
+    ensures { result ≡ sdc_symbols (mode_number mode) }
 {
-    SDC_SYMBOLS[mode as usize]
+    SDC_SYMBOLS[mode.number() as usize]
 }
 
 // k_min.
-// Stays: a look-up of k_min in table 82, no least of two numbers.
-pub fn lower(mode: u8, occupancy: u8) -> usize
-    requires { Pairing mode occupancy }
-    ensures { result ≡ lower mode occupancy }
+pub fn lower(p: Pairing) -> usize
+    ensures { result ≡ lower (mode_of p) (occupancy_of p) }
 {
-    LOWER[mode as usize][occupancy as usize]
+    LOWER[p.mode.number() as usize][p.occupancy.number() as usize]
 }
 
 // k_max.
-pub fn upper(mode: u8, occupancy: u8) -> usize
-    requires { Pairing mode occupancy }
-    ensures { result ≡ upper mode occupancy }
+// Stays: one function for both look-ups would be handed the table and promise an entry of it, and `lower` and `upper` would say the same as now.
+pub fn upper(p: Pairing) -> usize
+    ensures { result ≡ upper (mode_of p) (occupancy_of p) }
 {
-    UPPER[mode as usize][occupancy as usize]
+    UPPER[p.mode.number() as usize][p.occupancy.number() as usize]
 }
 
 // Carriers of a symbol.
-pub fn carriers(mode: u8, occupancy: u8) -> usize
-    requires { Pairing mode occupancy }
-    ensures { result ≡ carriers mode occupancy }
+pub fn carriers(p: Pairing) -> usize
+    ensures { result ≡ carriers (mode_of p) (occupancy_of p) }
 {
-    upper(mode, occupancy) + 1 - lower(mode, occupancy)
+    upper(p) + 1 - lower(p)
 }
 
 // The row of a mode in table 90.
-fn gain_references(mode: u8) -> GainReferences
-    requires { mode < 4 }
-    ensures { RowOf90 mode result }
+fn gain_references(mode: Mode) -> GainReferences
+    ensures { RowOf90 (mode_number mode) result }
 {
-    GAIN_REFERENCES[mode as usize]
+    GAIN_REFERENCES[mode.number() as usize]
 }
 
 // Gain references of a symbol are so many carriers apart,
-pub fn spacing(mode: u8) -> usize
-    requires { mode < 4 }
-    ensures { result ≡ spacing mode }
+pub fn spacing(mode: Mode) -> usize
+    ensures { result ≡ spacing (mode_number mode) }
 {
     gain_references(mode).spacing
 }
 
 // and begin here.
-pub fn offset(mode: u8, symbol: usize) -> usize
-    requires { mode < 4 }
-    ensures { result ≡ offset mode symbol }
+pub fn offset(mode: Mode, symbol: usize) -> usize
+    ensures { result ≡ offset (mode_number mode) symbol }
 {
     let gains = gain_references(mode);
     (gains.k0 + gains.x * (symbol % gains.y)) % gains.spacing

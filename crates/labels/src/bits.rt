@@ -1,5 +1,7 @@
 // Level bits with their weights: interleaved and added to labels, taken out again and put back. 01 "Bit interleaving" and "Mapping".
-// Stays, in this module: buffers stand one by one; with a struct of `&mut` a clause must also say that each reference is still the same one.
+// Stays, in this module: labels and bits that are written are lent as `&mut`; with a struct of these a clause must also say that each reference is still
+// the same one. Of t, weight and places a struct would be built anew for each part of each level (`level`, three calls), and what is required of them
+// (`Gathers`, `Scatters`, `Ordered`) is their length against that of the labels, which are lent beside them.
 ghost use Rattle.std.specs.Prelude.{◌≡◌, ◌/◌, ◌%◌, length};
 ghost use Rattle.block.specs.Levels.{mixed};
 ghost use Rattle.block.specs.Reading.{taken, unmixed};

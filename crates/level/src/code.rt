@@ -1,5 +1,7 @@
 // One level coded, its parts interleaved, and added to labels with its weight. 01 "Component code" and "Bit interleaving".
-// Stays, in this module: buffers stand one by one; with a struct of `&mut` a clause must also say that each reference is still the same one.
+// Stays, in this module: buffers that are written are lent as `&mut`; with a struct of these a clause must also say that each reference is still the
+// same one. A struct of a level, its weight and its places would be built anew for each level (`multilevel`), from a slice of the block's table, and what
+// is required of it is required against the lengths of labels and bits; docs/PROMISES.md names `code_level` and `read_level` with these arguments.
 ghost use Rattle.std.specs.Prelude.{◌≡◌};
 ghost use Rattle.std.proofs.lemmas.List.Edits.{sets};
 ghost use Rattle.component.specs.Codeword.{encode};

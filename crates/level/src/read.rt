@@ -1,5 +1,7 @@
 // One level read from labels: its bits taken out, put back to their places and decoded. 01 "Operations".
-// Stays, in this module: buffers stand one by one; with a struct of `&mut` a clause must also say that each reference is still the same one.
+// Stays, in this module: buffers that are written are lent as `&mut`; with a struct of these a clause must also say that each reference is still the
+// same one. A struct of a level, its weight and its places would be built anew for each level (`multilevel`), from a slice of the block's table, and what
+// is required of it is required against the lengths of labels and bits; docs/PROMISES.md names `code_level` and `read_level` with these arguments.
 ghost use Rattle.std.specs.Prelude.{◌≡◌, length};
 ghost use Rattle.std.proofs.lemmas.List.Edits.{sets};
 ghost use Rattle.block.specs.Reading.{taken, unmixed};
@@ -34,6 +36,8 @@ fn read_part(
 
 // A level's input bits from the labels, those of part A from place `at` on and those of part B from place `from` on: part A's from register 0, part B's
 // from the register behind.
+// Stays: docs/PROMISES.md names it, and it promises the whole of `bits`, of which both parts' places are parts; two slices in place of them would be cut from
+// the block's bits and put together again for each level.
 pub fn read_level(
     l: Level,
     weight: u8,

@@ -1,16 +1,19 @@
 -- The text of an answer.
 use mathlib.Core.Path.{◌≡◌, refl, ◌∙◌, sym, ap, ap₂}
 use mathlib.Core.List.{List, [], ◌∷◌, ◌++◌}
-use Prim.Native.Nat.{ℕ, zero, suc, ◌+◌, ◌*◌, ◌/◌, ◌%◌, ◌^◌, ◌<◌, ◌≤◌}
-use native.Mathlib.Nat.{mod-eq_of_lt, one-le-pow, pow-suc}
+use mathlib.Core.Logic.{◌⊎◌, inl, inr}
+use Prim.Native.Nat.{ℕ, zero, suc, ◌+◌, ◌-◌, ◌*◌, ◌/◌, ◌%◌, ◌^◌, ◌<◌, ◌≤◌}
+use native.Mathlib.Nat.{mod-eq_of_lt, one-le-pow, pow-suc, pow-le-pow_right, add-zero, zero-add, sub-zero}
+use native.Mathlib.Numerals.{unary_clauses}
 use native.Mathlib.Omega.{arith}
-use lib.ListN.{length, set, length-set}
+use lib.ListN.{length, take, set, length-set, length-append}
 use lib.Seq.{sets, sets-eq, length-sets}
-use borrow.Rule.Slice.PartMut.{put_mid, post_of}
+use borrow.Rule.Slice.PartMut.{put_mid, post_of, Post-is}
 use Rattle.std.proofs.Common.{append_assoc}
 use Rattle.std.proofs.lemmas.List.Edits.{paste_all}
 use Rattle.std.proofs.lemmas.Slice.{put_mid-paste}
 use borrow.Author.Tests.{lt-ltb, le-ltb, ne_eqb}
+use Rattle.lists.proofs.Counting.{below_or}
 use Rattle.settings.specs.declared.Lengths.{Lengths}
 use Rattle.io.specs.Digits.{last_digits}
 use Rattle.line.specs.Written.{glyph, group, groups, space, decimal_by, decimal, line_end, written, bad_line, answer_to, answer_of}
@@ -91,21 +94,6 @@ more_digits : (f n : ℕ) → 10 ≤ n → decimal_by (suc f) n ≡ decimal_by f
 unfolding decimal_by
 more_digits f n h = rw (le-ltb n 10 h)
 
-pub one-digit : (n : ℕ) → n < 10 → decimal n ≡ (48 + n) ∷ []
-unfolding decimal
-one-digit n h = last_digit 19 n h
-
-pub two_digits : (n : ℕ) → 10 ≤ n → n < 100 → decimal n ≡ (48 + n / 10) ∷ (48 + n % 10) ∷ []
-unfolding decimal
-two_digits n h k = more_digits 19 n h ∙ ap (λ l. l ++ ((48 + n % 10) ∷ [])) (last_digit 18 (n / 10) (omega arith))
-
-pub three_digits : (n : ℕ) → 100 ≤ n → n < 1000 → decimal n ≡ (48 + n / 100) ∷ (48 + n / 10 % 10) ∷ (48 + n % 10) ∷ []
-unfolding decimal
-three_digits n h k =
-    let e : n / 10 / 10 ≡ n / 100 = omega arith in
-    more_digits 19 n (omega arith)
-    ∙ ap (λ l. l ++ ((48 + n % 10) ∷ [])) (more_digits 18 (n / 10) (omega arith) ∙ ap (λ l. l ++ ((48 + n / 10 % 10) ∷ [])) (last_digit 17 (n / 10 / 10) (omega arith) ∙ ap (λ m. (48 + m) ∷ []) e))
-
 -- The digits that the kit's function writes are these.
 pub digits_decimal : (k f n : ℕ) → k ≤ f → n < 10 ^ (suc k) → (0 < k → 10 ^ k ≤ n) → last_digits 10 (suc k) n ≡ decimal_by (suc f) n
 digits_decimal zero f n h low high =
@@ -119,6 +107,47 @@ digits_decimal (suc k) (suc f) n h low high =
     let one : 1 ≤ 10 ^ k = one-le-pow k 10 (omega arith) in
     ap₂ (λ a b. a ++ (b ∷ [])) (digits_decimal k f (n / 10) (omega arith) (omega (arith, low, p)) (λ z. omega (arith, g, q))) (rw (lt-ltb (n % 10) 10 (omega arith)))
     ∙ sym (more_digits (suc f) n (omega (arith, g, q, one)))
+
+-- The digits of a number of 64 bits.
+few_digits : (n k : ℕ) → n < 2 ^ 64 → (1 < k → 10 ^ (k - 1) ≤ n) → k ≤ 20
+few_digits n k low high = go (below_or 20 k)
+  where
+    go : (20 < k) ⊎ (k ≤ 20) → k ≤ 20
+    go (inr h) = h
+    go (inl h) =
+        let p : 100000000000000000000 ≤ 10 ^ (k - 1) = pow-le-pow_right {n = 10} (omega arith) {i = 20} {j = k - 1} (omega arith) in
+        let q : n < 18446744073709551616 = low in
+        absurd (omega (arith, p, q, high (omega arith)))
+
+said : (n k : ℕ) → 1 ≤ k → k ≤ 20 → n < 10 ^ k → (1 < k → 10 ^ (k - 1) ≤ n) → last_digits 10 k n ≡ decimal n
+unfolding decimal
+said n zero h m low high = absurd (omega arith)
+said n (suc k) h m low high = digits_decimal k 19 n (omega arith) low (λ z. simp unary_clauses at (high (omega arith)))
+
+pub decimal_said : (n k : ℕ) (buffer : List ℕ) → n < 2 ^ 64 → (1 ≤ k) × (n < 10 ^ k) × (1 < k → 10 ^ (k - 1) ≤ n) → take k buffer ≡ last_digits 10 k n → take k buffer ≡ decimal n
+decimal_said n k buffer h f e = e ∙ said n k f.0 (few_digits n k h f.2) f.1 f.2
+
+pub decimal-fits : (n k : ℕ) → n < 2 ^ 64 → (1 ≤ k) × (n < 10 ^ k) × (1 < k → 10 ^ (k - 1) ≤ n) → k ≤ 20
+decimal-fits n k h f = few_digits n k h f.2
+
+-- Bytes written one list after the other.
+sets_both : (xs ys d : List ℕ) (i : ℕ) → sets d i (xs ++ ys) ≡ sets (sets d i xs) (i + length xs) ys
+sets_both [] ys d i = ap (λ k. sets d k ys) (sym (add-zero i))
+sets_both (x ∷ xs) ys d i =
+    let on : suc i + length xs ≡ i + length (x ∷ xs) = omega arith in
+    sets_both xs ys (set d i x) (suc i) ∙ ap (λ k. sets (sets (set d i x) (suc i) xs) k ys) on
+
+-- A number's digits copied into a buffer, and a line feed behind them.
+pub decimal_put : (n k : ℕ) (d text : List ℕ) → text ≡ decimal n → k ≡ length text → k ≤ length d → set (text ++ post_of 0 k d) k 10 ≡ sets d 0 (decimal n ++ line_end)
+unfolding line_end
+decimal_put n k d text e m h =
+    let f : text ++ post_of 0 k d ≡ sets d 0 text = ap (λ l. text ++ l) (rw sub-zero at (Post-is 0 k d (omega arith))) ∙ sym (rw (← m, zero-add) at (sets-eq text d 0 (omega (arith, m, h)))) in
+    let g : set (sets d 0 text) (length text) 10 ≡ sets d 0 (text ++ (10 ∷ [])) = sym (rw zero-add at (sets_both text (10 ∷ []) d 0)) in
+    ap (λ l. set l k 10) f ∙ ap (λ i. set (sets d 0 text) i 10) m ∙ g ∙ ap (λ l. sets d 0 (l ++ (10 ∷ []))) e
+
+pub decimal_long : (n k : ℕ) (text : List ℕ) → text ≡ decimal n → k ≡ length text → k + 1 ≡ length (decimal n ++ line_end)
+unfolding line_end
+decimal_long n k text e m = ap (λ i. i + 1) (m ∙ ap length e) ∙ sym (length-append (decimal n) (10 ∷ []))
 
 pub written_refusal : (r : Refusal) → written (lengths_yield (Err r)) ≡ decimal (number r) ++ line_end
 unfolding written refused

@@ -9,5 +9,6 @@ pub record HexByte (bytes : List ℕ) (k : ℕ) : Type 0 where
   pub low : digit_of (get_or bytes (2 * k + 1) 0) < 16
 
 -- A digit as the code finds it, and none for a number that no digit has.
+-- Stays: `holdlines` `Clauses.found` is the same one; neither crate is built on the other.
 unfoldable pub found : ℕ → Option ℕ
 found n = cond (ltb n 16) (Some n) None

@@ -7,6 +7,8 @@ use settingbytes::bytes::settings_of;
 use settings::Settings;
 
 // The value of a hexadecimal digit, or none for any other byte.
+// Stays: `holdlines` `digit_value` has the same of a hold file's digits. Each goes by the definition of its own paper, and neither crate is built on the other:
+// one function for both would be a crate more under them, and each would prove that its own definition is that crate's.
 #[tactic(auto, unfolding(crate::specs::Read::digit_of, crate::specs::Clauses::found))]
 fn digit(byte: u8) -> Option<u8>
     ensures { result ≡ found (digit_of byte) }

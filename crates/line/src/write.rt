@@ -1,4 +1,5 @@
 // Writing the line that answers a line of settings. The text is written from the start of a buffer, and its length given back.
+// Stays: docs/PROMISES.md names `print`, `bad_line` and `answer` with their buffer and promises every byte of it; `words` `Text` stands above this crate.
 ghost use Rattle.std.specs.Prelude.{◌≡◌, ◌<◌, ◌++◌, length, Ok};
 ghost use Rattle.settings.specs.Lengths.{lengths_yield};
 ghost use Rattle.std.proofs.lemmas.List.Edits.{sets};
@@ -9,6 +10,7 @@ use refusal::Refusal;
 use settings::Lengths;
 
 // The byte of a hexadecimal digit.
+// Stays: callers halve a byte, and that a half is below 16 the check finds; with a type for it each would write `glyph(Half::new(high / 16))`.
 #[tactic(auto, unfolding(crate::specs::Written::glyph))]
 pub fn glyph(n: u8) -> u8
     requires { n < 16 }
@@ -31,26 +33,15 @@ fn group(n: u16) -> [u8; 4]
 }
 
 // A number in decimal and a line feed.
-fn put_decimal(n: u8, out: &mut [u8; 32]) -> usize
+pub(crate) fn put_decimal(n: u8, out: &mut [u8; 32]) -> usize
     ensures out_after { out.new ≡ sets out.old 0 (decimal n ++ line_end) }
     ensures value { result ≡ length (decimal n ++ line_end) }
 {
-    if n < 10 {
-        out[0] = 48 + n;
-        out[1] = 10;
-        return 2;
-    }
-    if n < 100 {
-        out[0] = 48 + n / 10;
-        out[1] = 48 + n % 10;
-        out[2] = 10;
-        return 3;
-    }
-    out[0] = 48 + n / 100;
-    out[1] = 48 + n / 10 % 10;
-    out[2] = 48 + n % 10;
-    out[3] = 10;
-    4
+    let mut digits = [0; 20];
+    let count = io::decimal(n as u64, &mut digits);
+    out[..count].copy_from_slice(&digits[..count]);
+    out[count] = b'\n';
+    count + 1
 }
 
 // Five groups of four digits, and a line feed.

@@ -51,9 +51,9 @@ module _ (s : Settings) (line out block values : List ℕ) (answer : ℕ) (h : l
   build_through h text e = ap (λ t. through t out) e ∙ answered-through answer (hex_digits block ++ line_end) out h ∙ said
 
 -- `fac-read`.
-pub read-bad : (s : Settings) (line out : List ℕ) → are_hex 9 line ≡ false → made_yield made_bad out ≡ read_line s line out
+pub read_bad : (s : Settings) (line out : List ℕ) → are_hex 9 line ≡ false → made_yield made_bad out ≡ read_line s line out
 unfolding read_line bad
-read-bad s line out e = rw e
+read_bad s line out e = rw e
 
 module _ (s : Settings) (line out block numbers : List ℕ) (answer : ℕ) (t : are_hex 9 line ≡ true) (b : block ≡ bytes_in 9 line)
     (y : read_yield answer numbers ≡ read_of s block (replicate 14 0)) where
@@ -61,9 +61,9 @@ module _ (s : Settings) (line out block numbers : List ℕ) (answer : ℕ) (t : 
   unfolding read_line
   said_read = ap (λ z. read_said z out) (y ∙ ap (λ v. read_of s v (replicate 14 0)) b) ∙ rw t
 
-  pub read-refused : (answer ≡ 0 → ⊥) → made_yield (made_refused answer) out ≡ read_line s line out
+  pub read_refused : (answer ≡ 0 → ⊥) → made_yield (made_refused answer) out ≡ read_line s line out
   unfolding read_said
-  read-refused h = answered-refused answer (numbers_line numbers) out h ∙ said_read
+  read_refused h = answered-refused answer (numbers_line numbers) out h ∙ said_read
 
   pub read_through : answer ≡ 0 → (text : List ℕ) → text ≡ numbers_line numbers → through text out ≡ read_line s line out
   unfolding read_said

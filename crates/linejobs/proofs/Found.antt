@@ -31,10 +31,10 @@ module _ (line out values block count : List ℕ) (answer : ℕ) (h : length lin
   unfolding nearest_line
   whole = ap (λ z. nearest_said z out) (y ∙ ap (λ l. nearest_of l (replicate 9 0) (replicate 1 0)) v) ∙ rw (eq-eqb (length line) 130 h)
 
-  pub line-bad : (answer ≡ 0 → ⊥) → made_yield made_bad out ≡ nearest_line line out
+  pub line_bad : (answer ≡ 0 → ⊥) → made_yield made_bad out ≡ nearest_line line out
   unfolding nearest_said bad
-  line-bad n = rw (ne_eqb answer 0 n) at whole
+  line_bad n = rw (ne_eqb answer 0 n) at whole
 
-  pub line-found : answer ≡ 0 → (text : List ℕ) → text ≡ block_line block (get_or count 0 0) → through text out ≡ nearest_line line out
+  pub line_found : answer ≡ 0 → (text : List ℕ) → text ≡ block_line block (get_or count 0 0) → through text out ≡ nearest_line line out
   unfolding nearest_said
-  line-found e text t = ap (λ l. through l out) t ∙ (rw (eq-eqb answer 0 e) at whole)
+  line_found e text t = ap (λ l. through l out) t ∙ (rw (eq-eqb answer 0 e) at whole)

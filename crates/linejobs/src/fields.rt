@@ -25,6 +25,7 @@ fn block_text(block: &[u8; FAC_BYTES]) -> Text
 }
 
 // `fac-build`: fourteen numbers to the digits of a block.
+#[tactic(auto, using(crate::proofs::Answered::too_long, crate::proofs::Answered::no_numbers, crate::proofs::Answered::build_bad, crate::proofs::Answered::build_through))]
 pub fn build_line(s: Settings, line: &[u8]) -> Result<Text, Failure>
     ensures { (out : List ℕ) → text_yield result out ≡ build_line s line.now out }
 {
@@ -40,6 +41,7 @@ pub fn build_line(s: Settings, line: &[u8]) -> Result<Text, Failure>
 }
 
 // `fac-read`: the digits of a block to its fourteen numbers.
+#[tactic(auto, using(crate::proofs::Answered::read_bad, crate::proofs::Answered::read_through))]
 pub fn read_line(s: Settings, line: &[u8]) -> Result<Text, Failure>
     ensures { (out : List ℕ) → text_yield result out ≡ read_line s line.now out }
 {

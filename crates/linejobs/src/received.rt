@@ -51,6 +51,7 @@ fn found_text(block: &[u8; FAC_BYTES], count: u16) -> Text
 }
 
 // What `desk nearest` makes of a line.
+#[tactic(auto, using(crate::proofs::ReceivedValues::values_long, crate::proofs::Found::line_short, crate::proofs::Found::line_strange, crate::proofs::Found::line_found))]
 pub fn nearest_line(line: &[u8]) -> Result<Text, Failure>
     ensures { (out : List ℕ) → text_yield result out ≡ nearest_line line.now out }
 {

@@ -7,8 +7,12 @@ use turns::{End, input, turn};
 
 // A line that has come.
 fn pass_line(job: LineJob, line: &[u8]) -> Result<(), End> {
-    let said = steps::line_step(job, line)?;
-    turn::after_write(io::write_all(STDOUT_FILENO, said.bytes()))
+    let said = steps::line_step(job, line);
+    let written = match &said {
+        Ok(text) => io::write_all(STDOUT_FILENO, text.bytes()),
+        Err(_) => true,
+    };
+    turn::after_write(said, written)
 }
 
 // The next line.

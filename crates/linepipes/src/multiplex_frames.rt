@@ -20,8 +20,9 @@ impl Run<'_> {
     // The next multiplex frame.
     fn take_frame(self, rt: HostRuntime, bytes: &mut [u8], out: &mut [u8]) -> Result<(), End> {
         fill(rt, bytes)?;
-        let n = steps::frame(self.job, self.settings, self.description, bytes, out)?;
-        turn::after_write(io::write_all(STDOUT_FILENO, &out[..n]))
+        let made = steps::frame(self.job, self.settings, self.description, bytes, out);
+        let written = io::write_all(STDOUT_FILENO, &out[..made.unwrap_or(0)]);
+        turn::after_write(made, written)
     }
 
     // Multiplex frames up to the first end.

@@ -133,5 +133,5 @@ module _ (plan : List Rule) (table : List ℕ) (h : plan_refusal plan 0 ≡ 0) (
       rw (zero-add (length ps)) at
       (after ps t 0 b (subst (λ u. Closing plan (scheme_at plan table u) u 1 b) (sym (add-zero t)) (begins t p a w r.0)) r.1)
 
-pub plan-followed : PlanFollowed
-plan-followed = record { hears = λ plan table t p ps a h pass w r. heard plan table h pass _ _ _ (from_first plan table h pass t p ps a w r) }
+pub plan_followed : PlanFollowed
+plan_followed = record { hears = λ plan table t p ps a h pass w r. heard plan table h pass _ _ _ (from_first plan table h pass t p ps a w r) }

@@ -7,12 +7,10 @@ use native.Mathlib.Numerals.{add-one}
 use native.Mathlib.Omega.{arith}
 use borrow.Author.Tests.{eq-eqb, ne_eqb, eqb-true, lt-ltb}
 use lib.Bits.{bit_and, and_mask}
-use borrow.Author.Rules.{sfits_of}
 use lib.Dec.{eqb}
 use lib.ListN.{length, get_or, drop, drop_of_length-le}
 use lib.Seq.{drop-cons}
 use lib.IntN.{ℤ, pos, negsuc}
-use lib.Signed.{mag}
 use mir.Syntax.{w16}
 use mir.Val.{SFits, to_z, of_z}
 use mir.Facts.{to_z-of_z}
@@ -57,11 +55,6 @@ bits_same v w f g = go (same_number v w) refl
         ne_eqb (of_z w16 v) (of_z w16 w) (λ h.
         let same : v ≡ w = sym (to_z-of_z {w = w16} f) ∙ ap (to_z w16) h ∙ to_z-of_z {w = w16} g in
         never_both (same_number v w) (rw same (same_number_refl w)) e)
-
--- numbers that were read from slices of signed 16-bit numbers
-pub same_read : (v w : ℤ) (r : Bool) → mag v < 2 ^ 15 → mag w < 2 ^ 15 → r ≡ same_number (to_z w16 (of_z w16 v)) (to_z w16 (of_z w16 w)) → r ≡ same_number v w
-same_read v w r f g e =
-    e ∙ rw (to_z-of_z {w = w16} (sfits_of {w = w16} {z = v} f), to_z-of_z {w = w16} (sfits_of {w = w16} {z = w} g))
 
 -- before the turn at place i of a loop that looks at every place: b, and the lists from there on are equal, exactly if the whole ones are
 module _ (x y : List ℤ) (i : ℕ) (b : Bool) (k : length x ≡ length y) where

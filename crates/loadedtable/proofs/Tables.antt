@@ -1,83 +1,57 @@
--- Laws of the test of a table: a rate's first row, the sum of its numbers, and the test in steps. Assumes nothing.
-use Prim.Native.Nat.{ℕ, suc, ◌+◌, ◌-◌, ◌*◌, ◌≤◌, ◌<◌}
-use mathlib.Core.Path.{◌≡◌, sym, ap, ◌∙◌}
+-- Laws of the test of a table: a rate's first row, its numbers and their sum, and the test in steps. Assumes nothing.
+use Prim.Native.Nat.{ℕ, ◌+◌, ◌-◌, ◌*◌, ◌≤◌, ◌<◌}
+use mathlib.Core.Path.{◌≡◌, refl, sym, ap, ◌∙◌}
 use mathlib.Core.Bool.{Bool, true, false}
-use mathlib.Core.List.{List}
-use native.Mathlib.Nat.{zero-add}
+use mathlib.Core.List.{List, [], ◌∷◌}
 use native.Mathlib.Omega.{arith}
-use borrow.Author.Tests.{eq-eqb, ne_eqb, eqb-true}
+use borrow.Author.Tests.{eq-eqb, ne_eqb}
 use lib.Dec.{eqb, ltb}
-use Rattle.std.specs.Prelude.{EachIndex, IsTrue, ◌↔◌}
 use lib.ListN.{length, get_or, take, drop, length-take, length-drop}
+use Rattle.std.specs.List.{sum_by}
 use Rattle.std.proofs.lemmas.List.{get_or-take, get_or-drop}
-use Rattle.lists.proofs.Bools.{table-is}
+use Rattle.std.proofs.lemmas.List.Sums.{sum_by-cons}
+use Rattle.lists.proofs.Tables.{table_ext, table_from, take-table}
 use Rattle.lists.specs.Lists.{table, total}
 use Rattle.lists.specs.Bools.{every}
 use Rattle.patterns.specs.Patterns.{RX, begins, entry}
 use Rattle.patterns.specs.Loaded.{table_size, numbers_of, rate_passes, passes}
 use Rattle.patterns.proofs.Loaded.{within}
 
--- row B0 begins where the rate does
-pub first_entry : (kept : List ℕ) (rate i at : ℕ) → at ≡ begins rate → get_or kept (at + i) 0 ≡ entry kept rate 0 i
+-- row B0 of a rate is all ones exactly if each number of the code's slice is
+pub first_row : (kept : List ℕ) (rate at width : ℕ) → length kept ≡ table_size → rate < 13 → at ≡ begins rate → width ≡ RX rate
+    → every (table (λ k. eqb (get_or (take (at + width - at) (drop at kept)) k 0) 1) 0 (length (take (at + width - at) (drop at kept))))
+    ≡ every (table (λ i. eqb (entry kept rate 0 i) 1) 0 (RX rate))
 unfolding entry
-first_entry kept rate i at e = ap (λ k. get_or kept k 0) (omega arith)
-
--- a row of a table is all ones exactly if each of its numbers is one
-pub first_row-is : (kept : List ℕ) (rate at width : ℕ) (b : Bool) → length kept ≡ table_size → rate < 13 → at ≡ begins rate → width ≡ RX rate
-    → IsTrue b ↔ EachIndex (take (at + width - at) (drop at kept)) (λ k. get_or (take (at + width - at) (drop at kept)) k 0 ≡ 1)
-    → b ≡ every (table (λ i. eqb (entry kept rate 0 i) 1) 0 (RX rate))
-first_row-is kept rate at width b l h ea ew e = go (take (at + width - at) (drop at kept)) long same e
+first_row kept rate at width l h ea ew =
+    rw long (ap every (table_ext (λ k. eqb (get_or row k 0) 1) (λ i. eqb (get_or kept (begins rate + 0 * RX rate + i) 0) 1) 0 (RX rate) same))
   where
-    long : length (take (at + width - at) (drop at kept)) ≡ RX rate
+    row : List ℕ
+    row = take (at + width - at) (drop at kept)
+
+    long : length row ≡ RX rate
     long = simp (length-take, length-drop) (omega (arith, within rate h))
 
-    same : (i : ℕ) → i < RX rate → get_or (take (at + width - at) (drop at kept)) i 0 ≡ entry kept rate 0 i
-    same i q = get_or-take (at + width - at) (drop at kept) i 0 (omega arith) ∙ get_or-drop at kept i 0 ∙ first_entry kept rate i at ea
+    same : (i : ℕ) → 0 ≤ i → i < 0 + RX rate → eqb (get_or row i 0) 1 ≡ eqb (get_or kept (begins rate + 0 * RX rate + i) 0) 1
+    same i _ q =
+        let k : at + i ≡ begins rate + 0 * RX rate + i = omega arith in
+        ap (λ n. eqb n 1) (get_or-take (at + width - at) (drop at kept) i 0 (omega arith) ∙ get_or-drop at kept i 0 ∙ ap (λ k. get_or kept k 0) k)
 
-    go : (r : List ℕ) → length r ≡ RX rate → ((i : ℕ) → i < RX rate → get_or r i 0 ≡ entry kept rate 0 i)
-        → IsTrue b ↔ EachIndex r (λ k. get_or r k 0 ≡ 1) → b ≡ every (table (λ i. eqb (entry kept rate 0 i) 1) 0 (RX rate))
-    go r n s e =
-        table-is (λ i. eqb (entry kept rate 0 i) 1) (λ i. get_or r i 0 ≡ 1) (RX rate) b
-        (λ i q t. eq-eqb (entry kept rate 0 i) 1 (sym (s i q) ∙ t)) (λ i q t. s i q ∙ eqb-true (entry kept rate 0 i) 1 t) (rw n at e)
-
--- what a loop that adds a rate's numbers knows at number k: the sum so far and what is left are the whole
-pub record Counts (kept : List ℕ) (rate end k sum : ℕ) : Type 0 where
-  pub whole : sum + total (table (λ i. get_or kept i 0) k (end - k)) ≡ total (numbers_of kept rate)
-  pub within : end ≤ length kept
-  pub place : begins rate ≤ k
-  pub small : sum ≤ 255 * (k - begins rate)
-
-pub counts_start : (kept : List ℕ) (rate at end : ℕ) → length kept ≡ table_size → rate < 13 → at ≡ begins rate → end ≡ at + 4 * RX rate → Counts kept rate end at 0
+-- the numbers of a rate are the code's slice
+pub numbers-sliced : (kept : List ℕ) (rate at width : ℕ) → length kept ≡ table_size → rate < 13 → at ≡ begins rate → width ≡ RX rate
+    → take (at + 4 * width - at) (drop at kept) ≡ numbers_of kept rate
 unfolding numbers_of
-counts_start kept rate at end l h ea ee =
-    let n : end - at ≡ 4 * RX rate = omega arith in
-    record {
-      whole = rw (n, ea) (zero-add (total (table (λ i. get_or kept i 0) (begins rate) (4 * RX rate))));
-      within = omega (arith, within rate h);
-      place = omega arith;
-      small = omega arith;
-    }
+numbers-sliced kept rate at width l h ea ew =
+    let n : at + 4 * width - at ≡ 4 * RX rate = omega arith in
+    rw (n, ea)
+    (sym (take-table 0 (drop (begins rate) kept) (4 * RX rate) (simp length-drop (omega (arith, within rate h))))
+    ∙ table_ext (λ i. get_or (drop (begins rate) kept) i 0) (λ i. get_or kept (begins rate + i) 0) 0 (4 * RX rate) (λ i _ _. get_or-drop (begins rate) kept i 0)
+    ∙ sym (table_from (λ k. get_or kept k 0) (begins rate) (4 * RX rate)))
 
-pub counts_turn : {kept : List ℕ} {rate end k sum : ℕ} (v : ℕ) → Counts kept rate end k sum → k < end → v ≡ get_or kept k 0 → v < 256
-    → Counts kept rate end (k + 1) (sum + v)
-unfolding table total
-counts_turn {kept} {rate} {end} {k} {sum} v C h e b =
-    let n : end - k ≡ suc (end - suc k) = omega arith in
-    let s : suc k ≡ k + 1 = omega arith in
-    let w : sum + total (table (λ i. get_or kept i 0) k (suc (end - suc k))) ≡ total (numbers_of kept rate) = rw n at C.whole in
-    record {
-      whole = rw (e, ← s) (omega (arith, w));
-      within = C.within;
-      place = omega (arith, C.place);
-      small = omega (arith, C.place, C.small);
-    }
-
-pub counts_end : {kept : List ℕ} {rate end k sum : ℕ} → Counts kept rate end k sum → end ≤ k → sum ≡ total (numbers_of kept rate)
-unfolding table total
-counts_end {kept} {rate} {end} {k} {sum} C h =
-    let n : end - k ≡ 0 = omega arith in
-    let w : sum + total (table (λ i. get_or kept i 0) k 0) ≡ total (numbers_of kept rate) = rw n at C.whole in
-    omega (arith, w)
+-- the code's sum is the definition's
+pub sum-total : (f : ℕ → ℕ) (xs : List ℕ) → ((n : ℕ) → f n ≡ n) → sum_by f xs ≡ total xs
+unfolding total
+sum-total f [] e = refl
+sum-total f (x ∷ xs) e = rw (sum_by-cons f x xs, e x, sum-total f xs e)
 
 -- the test in three steps, as the code takes them
 abbrev bits_only : List ℕ → ℕ → Bool

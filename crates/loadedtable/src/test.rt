@@ -1,9 +1,8 @@
 // Whether a table that was loaded passes. 02 S-11.
-ghost use Rattle.std.specs.Prelude.{◌≡◌, ◌<◌, length, get_or, eqb, ltb};
+ghost use Rattle.std.specs.Prelude.{◌≡◌, ◌≤◌, ◌<◌, length, get_or, eqb, ltb};
 ghost use Rattle.lists.specs.Lists.{table, total};
 ghost use Rattle.lists.specs.Bools.{every};
-ghost use Rattle.patterns.specs.Patterns.{RX, entry};
-ghost use Rattle.patterns.specs.Loaded.{numbers_of, rate_passes, passes};
+ghost use Rattle.patterns.specs.Loaded.{table_size, rate_passes, passes};
 
 use patterns::table::{TABLE_SIZE, begins, denominator, numerator};
 
@@ -14,36 +13,30 @@ fn bits_only(kept: &[u8; TABLE_SIZE]) -> bool
     kept.iter().all(|number| *number < 2)
 }
 
-// Row B0 of a rate is all ones.
-fn first_row(kept: &[u8; TABLE_SIZE], rate: usize) -> bool
-    requires { rate < 13 }
-    ensures { result ≡ every (table (λ i. eqb (entry kept.now rate 0 i) 1) 0 (RX rate)) }
+// Every number of a row is 1.
+fn all_ones(row: &[u8]) -> bool
+    ensures { result ≡ every (table (λ k. eqb (get_or row.now k 0) 1) 0 (length row.now)) }
 {
-    let width = numerator(rate);
-    let at = begins(rate);
-    kept[at..at + width].iter().all(|number| *number == 1)
+    row.iter().all(|number| *number == 1)
 }
 
 // The sum of a rate's numbers.
-fn count(kept: &[u8; TABLE_SIZE], rate: usize) -> usize
-    requires { rate < 13 }
-    ensures { result ≡ total (numbers_of kept.now rate) }
+fn sum(numbers: &[u8]) -> usize
+    requires { length numbers.now ≤ table_size }
+    ensures { result ≡ total numbers.now }
 {
-    let at = begins(rate);
-    let end = at + 4 * numerator(rate);
-    let mut sum = 0;
-    for k in at..end {
-        sum += usize::from(kept[k]);
-    }
-    sum
+    numbers.iter().map(|number| usize::from(*number)).sum()
 }
 
+// Stays: the rate is a number as in `patterns::table`, whose line says why.
 // Row B0 of a rate is all ones, and it keeps as many bits as its denominator says.
 fn rate_passes(kept: &[u8; TABLE_SIZE], rate: usize) -> bool
     requires { rate < 13 }
     ensures { result ≡ rate_passes kept.now rate }
 {
-    first_row(kept, rate) && count(kept, rate) == denominator(rate)
+    let at = begins(rate);
+    let width = numerator(rate);
+    all_ones(&kept[at..at + width]) && sum(&kept[at..at + 4 * width]) == denominator(rate)
 }
 
 // Every rate passes.

@@ -3,13 +3,13 @@ use Prim.Native.Nat.{ℕ, ◌+◌, ◌*◌, ◌/◌, ◌%◌, ◌≤◌, ◌<◌
 use mathlib.Core.Path.{◌≡◌, refl, sym, ap, ◌∙◌}
 use mathlib.Core.Bool.{Bool, true, false, not, ◌&&◌}
 use mathlib.Core.List.{List}
-use native.Mathlib.Nat.{div-add-mod, mul-div_cancel_left, mul-mod_right, div-lt_iff_lt-mul, mul_comm, mul_assoc, mod-lt}
+use native.Mathlib.Nat.{div-lt_iff_lt-mul, mul_comm, mul_assoc, mod-lt}
 use native.Mathlib.Omega.{arith}
 use lib.Dec.{eqb}
 use lib.ListN.{length, get_or}
 use lib.IntN.{ℤ, pos}
 use lib.Ieee.{Float}
-use borrow.Author.Tests.{eq-eqb, ne_eqb, eqb-true, eqb-false, not-false}
+use borrow.Author.Tests.{eq-eqb, eqb-true, not-false}
 use Rattle.lists.proofs.Bools.{never_both, and_left, and_right, table-every}
 use Rattle.lists.proofs.Tables.{Filled, filled_end, length-table, get_or-table}
 use Rattle.settings.specs.declared.Settings.{Settings}
@@ -25,21 +25,6 @@ use Rattle.decision.specs.Cells.{refused_cell, point_on}
 use Rattle.measured.specs.Calls.{axis_bits, cell_at, pass_at, pass, point_at, points_of, bit_at, bits_of, constellation_of, DecideYield, decide_yield, decide_refusal, decide_by, decide_of}
 use Rattle.measured.specs.Clauses.{Lent, PointsFit, BitFits, BitsFit}
 use Rattle.lists.proofs.Tests.{Tested, tested_turn, tested_stop}
-
--- as many elements as `each` for each of n, by the division
-pub each_of : (m each n : ℕ) → 1 ≤ each → (eqb (m % each) 0 && eqb (m / each) n) ≡ eqb m (each * n)
-each_of m each n h = go (eqb m (each * n)) refl
-  where
-    other : (m ≡ each * n → ⊥) → (b : Bool) → eqb (m % each) 0 ≡ b → (b && eqb (m / each) n) ≡ false
-    other k true e =
-        ne_eqb (m / each) n (λ q. k (let z : each * (m / each) ≡ each * n = ap (λ i. each * i) q in omega (arith, div-add-mod m each, eqb-true (m % each) 0 e)))
-    other k false e = refl
-
-    go : (b : Bool) → eqb m (each * n) ≡ b → (eqb (m % each) 0 && eqb (m / each) n) ≡ b
-    go true e =
-        let q = eqb-true m (each * n) e in
-        rw (q, mul-mod_right each n, mul-div_cancel_left n h) (eq-eqb n n refl)
-    go false e = other (eqb-false m (each * n) e) (eqb (m % each) 0) refl
 
 -- the number of a bit
 pub number_low : (j each n : ℕ) → 1 ≤ each → j < 2 * each * n → j / each < 2 * n
@@ -126,9 +111,6 @@ bits-some Qam16 w e = omega arith
 bits-some Sm64 w e = omega arith
 bits-some HmSym w e = omega arith
 bits-some HmMix w e = omega arith
-
-pub lent_two : (kinds : List ℕ) (values : List Float) (a : Bool) → a ≡ eqb (length values) (2 * length kinds) → a ≡ true → Lent kinds values
-lent_two kinds values a e f = record { two = eqb-true _ _ (sym e ∙ f) }
 
 -- the number that is given, by the first test that fails
 module _ (c : Constellation) (kinds : List ℕ) (values : List Float) (points bits : ℕ) (a : Bool) (ea : a ≡ eqb (length values) (2 * length kinds)) where

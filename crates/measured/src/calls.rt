@@ -1,8 +1,7 @@
 // The call: cells as kinds and values to points and bits. 02, S-10.
 // Stays, in this module: buffers stand one by one, since a clause would name one in a struct `cells.now.kinds.now` and not `kinds.now`.
-ghost use Rattle.std.specs.Prelude.{◌≡◌, ◌*◌, ◌≤◌, eqb};
+ghost use Rattle.std.specs.Prelude.{◌≡◌, ◌*◌, ◌≤◌, ◌<◌, eqb};
 ghost use Rattle.refusal.specs.Numbers.{answer};
-ghost use Rattle.settings.specs.Accepted.{Accepted};
 ghost use Rattle.measured.specs.Calls.{constellation_of, axis_bits, cell_at, pass, points_of, bit_at, bits_of, decide_yield, decide_refusal, decide_by, decide_of};
 ghost use Rattle.measured.specs.Clauses.{HasCell, Lent, PointsFit, BitFits, BitsFit};
 
@@ -17,7 +16,7 @@ use settings::{Settings, refusals};
 // The constellation of a channel's cells.
 #[tactic(auto, unfolding(crate::specs::Calls::constellation_of))]
 fn constellation_of(channel: Channel, s: Settings) -> Constellation
-    requires { Accepted s }
+    requires { s.msc < 4 }
     ensures { result ≡ constellation_of channel s }
 {
     match channel {

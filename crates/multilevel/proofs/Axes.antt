@@ -1,18 +1,25 @@
 -- At most three levels at a time: those of both axes, or those of one. Assumes nothing.
-use Prim.Native.Nat.{ℕ, ◌*◌, ◌/◌, ◌≤◌}
-use mathlib.Core.Path.{◌≡◌, sym, ◌∙◌}
-use mathlib.Core.Bool.{true, false, cond}
+use Prim.Native.Nat.{ℕ, ◌*◌, ◌/◌, ◌≤◌, ◌<◌}
+use mathlib.Core.Path.{◌≡◌, sym, ap, ◌∙◌}
+use mathlib.Core.Bool.{true, false, cond, true≢false}
+use mathlib.Core.Logic.{◌⊎◌, inl, inr}
 use mathlib.Core.List.{List}
 use native.Mathlib.Omega.{arith}
 use lib.ListN.{length}
+use Rattle.lists.proofs.Counting.{below_or}
 use Rattle.block.specs.declared.Block.{Block}
-use Rattle.block.specs.Mapping.{is_mixed}
+use Rattle.block.specs.Mapping.{numbered, is_mixed}
 use Rattle.block.specs.Block.{one_axis}
 use Rattle.block.specs.Fits.{BlockFits}
 use Rattle.blockplaces.specs.Clauses.{BlockOrder}
 use Rattle.multilevel.specs.Clauses.{PartsOf, FewLevels}
 use Rattle.blockplaces.proofs.Levels.{count_is, three}
 use Rattle.multilevel.proofs.Totals.{few_levels}
+
+-- number 4 is the constellation that has two labellings
+mixed_four : (n : ℕ) → n ≡ 4 → is_mixed (numbered n) ≡ false → ⊥
+unfolding numbered
+mixed_four n e f = true≢false (rw e at f)
 
 module _ {k : Block} (F : BlockFits k) (one : one_axis k ≡ false) where
   pub few : k.count ≤ 3
@@ -22,6 +29,16 @@ module _ {k : Block} (F : BlockFits k) (one : one_axis k ≡ false) where
   pub alike : is_mixed k.constellation ≡ false
   unfolding one_axis
   alike = one
+
+  -- the constellation's number is below 4, the number of the one that has two labellings
+  pub alike_low : (n : ℕ) → n < 5 → numbered n ≡ k.constellation → n < 4
+  alike_low n h e = go (below_or n 4)
+    where
+      go : (n < 4) ⊎ (4 ≤ n) → n < 4
+      go (inl l) = l
+      go (inr l) =
+          let four : n ≡ 4 = omega arith in
+          absurd (mixed_four n four (ap is_mixed e ∙ alike))
 
   -- all of them
   pub both_levels : {order a b labels : List ℕ} → PartsOf k a b → BlockOrder k order → length labels ≡ 2 * k.cells

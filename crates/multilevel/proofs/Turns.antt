@@ -57,6 +57,10 @@ module _ {one : Bool} {ls : List Level} {n : ℕ} {order a b : List ℕ} {first 
   pub weight_low : w ≤ 4
   weight_low = let f : 2 ≤ 2 ^ m = pow_mono {i = 1} {j = m} h in omega (arith, T.weight, mul-le-mul_left w f)
 
+  -- the next level can be counted
+  pub next_near : {labels : List ℕ} → FewLevels one ls first s count order a b labels → l + s ≤ 16
+  next_near F = omega (arith, T.near, mul-le-mul_left {m = 1} {n = m} s h, mul-le-mul_left {m = count} {n = 3} s F.three, F.near.0, F.near.1)
+
   pub next_turn : Turn one ls n order a b first s count (l + s) (2 * w) (m - 1)
   next_turn =
       let f : m ≡ suc (m - 1) = omega arith in

@@ -1,12 +1,14 @@
 // The levels of a block coded and added up as labels. 01 "Partition" and "Mapping".
-// Stays, in this module: buffers stand one by one; with a struct of `&mut` a clause must also say that each reference is still the same one.
+// Stays, in this module: buffers that are written are lent as `&mut`; with a struct of these a clause must also say that each reference is still the
+// same one. An `Order` in place of a block and places would ask for the places of every level, where `CodesLevels` asks for those of the levels from
+// `first` on alone; docs/DECISIONS.md names `code_levels`.
 ghost use Rattle.std.specs.Prelude.{◌≡◌, length};
 ghost use Rattle.blockplaces.specs.Clauses.{shared, digits};
 ghost use Rattle.multilevel.specs.Clauses.{stream_at, coded_over_at, labels_from, levels_over, CodesAt, CodesLevels};
 ghost use Rattle.labels.specs.Clauses.{added};
 ghost use Rattle.block.specs.Block.{one_axis};
 
-use crate::places::bits_before;
+use crate::places::{Part, bits_before};
 use block::Block;
 use blockplaces::tables::{digit, sharing};
 use level::code::code_level;
@@ -27,8 +29,8 @@ fn code_at(
     ensures coded_after { coded.new ≡ coded_over_at k.levels a.now b.now l coded.old }
 {
     let level = k.levels[l];
-    let at = bits_before(k, false, l);
-    let from = bits_before(k, true, l);
+    let at = bits_before(k, Part::A, l);
+    let from = bits_before(k, Part::B, l);
     let start = digit(k, l) * labels.len();
     code_level(
         level,

@@ -1,12 +1,14 @@
 // The levels of a block read from labels, each from the bits with its weight. 01 "Operations".
-// Stays, in this module: buffers stand one by one; with a struct of `&mut` a clause must also say that each reference is still the same one.
+// Stays, in this module: buffers that are written are lent as `&mut`; with a struct of these a clause must also say that each reference is still the
+// same one. An `Order` in place of a block and places would ask for the places of every level, where `ReadsLevels` asks for those of the levels from
+// `first` on alone; docs/DECISIONS.md names `read_levels`.
 ghost use Rattle.std.specs.Prelude.{◌≡◌};
 ghost use Rattle.block.specs.Reading.{taken};
 ghost use Rattle.blockplaces.specs.Clauses.{level_at, shared, digits};
 ghost use Rattle.level.specs.Clauses.{taken_over};
 ghost use Rattle.multilevel.specs.Clauses.{taken_overs, part_a, part_b, ReadsAt, ReadAt, ReadsLevels, LevelsRead};
 
-use crate::places::bits_before;
+use crate::places::{Part, bits_before};
 use block::Block;
 use blockplaces::tables::{digit, sharing};
 use level::read::read_level;
@@ -27,8 +29,8 @@ fn read_at(
     ensures coded_after { coded.new ≡ taken_over (level_at k.levels l) (taken weight labels.now) coded.old }
 {
     let level = k.levels[l];
-    let at = bits_before(k, false, l);
-    let from = bits_before(k, false, k.count) + bits_before(k, true, l);
+    let at = bits_before(k, Part::A, l);
+    let from = bits_before(k, Part::A, k.count) + bits_before(k, Part::B, l);
     let start = digit(k, l) * labels.len();
     read_level(
         level,

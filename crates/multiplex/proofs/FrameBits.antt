@@ -52,9 +52,6 @@ module _ {l : Layout} (head parts frame buffer : List ℕ) (P : PutsBits l parts
     long_part : length part ≡ ends
     long_part = ap length whole ∙ rw (length-append (unpacked l.vspp head) (unpacked l.rest parts), length-unpacked l.vspp head, length-unpacked l.rest parts)
 
-    pub put_room : ends ≤ length (part ++ drop (ends - 0) buffer)
-    put_room = rw (length-written buffer part ends inside long_part) inside
-
     pub put_packs : Packs (take (ends - 0) (part ++ drop (ends - 0) buffer)) frame
     put_packs =
         rw (written-front part buffer ends long_part)
@@ -63,9 +60,6 @@ module _ {l : Layout} (head parts frame buffer : List ℕ) (P : PutsBits l parts
           few = omega (arith, long_part, P.small);
           same = rw long_part P.long;
         })
-
-    pub put_packed : {x : List ℕ} → x ≡ packed (take (ends - 0) (part ++ drop (ends - 0) buffer)) → x ≡ packed (unpacked l.vspp head ++ unpacked l.rest parts)
-    put_packed q = q ∙ ap packed (written-front part buffer ends long_part ∙ whole)
 
 -- a packed frame in a working buffer
 module _ (n : ℕ) (frame buffer : List ℕ) (inside : n ≤ length buffer) {part : List ℕ} (e : part ≡ unpacked (length (take (n - 0) buffer)) frame) where

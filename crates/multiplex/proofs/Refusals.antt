@@ -1,6 +1,6 @@
 -- The two calls, accepted and refused. Assumes nothing.
 use Prim.Native.Nat.{ℕ}
-use mathlib.Core.Path.{◌≡◌, refl, ◌∙◌}
+use mathlib.Core.Path.{◌≡◌, refl}
 use mathlib.Core.Bool.{Bool, true, false, cond, not}
 use mathlib.Core.List.{List}
 use native.Mathlib.Omega.{arith}
@@ -47,10 +47,6 @@ module _ (s : Settings) (d streams frame : List ℕ) where
       }
 
   -- the refusals of that call, from the tests that find them
-  pub build_settings : {r : ℕ} → r ≡ refusal s → (r ≡ 0 → ⊥) → r ≡ build_refusal s d streams frame
-  unfolding build_refusal
-  build_settings e h = e ∙ own (refusal s) _ (λ z. h (e ∙ z))
-
   module _ (ok : refusal s ≡ 0) where
     pub build_numbers : {b : Bool} → b ≡ described (length d) → not b ≡ true → 9 ≡ build_refusal s d streams frame
     unfolding build_refusal first
@@ -120,10 +116,6 @@ module _ (s : Settings) (d frame streams : List ℕ) where
         fit = not-false _ (first_passes _ 19 _ (lit≤ tt) h₅);
         zero = not-false _ (first_passes _ 20 0 (lit≤ tt) h₆);
       }
-
-  pub read_settings : {r : ℕ} → r ≡ refusal s → (r ≡ 0 → ⊥) → r ≡ read_refusal s d frame streams
-  unfolding read_refusal
-  read_settings e h = e ∙ own (refusal s) _ (λ z. h (e ∙ z))
 
   module _ (ok : refusal s ≡ 0) where
     pub read-numbers : {b : Bool} → b ≡ described (length d) → not b ≡ true → 9 ≡ read_refusal s d frame streams

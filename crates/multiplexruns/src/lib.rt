@@ -4,7 +4,7 @@
 ghost use Rattle.multiplexruns.specs.SameStreams.{SameStreams};
 
 // Between closed runs streams and fillings are equal exactly when the MSC cells are.
-// Stays: a theorem on frames of the same streams; nothing is compared.
+#[tactic(auto, using(crate::proofs::Splits::same_streams))]
 pub fn same_streams()
     ensures { SameStreams }
 {}

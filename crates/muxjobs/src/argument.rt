@@ -1,19 +1,25 @@
 // DESCRIPTION, the third argument of `desk mux` and `desk demux`.
 ghost use Rattle.std.specs.Prelude.{◌≡◌, ◌<◌, ◌≤◌, IfSome};
-ghost use Rattle.muxjobs.specs.Argument.{with_digit, read, read_word, description_of};
+ghost use Rattle.std.specs.Option.{unwrap_or};
+ghost use Rattle.muxjobs.specs.Argument.{spoilt, with_digit, read, read_word, description_of, description_in};
 
 use crate::Description;
 use multiplex::description::described;
 use numerals::numbers::is_digit;
 
 // A word of decimal numbers joined by commas, as far as it is read.
-// Stays: `at` is the place of the number at hand, and a `Vec` would take the numbers from the heap, from which this project takes nothing.
+// Stays: `at` is the place of the number at hand, and a `Vec` would take the numbers from the heap, from which this project takes nothing. `numerals` `Scan`
+// looks alike, but parts numbers by spaces, takes fourteen and holds one that is too large: a step for both would be handed the byte, the count and how a
+// number grows.
 #[derive(Clone, Copy)]
 pub struct Reading {
     pub values: [u16; 8],
     pub at: usize,
     // Whether the number at hand has a digit.
     pub digit: bool,
+    // Whether every byte was in place and no number too large.
+    // Stays: `read_through` promises the numbers of every word, so that no `Option` of them says it.
+    pub good: bool,
 }
 
 impl Reading {
@@ -22,7 +28,7 @@ impl Reading {
     fn with_digit(mut self, digit: u8) -> Option<Reading>
         requires at_bound { self.at < 8 }
         requires digit_bound { digit < 10 }
-        ensures value { result ≡ with_digit self digit }
+        ensures value { unwrap_or result (spoilt self) ≡ with_digit self digit }
         ensures kept { IfSome result (λ r. r.at < 8) }
     {
         let tens = self.values[self.at].checked_mul(10)?;
@@ -35,7 +41,7 @@ impl Reading {
     #[tactic(auto, using(numerals::proofs::Scanning::digit_range), unfolding(crate::specs::Argument::read, crate::specs::Argument::with_comma))]
     fn read(mut self, byte: u8) -> Option<Reading>
         requires { self.at < 8 }
-        ensures value { result ≡ read self byte }
+        ensures value { unwrap_or result (spoilt self) ≡ read self byte }
         ensures kept { IfSome result (λ r. r.at < 8) }
     {
         if is_digit(byte) {
@@ -48,38 +54,57 @@ impl Reading {
         }
         None
     }
+
+    // The same numbers, of a word that is no description.
+    fn spoilt(self) -> Reading
+        ensures { result ≡ spoilt self }
+    {
+        Reading {
+            good: false,
+            ..self
+        }
+    }
 }
 
-// The numbers of a word.
-fn read_word(word: &[u8]) -> Option<Reading>
+// The numbers of a word, past each byte out of place and each digit that 16 bits have no room for.
+fn read_word(word: &[u8]) -> Reading
     ensures value { result ≡ read_word word.now }
-    ensures kept { IfSome result (λ r. r.at < 8) }
+    ensures at_bound { result.at < 8 }
 {
     let mut reading = Reading {
         values: [0; 8],
         at: 0,
         digit: false,
+        good: true,
     };
     for byte in word {
-        reading = reading.read(*byte)?;
+        reading = reading.read(*byte).unwrap_or(reading.spoilt());
     }
-    Some(reading)
+    reading
+}
+
+// The numbers of a word as far as they are read, and how many of them count: none where the word is no description.
+pub fn read_through(word: &[u8]) -> Description
+    ensures value { result ≡ description_of word.now }
+    ensures count_bound { result.count ≤ 8 }
+{
+    let reading = read_word(word);
+    let count = reading.at + 1;
+    let whole = (word.len() < 64) & ((reading.good & reading.digit) & described(count));
+    let values = reading.values;
+    let count = if whole { count } else { 0 };
+    Description { values, count }
 }
 
 // The description that a word is.
-#[tactic(auto, using(crate::proofs::Told::word_long, crate::proofs::Told::word_unread, crate::proofs::Told::word_whole, crate::proofs::Told::word_none))]
+#[tactic(auto, unfolding(crate::specs::Argument::description_in))]
 pub fn description(word: &[u8]) -> Option<Description>
-    ensures value { result ≡ description_of word.now }
+    ensures value { result ≡ description_in word.now }
     ensures count_bound { IfSome result (λ d. d.count ≤ 8) }
 {
-    if 64 <= word.len() {
+    let read = read_through(word);
+    if read.count == 0 {
         return None;
     }
-    let reading = read_word(word)?;
-    let count = reading.at + 1;
-    if !(reading.digit & described(count)) {
-        return None;
-    }
-    let values = reading.values;
-    Some(Description { values, count })
+    Some(read)
 }

@@ -7,7 +7,7 @@ pub mod steps;
 // No multiplex frame of any settings has more bytes, nor have its streams.
 pub const MOST_BYTES: usize = 4589;
 
-// The numbers of a description: the first `count` of an array, two for each of one to four streams.
+// The numbers of a description: the first `count` of an array, two for each of one to four streams, and none of them where the word is no description.
 // Stays: a `Vec` would take its numbers from the heap, from which this project takes nothing.
 #[derive(Clone, Copy)]
 pub struct Description {

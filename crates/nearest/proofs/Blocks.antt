@@ -1,6 +1,6 @@
 -- The FAC block as an instance of the search. Assumes nothing.
 use Prim.Native.Nat.{ℕ, zero, suc, ◌<◌}
-use mathlib.Core.Path.{◌≡◌, refl, sym, ap, ap₂, ◌∙◌}
+use mathlib.Core.Path.{◌≡◌, refl, sym, ap₂, ◌∙◌}
 use mathlib.Core.List.{List, [], ◌∷◌, ◌++◌}
 use native.Mathlib.Omega.{arith}
 use lib.ListN.{length, get_or, replicate, get_or-append}
@@ -22,14 +22,13 @@ use Rattle.interleaver.specs.Deinterleaving.{Cycles, deinterleaved}
 use Rattle.interleaver.specs.Tables.{places, Tabulates}
 use Rattle.interleaver.proofs.Places.{place_low}
 use Rattle.partlengths.specs.Formulas.{fac_bits}
-use Rattle.block.specs.Packing.{packed}
 use Rattle.block.specs.Dispersal.{p, dispersed}
 use Rattle.block.proofs.Dispersal.{p_bit}
 use Rattle.block.proofs.Lists.{bits-table}
 use Rattle.trellis.specs.Nearest.{disagreement, nearest}
 use Rattle.nearest.specs.Coded.{added, coded, fac_flips, fac_coded, fac_sent}
 use Rattle.nearest.specs.Fac.{fac_nearest}
-use Rattle.nearest.specs.Clauses.{SearchesWith, Found, Long, Receives, Nearby, NearbyBits}
+use Rattle.nearest.specs.Clauses.{SearchesWith, Found, Long, Receives, NearbyBits}
 use Rattle.nearest.proofs.Cheapest.{cheapest_same, cheapest-bits, cheapest_long}
 use Rattle.nearest.proofs.FourValues.{length-added}
 use Rattle.nearest.proofs.Order.{order_disagrees}
@@ -119,9 +118,6 @@ packs {received} R N =
       few = rw length-nearest (omega arith);
       same = rw length-nearest R.room;
     })
-
-pub nearby : {received bits block' : List ℕ} {count : ℕ} → NearbyBits received bits count → block' ≡ packed bits → Nearby received block' count
-nearby N e = record { bytes = e ∙ ap packed N.block; counted = N.counted }
 
 -- the table of places that putting the values back needs
 pub tabulates : {places : List ℕ} (received : List ℕ) → length received ≡ 130 → Long 131 places → Tabulates 21 (length received) places

@@ -12,7 +12,7 @@ use Rattle.component.specs.Bits.{Bits}
 use Rattle.component.specs.Register.{next}
 use Rattle.component.proofs.Bits.{bits-rest}
 use Rattle.component.proofs.Register.{next_low}
-use Rattle.nearest.specs.Clauses.{chosen, led, Chooses, Chosen, Follows}
+use Rattle.nearest.specs.Clauses.{chosen, led, Chooses, Follows}
 use Rattle.trellis.specs.Clauses.{choice, Costs, Choices, Steps, Stepped}
 
 -- before the turn at bit j - 1: the costs at bit j, and the choices from there on
@@ -22,16 +22,6 @@ pub record Choosing (flips values words₀ words : List ℕ) (j : ℕ) (costs : 
   pub costs_here : Costs (drop j flips) (drop (4 * j) values) costs
   pub choices : (k : ℕ) → j ≤ k → k < length flips
       → Choices (get_or flips k 0) (drop (suc k) flips) (drop (4 * k) values) (get_or words k 0)
-
-pub choosing_start : (flips values words costs : List ℕ) → Costs [] (drop (4 * length flips) values) costs
-    → Choosing flips values words words (length flips) costs
-choosing_start flips values words costs C =
-    record {
-      turns = omega arith;
-      same = refl;
-      costs_here = rw (drop-length flips) C;
-      choices = λ k h l. absurd (omega arith);
-    }
 
 module _ {flips values words₀ words : List ℕ} {j : ℕ} {costs : List ℕ} (R : Chooses flips values words₀)
     (E : Choosing flips values words₀ words j costs) where
@@ -63,15 +53,6 @@ module _ {flips values words₀ words : List ℕ} {j : ℕ} {costs : List ℕ} (
       at k m (inr l) =
           rw (get_or-set_other words (j - 1) k word 0 (omega arith)) (E.choices k (omega arith) m)
 
-  pub choosing_done : j ≤ 0 → Chosen flips values words (get_or costs 0 0)
-  choosing_done h =
-      let e : j ≡ 0 = omega arith in
-      record {
-        same = E.same ∙ R.same;
-        least = (rw e at E.costs_here).least 0 (omega arith);
-        choices = λ k m. E.choices k (omega arith) m;
-      }
-
 -- words of choices lead through the bits chosen
 pub led-chosen : (r : ℕ) (fs ws vs : List ℕ) → r < 128 → Bits fs
     → ((k : ℕ) → k < length fs → Choices (get_or fs k 0) (drop (suc k) fs) (drop (4 * k) vs) (get_or ws k 0))
@@ -96,9 +77,6 @@ pub record Following (flips words out₀ out : List ℕ) (r j : ℕ) : Type 0 wh
   pub turns : j ≤ length flips
   pub same : length out ≡ length out₀
   pub written : take j out ++ led r (drop j flips) (drop j words) ≡ led 0 flips words
-
-pub following-start : (flips words out : List ℕ) → Following flips words out out 0 0
-following-start flips words out = record { seven = omega arith; turns = omega arith; same = refl; written = refl }
 
 module _ {flips words out₀ out : List ℕ} {r j : ℕ} (R : Follows flips words out₀) (E : Following flips words out₀ out r j) where
   pub following_turn : {b r' : ℕ} → j < length flips

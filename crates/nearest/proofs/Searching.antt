@@ -7,7 +7,6 @@ use lib.ListN.{length, take, drop, length-append}
 use Rattle.lists.proofs.Parts.{length-start, length-written, front-written}
 use Rattle.patterns.specs.declared.Pattern.{Pattern}
 use Rattle.patterns.specs.Clauses.{pattern_of}
-use Rattle.patterns.proofs.Patterns.{lent}
 use Rattle.trellis.specs.Nearest.{nearest}
 use Rattle.nearest.specs.Coded.{coded}
 use Rattle.nearest.specs.Clauses.{restored, led, Restores, Chooses, Chosen, Follows, Searches, SearchesWith, Found, Long}
@@ -41,20 +40,11 @@ module _ {p t flips words : List ℕ} (received : List ℕ) (R : Searches p t fl
     values_long : length part ≡ 4 * length flips + 24
     values_long = ap length values_are ∙ length-restored p t (length flips) received
 
-    pub values_room : 4 * length flips + 24 ≤ length (part ++ drop (4 * length flips + 24 - 0) buffer)
-    values_room =
-        rw (length-written buffer part (4 * length flips + 24) (omega (arith, R.few, L.long)) values_long) (omega (arith, R.few, L.long))
-
     front : take (4 * length flips + 24 - 0) (part ++ drop (4 * length flips + 24 - 0) buffer) ≡ part
     front = front-written buffer part (4 * length flips + 24) (omega (arith, R.few, L.long)) values_long
 
     pub chooses : Chooses flips (take (4 * length flips + 24 - 0) (part ++ drop (4 * length flips + 24 - 0) buffer)) words
     chooses = record { bits = R.bits; few = R.few; room = rw front values_long; same = R.same }
-
-    pub chosen_from : {words' : List ℕ} {count : ℕ}
-        → Chosen flips (take (4 * length flips + 24 - 0) (part ++ drop (4 * length flips + 24 - 0) buffer)) words' count
-        → Chosen flips (restored p t (length flips) received) words' count
-    chosen_from C = rw (front, values_are) at C
 
 module _ {p t flips out : List ℕ} (R : Searches p t flips out) {buffer : List ℕ} (L : Long 1120 buffer) where
   pub searches : Searches p t flips (take (length flips - 0) buffer)
@@ -86,14 +76,7 @@ module _ {p t flips out : List ℕ} (R : Searches p t flips out) {buffer : List 
         ∙ sym (nearest-chosen R.sound R.sound_tail flips received) in
         record { bits = b; counted = C.least ∙ rw b (sym (nearest-best R.sound R.sound_tail flips received)) }
 
--- the patterns as the code lends them
-pub searches_with : (p t : Pattern) {flips out : List ℕ} → SearchesWith p t flips out
-    → Searches (take (p.width - 0) p.columns) (take (t.width - 0) t.columns) flips out
+-- the patterns as they are held
+pub searches_with : (p t : Pattern) {flips out : List ℕ} → SearchesWith p t flips out → Searches (pattern_of p) (pattern_of t) flips out
 searches_with p t R =
-    rw (lent p, lent t)
-    (record { sound = R.held.sound; sound_tail = R.held_tail.sound; bits = R.bits; few = R.few; same = R.same })
-
-pub found_with : (p t : Pattern) {flips received out : List ℕ} {count : ℕ}
-    → Found (take (p.width - 0) p.columns) (take (t.width - 0) t.columns) flips received out count
-    → Found (pattern_of p) (pattern_of t) flips received out count
-found_with p t F = rw (lent p, lent t) at F
+    record { sound = R.held.sound; sound_tail = R.held_tail.sound; bits = R.bits; few = R.few; same = R.same }

@@ -67,11 +67,6 @@ pub record Segment (p : List ℕ) (at₀ : ℕ) (received d₀ : List ℕ) (n : 
   pub few : at ≤ at₀ + 4 * j
   pub written : sets d (4 * j) (spread_all p i (n - j) (drop at received)) ≡ sets d₀ 0 (spread_all p 0 n (drop at₀ received))
 
-pub segment-start : (p : List ℕ) (at₀ : ℕ) (received d₀ : List ℕ) (n : ℕ) → Sound p → Segment p at₀ received d₀ n d₀ at₀ 0 0
-segment-start p at₀ received d₀ n S =
-    let e : n - 0 ≡ n = omega arith in
-    record { column = S.some; turns = omega arith; same = refl; place = rw e; few = omega arith; written = rw e }
-
 module _ {p : List ℕ} {at₀ : ℕ} {received d₀ : List ℕ} {n : ℕ} {d : List ℕ} {at i j : ℕ} (S : Sound p) (E : Segment p at₀ received d₀ n d at i j) where
   pub segment_turn : {at' i' : ℕ} {d' : List ℕ} → j < n
       → at' ≡ at + ones (get_or p i 0)

@@ -85,9 +85,5 @@ pub fn search_with(p: Pattern, t: Pattern, flips: &[u8], received: &[u8], out: &
     requires { SearchesWith p t flips.now out.old }
     ensures { Found (pattern_of p) (pattern_of t) flips.now received.now out.new result }
 {
-    let pattern = p.columns;
-    let n = p.width;
-    let tail = t.columns;
-    let m = t.width;
-    search(&pattern[0..n], &tail[0..m], flips, received, out)
+    search(p.columns(), t.columns(), flips, received, out)
 }

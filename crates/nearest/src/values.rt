@@ -33,6 +33,8 @@ fn spread_column(column: u8, received: &[u8], at: usize, out: &mut [u8], to: usi
     at
 }
 
+// Stays: the column goes along by `following`, as in `component::code`, whose line says what was tried; and received values stay whole beside a place,
+// since fewer may have come than the pattern keeps, and a slice from the place on would have to be tested first.
 // The values of a segment from place `at` on, four for each of its bits: they fill out.
 fn spread_segment(pattern: &[u8], received: &[u8], at: usize, out: &mut [u8]) -> usize
     requires { SpreadsAll pattern.now at out.old }

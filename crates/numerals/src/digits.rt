@@ -1,27 +1,19 @@
 // Bytes as hexadecimal digits, 0 to 9 and A to F, and back.
 ghost use Rattle.std.specs.Prelude.{◌≡◌, true, ◌+◌, ◌*◌, ◌≤◌, ◌++◌, length};
-ghost use Rattle.numerals.specs.Digits.{hex_digit, hex_digits, are_hex, bytes_in};
+ghost use Rattle.numerals.specs.Digits.{hex_digits, are_hex, bytes_in};
 
 use line::read::{are_digits, byte_at};
 use line::write::glyph;
 use words::text::Text;
 
-// A digit of a byte: the high one is digit 0.
-#[tactic(auto, unfolding(crate::specs::Digits::hex_digit))]
-fn digit(byte: u8, half: usize) -> u8
-    ensures { result ≡ hex_digit byte half }
-{
-    glyph(if half == 0 { byte / 16 } else { byte % 16 })
-}
-
-// The digits of bytes, behind a text.
+// The digits of bytes, behind a text: of each byte the high one first.
 pub fn put_hex(text: &mut Text, bytes: &[u8])
     requires { length text.old + 2 * length bytes.now ≤ 1024 }
     ensures put { text.new ≡ text.old ++ hex_digits bytes.now }
     ensures room { length text.new ≡ length text.old + 2 * length bytes.now }
 {
     for byte in bytes {
-        text.put(&[digit(*byte, 0), digit(*byte, 1)]);
+        text.put(&[glyph(*byte / 16), glyph(*byte % 16)]);
     }
 }
 

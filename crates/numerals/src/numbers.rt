@@ -23,7 +23,8 @@ pub fn grown(value: u32, digit: u8) -> u32
 }
 
 // The decimal numbers of a line, as far as it is read.
-// Stays: `at` is the place of the number at hand, and counts no values: a line that is read to its end gives all fourteen.
+// Stays: `at` is the place of the number at hand, and counts no values: a line that is read to its end gives all fourteen. `muxjobs` `Reading` looks alike, but
+// parts numbers by commas, ends at any of them and refuses one that is too large: a step for both would be handed the byte, the count and how a number grows.
 #[derive(Clone, Copy)]
 pub struct Scan {
     pub values: [u32; 14],
@@ -34,6 +35,7 @@ pub struct Scan {
 
 impl Scan {
     // One byte of a line: a digit goes behind those of the number at hand, a space begins the next, anything else is out of place.
+    #[tactic(auto, using(crate::proofs::Scanning::digit_range), unfolding(crate::specs::Clauses::stepped, crate::specs::Clauses::with_digit, crate::specs::Clauses::with_space))]
     fn step(mut self, byte: u8) -> Option<Scan>
         requires { Kept self }
         ensures value { result ≡ stepped self byte }

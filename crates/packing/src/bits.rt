@@ -1,5 +1,5 @@
 // Packed bytes to bits, one bit a byte, and back. 01 "Buffers and state".
-ghost use Rattle.std.specs.Prelude.{◌≡◌, ◌+◌, ◌^◌, ◌≤◌, ◌<◌, length, get_or};
+ghost use Rattle.std.specs.Prelude.{◌≡◌, ◌+◌, ◌^◌, ◌≤◌, ◌<◌, length};
 ghost use Rattle.component.specs.Bits.{Bits};
 ghost use Rattle.lists.specs.Lists.{table};
 ghost use Rattle.block.specs.Packing.{bit_at, unpacked, digits, packed, spare_zero};
@@ -79,13 +79,6 @@ pub fn spare_zero(bytes: &[u8], n: usize) -> bool
     true
 }
 
-// A bit, or zero past the end.
-fn bit_or_zero(bits: &[u8], i: usize) -> u8
-    ensures { result ≡ get_or bits.now i 0 }
-{
-    bits.get(i).copied().unwrap_or(0)
-}
-
 // The byte whose bits, highest first, are those from place `at` on; past the end they are zero.
 // Stays: bits are bytes that `pack` is lent, whose type must stay; a slice of another type would be a copy.
 fn last_byte(bits: &[u8], at: usize) -> u8
@@ -94,7 +87,8 @@ fn last_byte(bits: &[u8], at: usize) -> u8
 {
     let mut byte: u32 = 0;
     for j in 0..8 {
-        byte = byte * 2 + bit_or_zero(bits, at + j) as u32;
+        let bit = bits.get(at + j).copied().unwrap_or(0);
+        byte = byte * 2 + u32::from(bit);
     }
     byte as u8
 }

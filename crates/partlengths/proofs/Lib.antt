@@ -3,3 +3,4 @@ pub mod Levels
 pub mod Parts
 pub mod PartA
 pub mod Bounds
+pub mod Counts

@@ -8,11 +8,11 @@ use crate::tables;
 use patterns::table::{denominator, numerator};
 
 // Coded bits that a level has in n cells: two for each cell, but one in HMmix.
-pub fn coded(msc: u8, n: usize) -> usize
-    requires { n ≤ 65535 }
+pub fn coded(msc: u8, n: u16) -> usize
     ensures value { result ≡ width msc * n }
     ensures upper_bound { result ≤ 2 * n }
 {
+    let n = n as usize;
     if msc == 1 { n } else { 2 * n }
 }
 
@@ -51,7 +51,7 @@ pub fn less_tail(coded: usize) -> usize
 
 // The bits of n cells of part A.
 // Stays: part A, part B and the very strong part each have a level and a count of cells of their own, so a struct would serve one call.
-pub fn part_a(msc: u8, level: u8, n: usize) -> usize
+pub fn part_a(msc: u8, level: u8, n: u16) -> usize
     requires { Whole msc level n }
     ensures { result ≡ part_a msc level n }
 {
@@ -60,8 +60,7 @@ pub fn part_a(msc: u8, level: u8, n: usize) -> usize
 
 // The bits of n cells of part B.
 // Stays: part B has a level and cells of its own, and a struct of the three would be made for this call alone.
-pub fn part_b(msc: u8, level: u8, n: usize) -> usize
-    requires { n ≤ 65535 }
+pub fn part_b(msc: u8, level: u8, n: u16) -> usize
     ensures { result ≡ part_b msc level n }
 {
     shares(msc, level, less_tail(coded(msc, n)))
@@ -69,8 +68,7 @@ pub fn part_b(msc: u8, level: u8, n: usize) -> usize
 
 // The bits of the very strongly protected part of a frame of n cells.
 // Stays: the very strong part has a level of its own, and a struct of the three would be made for this call alone.
-pub fn part_vspp(msc: u8, level: u8, n: usize) -> usize
-    requires { n ≤ 65535 }
+pub fn part_vspp(msc: u8, level: u8, n: u16) -> usize
     ensures { result ≡ part_vspp msc level n }
 {
     if hierarchical(msc) {
@@ -94,16 +92,15 @@ pub fn cells_a(msc: u8, level: u8, x: u16) -> usize
     ensures { result ≡ cells_a msc level x }
 {
     let step = tables::common_denominator(msc, level);
-    let gain = shares(msc, level, coded(msc, step));
+    let gain = shares(msc, level, coded(msc, step as u16));
     round_up(8 * x as usize, gain) * step
 }
 
 // The bits of an SDC block of n cells: R1/3 and R2/3 in 16-QAM, R1/2 in 4-QAM.
-pub fn sdc_bits(sdc: u8, n: usize) -> usize
-    requires { n ≤ 65535 }
+pub fn sdc_bits(sdc: u8, n: u16) -> usize
     ensures { result ≡ sdc_bits sdc n }
 {
-    let bits = less_tail(2 * n);
+    let bits = less_tail(2 * n as usize);
     if sdc == 0 {
         return share(bits, tables::R1_3) + share(bits, tables::R2_3);
     }

@@ -1,18 +1,17 @@
 -- Laws of the standard's table as the code makes it, place by place. Assumes nothing.
 use Prim.Native.Nat.{ℕ, suc, ◌+◌, ◌-◌, ◌*◌, ◌/◌, ◌%◌, ◌^◌, ◌≤◌, ◌<◌}
 use mathlib.Core.Path.{◌≡◌, refl, ◌∙◌}
-use mathlib.Core.Bool.{Bool, true, false}
+use mathlib.Core.Bool.{Bool}
 use mathlib.Core.List.{List, [], ◌∷◌, flatten}
 use native.Mathlib.Omega.{arith}
 use lib.Dec.{T, eqb, eqb→eq}
-use borrow.Author.Tests.{eqb-true, eqb-false}
-use lib.ListN.{length, get_or}
+use lib.ListN.{length, get_or, set}
+use lib.Seq.{ext_get_or}
 use Rattle.lists.specs.Lists.{table}
-use Rattle.lists.proofs.Rules.{each, at, less}
-use Rattle.lists.proofs.Tables.{Filled, filled_end, get_or-table, table_is}
+use Rattle.lists.proofs.Rules.{each, at}
+use Rattle.lists.proofs.Tables.{Filled, filled_turn, get_or-table}
 use Rattle.patterns.specs.Patterns.{RX, RY, numerators, printed65, rows, table65, begins, entry}
-use Rattle.patterns.specs.declared.table.Place.{Place}
-use Rattle.patterns.specs.Clauses.{IsPlace, number_at}
+use Rattle.patterns.proofs.Loaded.{within}
 
 -- the standard's rows as binary numbers, first column highest
 unfoldable pub binary : ℕ → List ℕ → ℕ
@@ -45,59 +44,46 @@ pub rate_is : (rate : ℕ) (z : ℕ × ℕ × ℕ × List ℕ) → rate < 13 →
 unfolding rates
 rate_is rate z h = get_or-table z (λ k. (RX k, RY k, begins k, get_or words k [])) 13 rate h
 
--- the place after a place: in the same row, in the next one, in the next rate
-pub next-column : (p : Place) → IsPlace p → p.column + 1 < RX p.rate
-    → IsPlace (record { rate = p.rate; row = p.row; column = p.column + 1 }) × (number_at (record { rate = p.rate; row = p.row; column = p.column + 1 }) ≡ number_at p + 1)
-unfolding number_at
-next-column p P h = (record { rate = P.rate; row = P.row; column = h }, omega arith)
+-- the standard's numbers stand in a table as far as number k
+pub record Laid (kept : List ℕ) (k : ℕ) : Type 0 where
+  pub long : length kept ≡ 196
+  pub done : (i : ℕ) → i < k → get_or kept i 0 ≡ get_or table65 i 0
 
-pub next_row : (p : Place) → IsPlace p → RX p.rate ≤ p.column + 1 → p.row < 3
-    → IsPlace (record { rate = p.rate; row = p.row + 1; column = 0 }) × (number_at (record { rate = p.rate; row = p.row + 1; column = 0 }) ≡ number_at p + 1)
-unfolding number_at
-next_row p P h l =
-    let w : p.column + 1 ≡ RX p.rate = omega (arith, P.column) in
-    let m : (p.row + 1) * RX p.rate ≡ p.row * RX p.rate + RX p.rate = native.Mathlib.Nat.add-mul p.row 1 (RX p.rate) ∙ omega arith in
-    (record { rate = P.rate; row = omega arith; column = omega (arith, P.column) }, rw m (omega arith))
-
-begins_more : (rate : ℕ) → begins (rate + 1) ≡ begins rate + 4 * RX rate
+pub laid_start : (kept : List ℕ) → length kept ≡ 196 → Laid kept (begins 0)
 unfolding begins
-begins_more rate = let s : rate + 1 ≡ suc rate = omega arith in rw s
+laid_start kept l = record { long = l; done = λ i h. absurd (omega arith) }
 
-some-column : (rate : ℕ) → rate < 14 → 0 < RX rate
-unfolding RX numerators
-some-column = less (λ k. 0) RX 14 tt
+-- a rate's numbers stand within the table
+pub inside : (rate row column : ℕ) → rate < 13 → row < 4 → column < RX rate → begins rate + row * RX rate + column < 196
+inside rate row column hr hj hi =
+    let m : row * RX rate ≤ 3 * RX rate = native.Mathlib.Nat.mul-le-mul_right (RX rate) (omega arith) in
+    omega (arith, within rate hr)
 
-last_column : (b j w i : ℕ) → j ≡ 3 → i + 1 ≡ w → b + 4 * w + 0 * (w + 1) + 0 ≡ b + j * w + i + 1
-last_column b j w i e l = rw e (omega arith)
+-- one more number of a row
+pub laid_turn : {kept : List ℕ} (rate row column k v : ℕ) → Laid kept (begins rate + row * RX rate + column) → rate < 13 → row < 4 → column < RX rate
+    → k ≡ begins rate + row * RX rate + column → v ≡ entry table65 rate row column → Laid (set kept k v) (begins rate + row * RX rate + (column + 1))
+unfolding entry
+laid_turn {kept} rate row column k v L hr hj hi ek e =
+    let F : Filled 0 (λ i. get_or table65 i 0) kept (set kept k v) (k + 1) =
+    filled_turn 0 (λ i. get_or table65 i 0) kept kept k v (omega (arith, inside rate row column hr hj hi, L.long)) (rw ek e)
+    (record { long = refl; done = rw (← ek) at L.done; rest = λ i h. refl })
+    in
+    record { long = F.long ∙ L.long; done = λ i h. F.done i (omega arith) }
 
-pub next_rate : (p : Place) → IsPlace p → p.rate < 13 → RX p.rate ≤ p.column + 1 → 3 ≤ p.row
-    → IsPlace (record { rate = p.rate + 1; row = 0; column = 0 }) × (number_at (record { rate = p.rate + 1; row = 0; column = 0 }) ≡ number_at p + 1)
-unfolding number_at
-next_rate p P b h l =
-    let w : p.column + 1 ≡ RX p.rate = omega (arith, P.column) in
-    let j : p.row ≡ 3 = omega (arith, P.row) in (
-      record { rate = omega arith; row = omega arith; column = some-column (p.rate + 1) (omega arith) },
-      rw (begins_more p.rate) (omega arith) ∙ last_column (begins p.rate) p.row (RX p.rate) p.column j w,
-    )
+-- a whole row, and a whole rate
+pub laid_row : {kept : List ℕ} (rate row column : ℕ) → column ≡ RX rate → Laid kept (begins rate + row * RX rate + column) → Laid kept (begins rate + (row + 1) * RX rate)
+laid_row rate row column e L =
+    let m : (row + 1) * RX rate ≡ row * RX rate + RX rate = native.Mathlib.Nat.add-mul row 1 (RX rate) ∙ omega arith in
+    record { long = L.long; done = λ i h. L.done i (omega arith) }
 
--- the place behind the last has number 196
-pub within-table : (p : Place) (k : ℕ) → IsPlace p → k ≡ number_at p → k < 196 → p.rate < 13
-unfolding number_at begins RX numerators
-within-table p k P e h = go p.rate P.rate (omega (arith, e))
-  where
-    go : (rate : ℕ) → rate ≤ 13 → begins rate ≤ k → rate < 13
-    go rate l b = last (eqb rate 13) refl
-      where
-        last : (c : Bool) → eqb rate 13 ≡ c → rate < 13
-        last true q = absurd (let e : begins 13 ≤ k = rw (eqb-true rate 13 q) at b in omega arith)
-        last false q = omega (arith, eqb-false rate 13 q)
+pub laid_rate : {kept : List ℕ} (rate row : ℕ) → row ≡ 4 → Laid kept (begins rate + row * RX rate) → Laid kept (begins (rate + 1))
+unfolding begins
+laid_rate rate row e L =
+    let s : rate + 1 ≡ suc rate = omega arith in
+    let m : row * RX rate ≡ 4 * RX rate = rw e refl in
+    rw s (record { long = L.long; done = λ i h. L.done i (omega arith) })
 
--- a table that was filled with the standard's numbers is the standard's
-pub filled-standard : (d out : List ℕ) (k : ℕ) → length d ≡ 196 → k ≡ 196 → Filled 0 (λ i. get_or table65 i 0) d out k → out ≡ table65
-unfolding table65 printed65 rows flatten
-filled-standard d out k l e F =
-    filled_end 0 (λ i. get_or table65 i 0) d out 196 l (rw e at F) ∙ table_is (λ i. get_or table65 i 0) 0 196 table65 refl (λ i h. refl)
-
-pub standard-number : (p : Place) (k v : ℕ) → k ≡ number_at p → v ≡ entry table65 p.rate p.row p.column → v ≡ get_or table65 k 0
-unfolding number_at entry
-standard-number p k v e q = rw e q
+-- all thirteen rates: the standard's table
+pub laid-standard : (kept : List ℕ) (rate : ℕ) → rate ≡ 13 → Laid kept (begins rate) → kept ≡ table65
+unfolding table65 printed65 rows flatten begins RX numerators
+laid-standard kept rate e L = ext_get_or 0 kept table65 L.long (λ i h. (rw e at L.done) i (omega (arith, L.long)))

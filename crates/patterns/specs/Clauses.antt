@@ -1,8 +1,7 @@
 -- Patterns as the code holds them: nothing of 01 or 02 is stated here.
-use Rattle.std.specs.Prelude.{ℕ, ◌+◌, ◌-◌, ◌*◌, ◌≤◌, ◌<◌, List, ◌++◌, length, get_or, take, replicate}
+use Rattle.std.specs.Prelude.{ℕ, ◌+◌, ◌-◌, ◌*◌, ◌≤◌, List, ◌++◌, length, get_or, take, replicate}
 use Rattle.patterns.specs.declared.Pattern.{Pattern}
-use Rattle.patterns.specs.declared.table.Place.{Place}
-use Rattle.patterns.specs.Patterns.{RX, begins, Sound}
+use Rattle.patterns.specs.Patterns.{Sound}
 
 -- The columns of a pattern, filled up with zeros to eight.
 unfoldable pub padded : List ℕ → List ℕ
@@ -24,12 +23,3 @@ column_from kept at width =
 pub record Held (p : Pattern) : Type 0 where
   pub sound : Sound (pattern_of p)
   pub there : p.width ≤ length p.columns
-
--- A place of a table, or the one behind its last, and its number.
-pub record IsPlace (p : Place) : Type 0 where
-  pub rate : p.rate ≤ 13
-  pub row : p.row < 4
-  pub column : p.column < RX p.rate
-
-unfoldable pub number_at : Place → ℕ
-number_at p = begins p.rate + p.row * RX p.rate + p.column

@@ -1,11 +1,11 @@
 // The table of thirteen patterns, the standard's or one that was loaded, and the tail's twelve. 001 tables 65 and 66; 02 S-11.
 ghost use Rattle.std.specs.Prelude.{◌≡◌, ◌+◌, ◌*◌, ◌≤◌, ◌<◌};
-ghost use Rattle.lists.specs.Buffers.{Long};
 ghost use Rattle.patterns.specs.Patterns.{RX, RY, table65, begins, entry, pattern, tail_pattern};
 ghost use Rattle.patterns.specs.Loaded.{table_size, Allowed};
-ghost use Rattle.patterns.specs.Clauses.{column_from, pattern_from, IsPlace, number_at};
+ghost use Rattle.patterns.specs.Clauses.{column_from, pattern_from};
 
 use crate::Pattern;
+use lists::buffers::buffer;
 
 // The numbers of a table.
 pub const TABLE_SIZE: usize = 196;
@@ -45,6 +45,8 @@ pub fn denominator(rate: usize) -> usize
 }
 
 // Where the numbers of a rate begin.
+// Stays: rates are numbers in the tables of `partlengths` and in the definitions of these, and `numerator` and `denominator` take any; a type for a rate
+// of the table would be wrapped around every entry there, and taken off at each of these calls.
 pub fn begins(rate: usize) -> usize
     requires { rate < 13 }
     ensures { (result ≡ begins rate) × (result + 4 * RX rate ≤ table_size) }
@@ -52,15 +54,8 @@ pub fn begins(rate: usize) -> usize
     RATES[rate].2
 }
 
-// A place of a table: rate, row and column.
-#[derive(Clone, Copy)]
-struct Place {
-    rate: usize,
-    row: usize,
-    column: usize,
-}
-
-// The standard's number at a place.
+// The standard's number in a row and column of a rate.
+// Stays: the loops below give the three numbers, which have their bounds there; a type for them would be made for this call alone.
 fn standard_number(rate: usize, row: usize, column: usize) -> u8
     requires { (rate < 13) × ((row < 4) × (column < RX rate)) }
     ensures { result ≡ entry table65 rate row column }
@@ -70,57 +65,25 @@ fn standard_number(rate: usize, row: usize, column: usize) -> u8
     (rows[row] >> (width - 1 - column)) % 2
 }
 
-// The place after a place.
-fn next_place(p: Place) -> Place
-    requires { IsPlace p × (p.rate < 13) }
-    ensures { IsPlace result × (number_at result ≡ number_at p + 1) }
-{
-    let width = numerator(p.rate);
-    if p.column + 1 < width {
-        return Place {
-            column: p.column + 1,
-            ..p
-        };
-    }
-    if p.row < 3 {
-        return Place {
-            row: p.row + 1,
-            column: 0,
-            ..p
-        };
-    }
-    Place {
-        rate: p.rate + 1,
-        row: 0,
-        column: 0,
-    }
-}
-
-// A table for the loop below, from a function of its own: proofs then take its length and do not write it out.
-fn empty_table() -> [u8; TABLE_SIZE]
-    ensures { Long 196 result }
-{
-    [0u8; TABLE_SIZE]
-}
-
 // The standard's table.
 pub fn standard_table() -> [u8; TABLE_SIZE]
     ensures { result ≡ table65 }
 {
-    let mut kept = empty_table();
-    let mut place = Place {
-        rate: 0,
-        row: 0,
-        column: 0,
-    };
-    for k in 0..TABLE_SIZE {
-        kept[k] = standard_number(place.rate, place.row, place.column);
-        place = next_place(place);
+    let mut kept: [u8; TABLE_SIZE] = buffer(0);
+    for rate in 0..RATES.len() {
+        let at = begins(rate);
+        let width = numerator(rate);
+        for row in 0..4 {
+            for column in 0..width {
+                kept[at + row * width + column] = standard_number(rate, row, column);
+            }
+        }
     }
     kept
 }
 
 // A column from its numbers, which stand `width` apart.
+// Stays: `channels::Scheme` has the caller's bytes, which may fail the test (refusal 23); a type for tables that pass would be made of them for each block.
 #[tactic(auto, using(crate::proofs::Loaded::low), unfolding(crate::specs::Clauses::column_from))]
 fn column(kept: &[u8; TABLE_SIZE], at: usize, width: usize) -> u8
     requires { Allowed kept.now × (at + 3 * width < table_size) }
@@ -132,6 +95,7 @@ fn column(kept: &[u8; TABLE_SIZE], at: usize, width: usize) -> u8
 }
 
 // The pattern of a rate in a table.
+// Stays: the rate as for `begins`, and the table as for `column`; `nearest` and `channels` hand in numbers and bytes.
 pub fn pattern(kept: &[u8; TABLE_SIZE], rate: usize) -> Pattern
     requires { Allowed kept.now × (rate < 13) }
     ensures { result ≡ pattern_from (pattern kept.now rate) }

@@ -52,10 +52,8 @@ fn gather_byte<R: Read>(from: &mut R, line: &mut [u8; 256], count: usize) -> Gat
     ensures { result.count ≤ 256 }
 {
     let mut one = [0u8; 1];
-    let (got, ended) = match from.read(&mut one) {
-        Ok(n) => (n, n == 0),
-        Err(_) => (0, false),
-    };
+    // Stays: docs/PROMISES.md names `input::seen`, which takes the number of bytes and the end one by one; a read that failed has neither.
+    let (got, ended) = from.read(&mut one).map_or((0, false), |n| (n, n == 0));
     let seen = input::seen(got, ended, one[0]);
     let count = if seen == Seen::Byte {
         input::gather(one[0], line, count)

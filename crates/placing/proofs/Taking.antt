@@ -33,6 +33,10 @@ module _ (kind : ℕ) (kinds : List ℕ) (grid d : List ℤ) where
   take-start f =
       record { fits = f; number = omega (arith, before_none kind kinds); filled = filled-start (pos 0) (cell_number kind kinds grid) d }
 
+  -- where the buffer has room a place of the kind is still to come
+  pub ahead : (out : List ℤ) (p n : ℕ) → Taking kind kinds grid d out p n → n < length out → before kind kinds p < count kind kinds
+  ahead out p n t h = omega (arith, t.number, t.filled.long, t.fits.long)
+
   module _ {out : List ℤ} {p n : ℕ} (t : Taking kind kinds grid d out p n) (l : p < length kinds) (s : get_or kinds p 0 ≡ kind) where
     -- it is the place of its number
     here : p ≡ nth kind kinds (before kind kinds p)

@@ -8,6 +8,7 @@ ghost use Rattle.placing.specs.Clauses.{cells_from, GridFits, TakeFits, AllFit};
 use kinds::Kind;
 
 // A number of a buffer, 0 past its end.
+// Stays: std's chain is the whole body; a function for this and for `packing`'s bits would only give the chain another name.
 fn number_at(cells: &[i16], n: usize) -> i16
     ensures { result ≡ get_or cells.now n (pos 0) }
 {
@@ -15,19 +16,25 @@ fn number_at(cells: &[i16], n: usize) -> i16
 }
 
 // Number n of the cells that places of this kind have.
+// Stays: kinds are compared by their numbers; `Kind::try_from` for each number of a place costs `drm_grid_place` a fifth more instructions.
+// Stays: three slices; as a method of a struct of the three it takes 0.8 % more instructions of `grid::calls::place`.
 #[tactic(auto, unfolding(crate::specs::Cells::of_kind, kinds::specs::Kinds::fac, kinds::specs::Kinds::sdc, kinds::specs::Kinds::msc))]
 fn number_of(kind: u8, n: usize, fac: &[i16], sdc: &[i16], msc: &[i16]) -> i16
     ensures { result ≡ get_or (of_kind kind (cells_from fac.now sdc.now msc.now)) n (pos 0) }
 {
-    match Kind::try_from(kind) {
-        Ok(Kind::Fac) => number_at(fac, n),
-        Ok(Kind::Sdc) => number_at(sdc, n),
-        Ok(Kind::Msc) => number_at(msc, n),
-        _ => 0,
+    if kind == Kind::Fac.number() {
+        number_at(fac, n)
+    } else if kind == Kind::Sdc.number() {
+        number_at(sdc, n)
+    } else if kind == Kind::Msc.number() {
+        number_at(msc, n)
+    } else {
+        0
     }
 }
 
 // Three numbers for each place. Of each kind it is counted how many places there were.
+// Stays: the grid by index; of a slice whose chunks a loop has written a proof knows the length and no number.
 pub fn place_cells(kinds: &[u8], fac: &[i16], sdc: &[i16], msc: &[i16], grid: &mut [i16])
     requires { GridFits kinds.now grid.old }
     ensures { grid.new ≡ placed kinds.now (cells_from fac.now sdc.now msc.now) }
@@ -43,6 +50,7 @@ pub fn place_cells(kinds: &[u8], fac: &[i16], sdc: &[i16], msc: &[i16], grid: &m
 }
 
 // The cells of the places of a kind.
+// Stays: the numbers taken are counted, since a place of another kind has none; of a slice whose chunks a loop has written a proof knows the length alone.
 fn take_cells(kinds: &[u8], kind: Kind, grid: &[i16], out: &mut [i16])
     requires { TakeFits (number kind) kinds.now grid.now out.old }
     ensures { out.new ≡ taken_of (number kind) kinds.now grid.now }

@@ -3,6 +3,7 @@
 
 pub mod answers;
 pub mod marks;
+pub mod numbered;
 pub mod refusals;
 pub mod rules;
 pub mod theorems;

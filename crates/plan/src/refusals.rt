@@ -56,6 +56,7 @@ fn all_covered(rules: &[u8]) -> bool
 }
 
 // Whether a plan and a super frame are refused, and by which of 1 to 7, 24, 25 and 26.
+// Stays: the rules' bytes and the super frame stand apart, as in the C interface; all tests but one go over the rules alone.
 #[tactic(auto, using(refusal::proofs::Positive::number_positive, crate::proofs::Minutes::firsts_all), unfolding(crate::specs::Answers::plan_refusal, settings::specs::Refusal::first))]
 pub fn check(rules: &[u8], t: u32) -> Result<(), Refusal>
     ensures { answer result ≡ plan_refusal (rules_of rules.now) t }

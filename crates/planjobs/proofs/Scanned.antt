@@ -1,17 +1,17 @@
 -- Digits of a line, and the parts of a rule. Assumes nothing.
-use Prim.Native.Nat.{ℕ, ◌+◌, ◌-◌, ◌*◌, ◌≤◌, ◌<◌}
+use Prim.Native.Nat.{ℕ, suc, ◌+◌, ◌-◌, ◌*◌, ◌≤◌, ◌<◌}
 use native.Mathlib.Numerals.{add-one}
 use native.Mathlib.Omega.{arith}
-use borrow.Author.Tests.{eqb-true, lt-ltb, le-ltb}
+use borrow.Author.Tests.{eqb-true, lt-ltb, le-ltb, ltb-true, ltb-false}
 use mathlib.Core.Path.{◌≡◌, refl, sym, ap, ◌∙◌}
 use mathlib.Core.Bool.{Bool, true, false, ◌&&◌}
-use mathlib.Core.List.{List}
-use mathlib.Core.Logic.{inl, inr}
+use mathlib.Core.List.{List, [], ◌∷◌}
 use lib.ListN.{length, get_or, take, drop, drop_of_length-le, get_or-eq_default}
 use lib.Seq.{drop-cons}
 use lib.Dec.{eqb, ltb}
-use Rattle.lists.proofs.Bools.{and_left, and_right, never_both}
-use Rattle.lists.proofs.Counting.{below_or}
+use Rattle.std.specs.Prelude.{IfNone, IfSome}
+use Rattle.std.specs.Bool.{then_some}
+use Rattle.lists.proofs.Bools.{and_left, and_right}
 use Rattle.lists.specs.Lists.{table}
 use Rattle.lists.proofs.Parts.{to_end, length_end}
 use Rattle.numerals.specs.Digits.{are_hex}
@@ -47,9 +47,6 @@ module _ (line : List ℕ) (from : ℕ) where
   unfolding scanned
   scanning_end value next h w = rw (drop_of_length-le line h) at w.rest
 
-  pub scanning_whole : (value next : ℕ) → length line ≡ next → Scanning line from value next → record { value = value; next = length line } ≡ number_in line from
-  scanning_whole value next e w = rw e (scanning_end value next (omega (arith, e)) w)
-
 -- what a rule's line says of its settings' digits
 pub rule_digits : (line : List ℕ) → is_rule line ≡ true → (digits (drop (settings_from line) line) 0 20 ≡ true) × (length line ≡ settings_from line + 20)
 unfolding is_rule
@@ -60,33 +57,41 @@ rule_digits line h =
     let d = and_right (eqb (get_or line (after_in line).next 0) 32) _ c in
     (and_right (eqb (length line) (settings_from line + 20)) _ d, eqb-true (length line) (settings_from line + 20) (and_left _ (digits (drop (settings_from line) line) 0 20) d))
 
-pub no_digit : (line : List ℕ) (at : ℕ) → length line ≤ at → false ≡ is_digit (get_or line at 0)
-unfolding is_digit
-no_digit line at h = rw (get_or-eq_default line 0 h)
+-- digits move the place, and where it stays there is no number
+scanned_on : (value next : ℕ) (l : List ℕ) → next ≤ (scanned value next l).next
+unfolding scanned
+scanned_on value next [] = omega arith
+scanned_on value next (b ∷ l) = go (is_digit b) refl (scanned_on (held (10 * value + (b - 48))) (suc next) l)
+  where
+    go : (d : Bool) → is_digit b ≡ d → suc next ≤ (scanned (held (10 * value + (b - 48))) (suc next) l).next → next ≤ (scanned value next (b ∷ l)).next
+    go true e h = rw e (omega (arith, h))
+    go false e h = rw e (omega arith)
 
-pub no_number_at : (line : List ℕ) (from : ℕ) → is_digit (get_or line from 0) ≡ false → number_in line from ≡ no_number from
-no_number_at line from d =
-    elim (below_or from (length line)) [
-      | inl h ↦ sym (scanning_stop line from 0 from h d (scanning_start line from))
-      | inr h ↦ sym (scanning_end line from 0 from h (scanning_start line from))
-    ]
+no_digits : (from : ℕ) (l : List ℕ) → (scanned 0 from l).next ≤ from → scanned 0 from l ≡ no_number from
+unfolding scanned
+no_digits from [] h = refl
+no_digits from (b ∷ l) h = go (is_digit b) refl
+  where
+    go : (d : Bool) → is_digit b ≡ d → scanned 0 from (b ∷ l) ≡ no_number from
+    go true e = absurd (omega (arith, scanned_on (held (10 * 0 + (b - 48))) (suc from) l, rw e at h))
+    go false e = rw e refl
 
--- a digit is inside the line, and what is none stands behind it
-pub digit_there : (line : List ℕ) (at : ℕ) → is_digit (get_or line at 0) ≡ true → at < length line
-digit_there line at d =
-    elim (below_or at (length line)) [
-      | inl h ↦ h
-      | inr h ↦ absurd (never_both (is_digit (get_or line at 0)) d (sym (no_digit line at h)))
-    ]
+-- what the test of the place makes of the digits
+module _ (line : List ℕ) (from : ℕ) (n : Number) (e : n ≡ number_in line from) where
+  pub none_found : IfNone (then_some (ltb from n.next) n) (number_in line from ≡ no_number from)
+  unfolding number_in
+  none_found = go (ltb from n.next) refl
+    where
+      go : (t : Bool) → ltb from n.next ≡ t → IfNone (then_some t n) (number_in line from ≡ no_number from)
+      go true t = tt
+      go false t = no_digits from (drop from line) (rw e at (ltb-false from n.next t))
 
-pub moved_on : (line : List ℕ) (from next : ℕ) → from ≤ next → is_digit (get_or line from 0) ≡ true → is_digit (get_or line next 0) ≡ false → from < next
-moved_on line from next h d n =
-    elim (below_or from next) [
-      | inl k ↦ k
-      | inr k ↦ (
-          let e : next ≡ from = omega (arith, h, k) in
-          absurd (never_both (is_digit (get_or line from 0)) d (sym (ap (λ j. is_digit (get_or line j 0)) e) ∙ n)))
-    ]
+  pub number_found : IfSome (then_some (ltb from n.next) n) (NumberAt line from)
+  number_found = go (ltb from n.next) refl
+    where
+      go : (t : Bool) → ltb from n.next ≡ t → IfSome (then_some t n) (NumberAt line from)
+      go true t = record { same = e; moved = ltb-true from n.next t }
+      go false t = tt
 
 pub no_space : (line : List ℕ) (at : ℕ) → length line ≤ at → false ≡ eqb (get_or line at 0) 32
 no_space line at h = rw (get_or-eq_default line 0 h)

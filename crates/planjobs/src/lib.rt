@@ -5,6 +5,9 @@ pub mod arguments;
 pub mod lines;
 pub mod week;
 
+ghost use Rattle.std.specs.Prelude.{◌≡◌, ⊤};
+
+use std::alloc::AllocError;
 use words::text::Text;
 
 // A number in decimal: its value, and the place after its digits.
@@ -27,4 +30,19 @@ pub enum Asked {
 pub struct Stretch {
     pub line: Text,
     pub next: u16,
+}
+
+// The same stretch once more; a clone takes no memory, and so does not fail.
+impl Clone for Stretch {
+    ghost is_clone = { λ stretch copy. copy ≡ stretch };
+
+    ghost is_infallible = { λ _. ⊤ };
+
+    fn clone(&self) -> Result<Stretch, AllocError> {
+        // Stays: a derived clone promises of the fields that they are clones, and has no clause that says so of the stretch.
+        Ok(Stretch {
+            line: self.line.clone()?,
+            next: self.next,
+        })
+    }
 }

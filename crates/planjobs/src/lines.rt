@@ -1,9 +1,10 @@
 // Lines of a plan's file.
-ghost use Rattle.std.specs.Prelude.{◌≡◌, true, cond, ◌&&◌, ◌+◌, ◌≤◌, Some, None, IfNone, IfSome, length, get_or, drop, eqb};
+// Stays: places go with the line, since `number_in`, `first_in` and `settings_from` are places of the whole line; of a rest `&line[from..]` each clause
+// would say `from + next`, and `rule_line` add them up.
+ghost use Rattle.std.specs.Prelude.{◌≡◌, true, cond, ◌&&◌, ◌+◌, ◌≤◌, Some, None, IfNone, IfSome, length, get_or, drop, max, eqb};
 ghost use Rattle.lists.specs.Lists.{table};
 ghost use Rattle.line.specs.Read.{digits};
 ghost use Rattle.numerals.specs.Digits.{are_hex};
-ghost use Rattle.numerals.specs.Numbers.{is_digit};
 ghost use Rattle.planjobs.specs.Lines.{number_in, minute_bytes, is_rule, rule_byte, rule_in};
 ghost use Rattle.planjobs.specs.Clauses.{no_number, NumberAt};
 
@@ -21,12 +22,21 @@ fn is_space(line: &[u8], at: usize) -> bool
     at < line.len() && line[at] == b' '
 }
 
-// Whether a digit stands at a place.
-#[tactic(auto, using(crate::proofs::Scanned::no_digit))]
-fn has_digit(line: &[u8], at: usize) -> bool
-    ensures { result ≡ is_digit (get_or line.now at 0) }
+// The digits from a place on, as a number: 0 where none stands there, and the place after it is then the same one.
+fn digits_from(line: &[u8], from: usize) -> Number
+    ensures value { result ≡ number_in line.now from }
+    ensures next_in_bounds { result.next ≤ max from (length line.now) }
 {
-    at < line.len() && is_digit(line[at])
+    let mut value = 0;
+    for next in from..line.len() {
+        let byte = line[next];
+        if !is_digit(byte) {
+            return Number { value, next };
+        }
+        value = grown(value, byte - b'0');
+    }
+    let next = from.max(line.len());
+    Number { value, next }
 }
 
 // The decimal number from a place on, or none where no digit stands there.
@@ -35,19 +45,8 @@ pub fn number(line: &[u8], from: usize) -> Option<Number>
     ensures some { IfSome result (λ n. NumberAt line.now from n) }
     ensures next_in_bounds { IfSome result (λ n. n.next ≤ length line.now) }
 {
-    if !has_digit(line, from) {
-        return None;
-    }
-    let mut value = 0;
-    for next in from..line.len() {
-        let byte = line[next];
-        if !is_digit(byte) {
-            return Some(Number { value, next });
-        }
-        value = grown(value, byte - b'0');
-    }
-    let next = line.len();
-    Some(Number { value, next })
+    let number = digits_from(line, from);
+    (from < number.next).then_some(number)
 }
 
 // A minute in two bytes, high byte first; one that they do not hold is the greatest of them.

@@ -45,6 +45,8 @@ fn cell_passes(mask: i16, blank: bool, cells: &[i16], i: usize) -> bool
 }
 
 // One more, 0 after the last: the delay of the next cell, the slot of the next frame.
+// Stays: `component::code::following` counts columns likewise, but promises the choice by which `Codeword.encode` is defined. One function for both would
+// promise one form, and each caller of the other would need a law from the one to the other.
 pub fn next_modulo(depth: usize, delay: usize) -> usize
     requires { delay < depth }
     ensures { result ≡ (delay + 1) % depth }
@@ -96,6 +98,8 @@ pub fn points_pass(test: PointTest, cells: &[i16]) -> bool
 }
 
 // Four bits are a coordinate: with the largest one added they are even and at most twice that.
+// Stays: a half of a byte is made by `byte_passes` alone, which calls this twice; a type for it would be built there and taken apart here, in a loop that a
+// processor runs for sixteen bytes at once.
 fn half_passes(top: u8, n: u8) -> bool
     requires { (top < 8) × (n < 16) }
     ensures { result ≡ half_passes top n }

@@ -16,8 +16,9 @@ use words::Counted;
 // Stays: the parameters are those of `shown::show`, to which they go as they are and whose clauses name each buffer.
 fn show_bytes(state: State, bytes: &[u8], memory: &mut [u8]) -> Result<(), End> {
     let mut out = buffers::bytes::<MOST_GRID_BYTES>();
-    let n = shown::show(state, bytes, memory, &mut out)?;
-    turn::after_write(io::write_all(STDOUT_FILENO, &out[..n]))
+    let made = shown::show(state, bytes, memory, &mut out);
+    let written = io::write_all(STDOUT_FILENO, &out[..made.unwrap_or(0)]);
+    turn::after_write(made, written)
 }
 
 // The whole input, shown by a state and its memory.

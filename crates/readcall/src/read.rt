@@ -1,5 +1,6 @@
 // The call Read. 01 "Buffers and state" and "Operations".
-// Stays, in this module: buffers stand one by one; with a struct of `&mut` a clause must also say that each reference is still the same one.
+// Stays, in this module: buffers stand one by one; with a struct of `&mut` a clause must also say that each reference is still the same one, and in
+// `check_order`, which only reads, a clause would name one `lent.fac.now` and not `fac.now`, and `read` would make that struct for one call.
 ghost use Rattle.std.specs.Prelude.{◌≡◌};
 ghost use Rattle.refusal.specs.Numbers.{answer};
 ghost use Rattle.superframe.specs.Answers.{read_done};

@@ -1,18 +1,12 @@
 // Settings from their bytes.
 ghost use Rattle.std.specs.Prelude.{◌≡◌, length, ◌≤◌};
-ghost use Rattle.settingbytes.specs.Bytes.{word, settings_of, taken};
+ghost use Rattle.settingbytes.specs.Bytes.{settings_of, taken};
 
 use refusal::Refusal;
 use settings::Settings;
 
-// Two bytes, high byte first.
-pub fn word(high: u8, low: u8) -> u16
-    ensures { result ≡ word high low }
-{
-    u16::from_be_bytes([high, low])
-}
-
 // Settings from their ten bytes, with which the slice begins.
+#[tactic(auto, unfolding(crate::specs::Bytes::settings_of))]
 pub fn settings_of(bytes: &[u8]) -> Settings
     requires { 10 ≤ length bytes.now }
     ensures { result ≡ settings_of bytes.now }
@@ -24,7 +18,7 @@ pub fn settings_of(bytes: &[u8]) -> Settings
         levela: bytes[3],
         levelb: bytes[4],
         vspp: bytes[5],
-        x: word(bytes[6], bytes[7]),
+        x: u16::from_be_bytes([bytes[6], bytes[7]]),
         sdc: bytes[8],
         interleaving: bytes[9],
     }

@@ -47,10 +47,8 @@ accepted_of s e =
       sdc_bits_most = sdc_most_lem s.sdc (n_sdc s) r.sdc_most;
     }
 
--- The five lengths fit sixteen bits.
+-- The lengths in bits fit sixteen bits.
 pub record Short (s : Settings) : Type 0 where
-  pub n1_short : n1 s ≤ 6118
-  pub n2_short : n2 s ≤ 6118
   pub l1_short : l1 s ≤ 36708
   pub l2_short : l2 s ≤ 36708
   pub vspp_short : l_vspp s ≤ 36708

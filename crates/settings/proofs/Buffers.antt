@@ -3,7 +3,6 @@ use mathlib.Core.Path.{◌≡◌, sym, ◌∙◌, ap}
 use Rattle.std.proofs.Common.{Ok, Err}
 use mathlib.Core.Bool.{Bool, true, false, cond}
 use Prim.Native.Nat.{ℕ, ◌+◌, ◌*◌, ◌≤◌}
-use native.Mathlib.Nat.{one-mul}
 use native.Mathlib.Omega.{arith}
 use lib.Dec.{eqb}
 use borrow.Author.Tests.{eq-eqb, ne_eqb}
@@ -27,14 +26,6 @@ bytes_low bits h = omega arith
 
 pub frame_low : (s : Settings) → Accepted s → frame_bits s ≤ 36708
 frame_low s a = omega arith
-
-pub depth_long : (s : Settings) (n : ℕ) → s.interleaving ≡ 0 → 5 * n ≡ depth s * n
-unfolding depth
-depth_long s n e = rw (eq-eqb s.interleaving 0 e)
-
-pub depth_short : (s : Settings) (n : ℕ) → (s.interleaving ≡ 0 → ⊥) → n ≡ depth s * n
-unfolding depth
-depth_short s n e = rw (ne_eqb s.interleaving 0 e) (sym (one-mul n))
 
 -- The memory is at most five bytes for each cell.
 pub memory_low : (s : Settings) → Accepted s → depth s * n_mux s ≤ 30590

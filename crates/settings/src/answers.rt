@@ -20,19 +20,22 @@ pub fn lengths(s: Settings) -> Result<Lengths, Refusal>
 }
 
 // The same of settings that are not refused.
+// Stays: a type for accepted settings was thought through for the whole repository. The definitions, State and Scheme have Settings, which the C interface
+// may fill with any bytes, so nine calls in other crates (as in `startcells` with `s.settings`, where `Accepted` comes from `SchemeAccepted s`) would
+// make the type first, with the proof that they give to the clause now, and every clause that names `s` would name `s.settings`.
 pub fn all_lengths(s: Settings) -> Lengths
     requires { Accepted s }
     ensures { lengths_yield (Ok result) ≡ accepted s }
 {
-    let cells = tables::n_mux(s.mode, s.occupancy);
-    let n1 = formulas::cells_a(s.msc, s.levela, s.x);
+    let cells = tables::n_mux(s.mode, s.occupancy) as u16;
+    let n1 = formulas::cells_a(s.msc, s.levela, s.x) as u16;
     let n2 = cells - n1;
     let l1 = formulas::part_a(s.msc, s.levela, n1);
     let l2 = formulas::part_b(s.msc, s.levelb, n2);
     let vspp = formulas::part_vspp(s.msc, s.vspp, cells);
     Lengths {
-        n1: n1 as u16,
-        n2: n2 as u16,
+        n1,
+        n2,
         l1: l1 as u16,
         l2: l2 as u16,
         vspp: vspp as u16,
@@ -64,6 +67,7 @@ pub fn bytes_for(bits: usize) -> usize
 }
 
 // The bits of a multiplex frame.
+// Stays: the settings as for `all_lengths`.
 pub fn frame_bits(s: Settings) -> usize
     requires { Accepted s }
     ensures { result ≡ frame_bits s }
@@ -73,6 +77,7 @@ pub fn frame_bits(s: Settings) -> usize
 }
 
 // The bytes of a multiplex frame.
+// Stays: the settings as for `all_lengths`.
 pub fn frame_bytes(s: Settings) -> usize
     requires { Accepted s }
     ensures { result ≡ frame_bytes s }
@@ -81,25 +86,22 @@ pub fn frame_bytes(s: Settings) -> usize
 }
 
 // The bytes of memory: a slot of N_MUX cells for each frame of the depth.
+// Stays: the settings as for `all_lengths`.
 pub fn memory_bytes(s: Settings) -> usize
     requires { Accepted s }
     ensures { result ≡ depth s * n_mux s }
 {
-    let cells = tables::n_mux(s.mode, s.occupancy);
-    if s.interleaving == 0 {
-        5 * cells
-    } else {
-        cells
-    }
+    depth(s) * tables::n_mux(s.mode, s.occupancy)
 }
 
 // The same of settings that are not refused.
+// Stays: the settings as for `all_lengths`.
 pub fn all_sizes(s: Settings) -> Sizes
     requires { Accepted s }
     ensures { sizes_yield (Ok result) ≡ all_sizes s }
 {
     let sdc = tables::n_sdc(s.mode, s.occupancy);
-    let sdc_bytes = bytes_for(formulas::sdc_bits(s.sdc, sdc));
+    let sdc_bytes = bytes_for(formulas::sdc_bits(s.sdc, sdc as u16));
     let frame = frame_bytes(s);
     let sfa = tables::n_sfa(s.mode, s.occupancy);
     let memory = memory_bytes(s);

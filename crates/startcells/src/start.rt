@@ -1,8 +1,6 @@
 // Memory as an accepted Reset leaves it: a frame of zero bits in every slot. 02 S-5.
 ghost use Rattle.std.specs.Prelude.{◌≡◌, ◌*◌, ◌/◌, ◌%◌, length, replicate};
 ghost use Rattle.cellbytes.specs.CellBytes.{bytes};
-ghost use Rattle.channels.specs.Scheme.{SchemeAccepted};
-ghost use Rattle.superframe.specs.Memory.{slot_size, start_frame};
 ghost use Rattle.superframe.specs.Call.{joined};
 ghost use Rattle.superframe.specs.Reset.{start_memory};
 ghost use Rattle.superframe.specs.Clauses.{Fits};
@@ -15,23 +13,6 @@ use channels::Scheme;
 use channels::blocks::msc_block;
 use settings::answers;
 
-// Zero bits, packed, for the largest frame.
-fn zero_bytes() -> [u8; MOST_BYTES]
-    ensures { result ≡ replicate 4589 0 }
-{
-    [0u8; MOST_BYTES]
-}
-
-// The cells of a frame before the first.
-fn start_frame(s: Scheme, frame: &mut [i16])
-    requires { SchemeAccepted s × (length frame.old ≡ slot_size s.settings) }
-    ensures { frame.new ≡ start_frame s }
-{
-    let zeros = zero_bytes();
-    let n = answers::frame_bytes(s.settings);
-    code_block(msc_block(s), &zeros[0..n], frame);
-}
-
 // A frame laid into each of so many slots, a byte for each cell.
 fn lay_frame(frame: &[i16], slots: usize, memory: &mut [u8])
     requires { (length frame.now % 2 ≡ 0) × (length memory.old ≡ slots * (length frame.now / 2)) }
@@ -43,13 +24,15 @@ fn lay_frame(frame: &[i16], slots: usize, memory: &mut [u8])
     }
 }
 
-// The frame is coded once and laid into every slot.
+// A frame of zero bits is coded once and laid into every slot.
 pub fn fill_memory(s: Scheme, memory: &mut [u8])
     requires { Fits s memory.old }
     ensures { memory.new ≡ start_memory s }
 {
     let n = slot_size(s.settings);
+    let bytes = answers::frame_bytes(s.settings);
+    let zeros = [0u8; MOST_BYTES];
     let mut frame = coordinate_buffer();
-    start_frame(s, &mut frame[0..n]);
+    code_block(msc_block(s), &zeros[0..bytes], &mut frame[0..n]);
     lay_frame(&frame[0..n], answers::depth(s.settings), memory);
 }

@@ -10,6 +10,7 @@ use refusal::Refusal;
 use superframe::{Finished, ReadRefusal, State};
 
 // The answer of Reset, Code and preview, with the state written where the call is accepted.
+// Stays: docs/PROMISES.md names this function; `&mut [u8; 208]` would ask of a caller that has a slice of that length to turn it into an array.
 #[tactic(auto, using(refusal::proofs::Positive::number_positive), unfolding(crate::specs::Answers::state_after))]
 pub fn finish(outcome: Result<State, Refusal>, bytes: &mut [u8]) -> Result<(), Refusal>
     requires { length bytes.old ≡ 208 }
@@ -21,7 +22,6 @@ pub fn finish(outcome: Result<State, Refusal>, bytes: &mut [u8]) -> Result<(), R
 }
 
 // 256 times the refusal's number plus its block.
-// Stays: 256 stands in the clause alone, which says what it promised before; the body joins the two bytes by std.
 pub fn refusal_word(refusal: Refusal, block: u8) -> u16
     ensures { result ≡ 256 * number refusal + block }
 {
@@ -29,6 +29,7 @@ pub fn refusal_word(refusal: Refusal, block: u8) -> u16
 }
 
 // The answer of Read, with the state written where the call is accepted.
+// Stays: docs/PROMISES.md names this function; `&mut [u8; 208]` would ask of a caller that has a slice of that length to turn it into an array.
 #[tactic(auto, unfolding(crate::specs::Answers::answer_word, crate::specs::Answers::state_read, superframe::specs::Read::answer_number, superframe::specs::Read::answer_block, superframe::specs::Read::answer_frames))]
 pub fn finish_read(outcome: Result<Finished, ReadRefusal>, bytes: &mut [u8]) -> u16
     requires { length bytes.old ≡ 208 }

@@ -7,6 +7,7 @@ use settingbytes::bytes::settings_of;
 use superframe::State;
 
 // A state from its 208 bytes.
+// Stays: docs/PROMISES.md names this function; `&[u8; 208]` would ask of a caller that has a slice of that length to turn it into an array.
 pub fn state_of(bytes: &[u8]) -> State
     requires { length bytes.now ≡ 208 }
     ensures { result ≡ state_of bytes.now }
@@ -41,6 +42,8 @@ fn put_front(state: State, bytes: &mut [u8])
     ]);
 }
 
+// A state into the 208 bytes that a caller lends.
+// Stays: docs/PROMISES.md names this function; `&mut [u8; 208]` would ask of a caller that has a slice of that length to turn it into an array.
 pub fn put_state(state: State, bytes: &mut [u8])
     requires { length bytes.old ≡ 208 }
     ensures { bytes.new ≡ state_bytes state }

@@ -3,3 +3,4 @@
 
 pub mod answers;
 pub mod bytes;
+pub mod numbered;

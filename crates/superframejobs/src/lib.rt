@@ -1,5 +1,4 @@
 // What each of the desk's jobs makes of a super frame. The program `desk` only reads, calls and writes.
 #![tactic(auto)]
 
-mod read;
 pub mod superframes;

@@ -1,20 +1,22 @@
 // A super frame of a job: bytes in, bytes out.
-// Stays, in this module: buffers stand one by one; with a struct of `&mut` a clause must also say that each reference is still the same one.
+// Stays, in this module: `Lent` ties `state`, `z` and `bytes` to the room of `out`, so that a struct of the three would keep that clause at each function;
+// `memory` and `out` are lent to be written, and a clause on a struct of `&mut` must also say that each reference is still the same one.
 ghost use Rattle.std.specs.Prelude.{◌≡◌, ◌≤◌, length, IfOk, Ok};
 ghost use Rattle.settings.specs.Sizes.{sizes_yield};
 ghost use Rattle.jobs.specs.Clauses.{Lent, read_job};
 ghost use Rattle.jobs.specs.SuperFrame.{job_yield, job_call, job_of, reads_on};
 
-use crate::read::read_with;
 use block::buffers::{MOST_MSC_BYTES, MOST_SDC_BYTES};
 use codejobs::code::code_bytes;
 use console::Job;
 use gridjobs::grids::{place_bytes, take_bytes};
 use jobs::buffers::numbers_in;
 use jobs::refusals::check_job;
-use jobs::sizes::{FAC_CELLS_LENGTH, FAC_LENGTH};
-use jobs::written::refused;
+use jobs::sizes::{FAC_CELLS_LENGTH, FAC_LENGTH, LOST_BYTES};
+use jobs::written::{refused, write_read};
 use jobs::{Step, buffers};
+use readcall::read::read;
+use readoncall::read::read_on;
 use settings::Sizes;
 use superframe::State;
 
@@ -26,7 +28,7 @@ pub fn reads_on(job: Job) -> bool
     matches!(job, Job::ReadOn)
 }
 
-// The jobs `read` and `read-on` on buffers of the right lengths.
+// The jobs `read` and, 02 S-13, `read-on` on buffers of the right lengths.
 fn read_bytes(
     on: bool,
     state: State,
@@ -41,17 +43,26 @@ fn read_bytes(
     ensures length_in_bounds { IfOk result.made (λ n. n ≤ length out.old) }
 {
     let numbers = numbers_in(bytes);
-    let cells = &numbers[0..bytes.len() / 2];
+    let (first, rest) = numbers[0..bytes.len() / 2].split_at(FAC_CELLS_LENGTH);
+    let (second, third) = rest.split_at(z.sdcnumbers as usize);
     let mut fac = buffers::bytes::<FAC_LENGTH>();
     let mut most_sdc = buffers::bytes::<MOST_SDC_BYTES>();
     let mut most_msc = buffers::bytes::<MOST_MSC_BYTES>();
     let sdc = &mut most_sdc[0..z.sdcbytes as usize];
     let msc = &mut most_msc[0..z.mscbytes as usize];
-    let at = FAC_CELLS_LENGTH + z.sdcnumbers as usize;
-    read_with(on, state, cells, at, memory, &mut fac, sdc, msc, out)
+    if on {
+        let mut lost = [0u8; LOST_BYTES];
+        let reading = read_on(
+            state, first, second, third, memory, &mut fac, sdc, msc, &mut lost,
+        );
+        return write_read(reading, state, &lost, &fac, sdc, msc, out);
+    }
+    let reading = read(state, first, second, third, memory, &mut fac, sdc, msc);
+    write_read(reading, state, b"", &fac, sdc, msc, out)
 }
 
 // A super frame of a job: its bytes come in, and what is to be written stands first in the output; a refusal leaves everything as it was.
+#[tactic(auto, using(jobs::proofs::JobRefusals::job_called))]
 pub fn step(job: Job, state: State, bytes: &[u8], memory: &mut [u8], out: &mut [u8]) -> Step
     ensures out_after { job_yield result memory.new out.new ≡ job_of job state memory.old bytes.now out.old }
     ensures length_in_bounds { IfOk result.made (λ n. n ≤ length out.old) }

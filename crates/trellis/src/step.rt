@@ -1,4 +1,6 @@
 // One layer of the trellis: the least disagreement after every register, and the choice for each. 02, S-9.
+// Stays, in this module: values stay whole beside a place, as the clauses name them (`drop at values`): what `step` promises is of all bits from j on.
+// With a slice from the place on, each of five calls would lend `take (length values - at) (drop at values)`, and its proof turn that back.
 ghost use Rattle.std.specs.Prelude.{◌≡◌, ◌+◌, ◌/◌, ◌≤◌, [], length, get_or, drop};
 ghost use Rattle.component.specs.Register.{parities};
 ghost use Rattle.component.specs.Codeword.{tail_bits};

@@ -23,6 +23,7 @@ unfoldable pub after_failure : Failure → End
 after_failure (Refused number block) = Stopped number block
 after_failure Bad = BadLine
 
--- A write that came short ends it too.
-unfoldable pub after_write : Bool → Result ⊤ End
-after_write written = cond written (Ok tt) (Err Unwritten)
+-- A refusal ends the run whatever the write says, and so does a write that came short.
+unfoldable pub after_write : {T : Type 0} → Result T Failure → Bool → Result ⊤ End
+after_write (Ok made) written = cond written (Ok tt) (Err Unwritten)
+after_write (Err failure) written = Err (after_failure failure)

@@ -5,6 +5,7 @@ ghost use Rattle.turns.specs.Line.{seen_of, place_of, gathered, after_line, line
 use crate::{End, Seen};
 
 // What a read of one byte found; it answers how many bytes came, 0 at the end of the input.
+// Stays: docs/PROMISES.md names this function, which says so of every number and either end, also of those that no read gives together.
 #[tactic(auto, unfolding(crate::specs::Line::seen_of))]
 pub fn seen(got: usize, ended: bool, byte: u8) -> Seen
     ensures { result ≡ seen_of got ended byte }

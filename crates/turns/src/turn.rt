@@ -58,11 +58,12 @@ impl From<Failure> for End {
     }
 }
 
-// After a write of what a super frame or a line gave.
+// After a super frame or a line, and a write of what it gave: one that did not go through ends the run whatever the write says.
 #[tactic(auto, unfolding(crate::specs::Turn::after_write))]
-pub fn after_write(written: bool) -> Result<(), End>
-    ensures { result ≡ after_write written }
+pub fn after_write<T: Drop>(outcome: Result<T, Failure>, written: bool) -> Result<(), End>
+    ensures { result ≡ after_write outcome written }
 {
+    outcome?;
     if !written {
         return Err(End::Unwritten);
     }

@@ -16,7 +16,7 @@ pub fn block(mut x: u64, bits: usize, bytes: &mut [u8]) -> u64
 {
     for byte in bytes.iter_mut() {
         x = next(x);
-        // Stays: x / 65536 mod 256, as second/README.md says which bits of a state are drawn.
+        // x / 65536 mod 256, as second/README.md says which bits of a state are drawn.
         *byte = (x / 65536 % 256) as u8;
     }
     clear(bits, bytes);

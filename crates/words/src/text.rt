@@ -1,8 +1,9 @@
 // A text as it is made: bytes behind those that are there.
-ghost use Rattle.std.specs.Prelude.{◌≡◌, ℕ, ◌+◌, ◌≤◌, List, [], ◌++◌, length, take};
+ghost use Rattle.std.specs.Prelude.{◌≡◌, ℕ, ◌+◌, ◌≤◌, List, [], ◌++◌, length, take, ⊤};
 ghost use Rattle.line.specs.Written.{decimal};
 
 use console::bytes::put_bytes;
+use std::alloc::AllocError;
 use std::marker::Model;
 
 // The room for a text.
@@ -21,6 +22,22 @@ impl Model for Text {
     ghost view = { λ t. take t.len t.bytes };
 
     ghost invariant = { λ t. t.len ≤ 1024 };
+}
+
+// The same text once more; a clone takes no memory, and so does not fail. Not `Copy`: that needs a model from whose value the fields come back,
+// and the bytes past a text's end do not.
+impl Clone for Text {
+    ghost is_clone = { λ text copy. copy ≡ text };
+
+    ghost is_infallible = { λ _. ⊤ };
+
+    fn clone(&self) -> Result<Text, AllocError> {
+        // Stays: a derived clone promises of the fields that they are clones, and has no clause that says so of the text.
+        Ok(Text {
+            bytes: self.bytes,
+            len: self.len,
+        })
+    }
 }
 
 impl Text {

@@ -29,8 +29,5 @@ returns c =
     rw (← b.sdc_bits.ensures, ← b.spare_zero.ensures, c.if-not-spare_zero.false, ← c.frame_bits.ensures, ← c.frame_bytes.ensures)
     c.frames_spare.ensures
 
-pub sdc_bits-requires : goal.sdc_bits-requires
-sdc_bits-requires c = c.requires.settings
-
 pub frame_bits-requires : goal.frame_bits-requires
 frame_bits-requires c = accepted_of _ c.requires.settings

@@ -1,14 +1,9 @@
 -- `level_labels` meets its contract. Assumes nothing.
-use native.Mathlib.Omega.{arith}
 use mathlib.Core.Path.{sym, ◌∙◌}
 use Rattle.lists.proofs.Parts.{length-start}
 use Rattle.block.specs.Block.{one_axis}
-use Rattle.candidate.proofs.CellsRead.{cells_low, unmaps_axis, axis-made, unmaps, both_made}
+use Rattle.candidate.proofs.CellsRead.{cells_low, axis-made, unmaps, both_made}
 use Rattle.candidate.proofs.read.level_labels.Goals as goal
-
-pub unmap_axis-requires : goal.unmap_axis-requires
-unfolding one_axis
-unmap_axis-requires c = let p = c.requires in unmaps_axis p (sym c.one_axis.ensures ∙ c.if-one_axis.true) (length-start _ _ (omega (arith, cells_low p)))
 
 pub returns-then-one_axis : goal.returns-then-one_axis
 unfolding one_axis
@@ -21,9 +16,3 @@ unmap_cells-requires c = let p = c.requires in unmaps p (sym c.one_axis.ensures 
 pub returns : goal.returns
 unfolding one_axis
 returns c = both_made c.requires (sym c.one_axis.ensures ∙ c.if-one_axis.false) c.unmap_cells.auto.out c.unmap_cells.ensures
-
-pub slice_bounds-unmap_axis-end : goal.slice_bounds-unmap_axis-end
-slice_bounds-unmap_axis-end c = let h = cells_low c.requires in omega arith
-
-pub slice_bounds-unmap_cells-end : goal.slice_bounds-unmap_cells-end
-slice_bounds-unmap_cells-end c = cells_low c.requires

@@ -1,33 +1,23 @@
 -- `read_cells` meets its contract. Assumes nothing.
 use mathlib.Core.Path.{sym, ◌∙◌}
 use Rattle.block.specs.Block.{one_axis}
-use Rattle.candidate.proofs.CellsRead.{some-axis, second_axis, same_room, both_bits, both_left, axes-bits, axes-left}
+use Rattle.candidate.proofs.CellsRead.{both_bits, both_left, axes-bits, axes-left}
 use Rattle.candidate.proofs.read.read_cells.Goals as goal
-
-pub read_axis-requires : goal.read_axis-requires
-read_axis-requires c = let p = c.requires in record { reads_candidate = (p.reads_candidate, some-axis _); block_order = p.block_order }
 
 pub returns-then-not-one_axis : goal.returns-then-not-one_axis
 unfolding one_axis
 returns-then-not-one_axis c =
     let b = c in
-    let p = b.requires.reads_candidate in
+    let p = b.requires in
     let r = b.read_axis.ensures in
     let one = sym c.one_axis.ensures ∙ c.if-not-one_axis.true in
     record { bits_after = both_bits p one r.levels_read; levels_taken = both_left p one r.labels_after r.coded_after }
-
-pub read_axis-requires-2 : goal.read_axis-requires-2
-unfolding one_axis
-read_axis-requires-2 c =
-    let p = c.requires in
-    let r = c.read_axis.auto in
-    record { reads_candidate = (same_room p.reads_candidate r.labels r.coded r.bits, second_axis p.reads_candidate (sym c.one_axis.ensures ∙ c.if-not-one_axis.false)); block_order = p.block_order }
 
 pub returns : goal.returns
 unfolding one_axis
 returns c =
     let b = c in
-    let p = b.requires.reads_candidate in
+    let p = b.requires in
     let r = b.read_axis.ensures in
     let s = c.read_axis-2.ensures in
     let one = sym c.one_axis.ensures ∙ c.if-not-one_axis.false in

@@ -1,15 +1,9 @@
 -- `low_bits` meets its contract. Assumes nothing.
 use mathlib.Core.Path.{◌∙◌}
-use native.Mathlib.Omega.{arith}
 use mir.Syntax.{w16}
 use mir.Val.{of_z}
 use Rattle.cellbytes.proofs.Bits.{low_value, four_bits_mask}
 use Rattle.cellbytes.proofs.cells.low_bits.Goals as goal
-
-pub overflow_cast-result : goal.overflow_cast-result
-overflow_cast-result c =
-    let d = low_value (of_z w16 c.args.v) in
-    (d.0, omega (arith, d.1))
 
 pub returns : goal.returns
 returns c = (low_value (of_z w16 c.args.v)).1 ∙ four_bits_mask c.args.v c.ranges.v

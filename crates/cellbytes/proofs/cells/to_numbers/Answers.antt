@@ -4,7 +4,6 @@ use native.Mathlib.Omega.{arith}
 use borrow.Author.Rules.{rules, sfits_of}
 use mir.Syntax.{w16}
 use mir.Facts.{to_z-of_z}
-use Rattle.lists.proofs.Tables.{filled-start}
 use Rattle.cellbytes.proofs.Loops.{numbers_turn, numbers_end}
 use Rattle.cellbytes.proofs.cells.to_numbers.Goals as goal
 
@@ -19,6 +18,3 @@ pub returns : goal.returns
 returns c =
     let l = c.loop-i in
     numbers_end _ _ _ l.i c.requires l.invariant.0 c.loop-i-test.false l.invariant.1
-
-pub loop-i-init : goal.loop-i-init
-loop-i-init c = (omega arith, filled-start _ _ _)

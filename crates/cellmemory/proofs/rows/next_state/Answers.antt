@@ -15,9 +15,13 @@ overflow_cast-result c =
 pub overflow_cast-result-2 : goal.overflow_cast-result-2
 overflow_cast-result-2 c =
     let d = c in
-    omega (arith, c.next_count-count.ensures, d.depth-depth.ensures, depth_high d.args.state.scheme.settings)
+    omega (arith, c.count_after-count.ensures, d.depth-depth.ensures, depth_high d.args.state.scheme.settings)
+
+pub count_after-count-requires : goal.count_after-count-requires
+count_after-count-requires c =
+    let d = c.depth-depth.ensures in (omega (arith, d, c.requires.1), omega (arith, d, depth_high c.args.state.scheme.settings), omega arith)
 
 pub returns : goal.returns
 returns c =
     let d = c in
-    next-state_is _ _ _ _ d.depth-depth.ensures c.next_modulo-position.ensures c.next_count-count.ensures
+    next-state_is _ _ _ _ d.depth-depth.ensures c.next_modulo-position.ensures c.count_after-count.ensures

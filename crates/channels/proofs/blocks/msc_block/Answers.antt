@@ -5,9 +5,9 @@ use Rattle.settings.specs.Lengths.{n_mux, n1, l_vspp}
 use Rattle.channels.proofs.Made.{msc-made}
 use Rattle.channels.proofs.blocks.msc_block.Goals as goal
 
-pub part_vspp-requires : goal.part_vspp-requires
+pub overflow_cast-n : goal.overflow_cast-n
 unfolding n_mux
-part_vspp-requires c = omega (arith, c.n_mux-n.ensures, c.requires.settings.ranges.mux_most)
+overflow_cast-n c = omega (arith, c.n_mux-n.ensures, c.requires.settings.ranges.mux_most)
 
 pub returns : goal.returns
 unfolding n_mux n1 l_vspp

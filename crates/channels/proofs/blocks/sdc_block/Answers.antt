@@ -5,7 +5,7 @@ use Rattle.channels.proofs.blocks.sdc_block.Goals as goal
 
 pub sdc_levels-requires : goal.sdc_levels-requires
 unfolding n_sdc
-sdc_levels-requires c = (c.requires, c.n_sdc-n.ensures)
+sdc_levels-requires c = c.n_sdc-n.ensures
 
 pub returns : goal.returns
 unfolding n_sdc

@@ -7,8 +7,8 @@ use Rattle.decision.proofs.cells.refused.Goals as goal
 
 pub returns-in-Pair : goal.returns-in-Pair
 unfolding refused_cell
-returns-in-Pair c = rw (c.in-Pair.is, c.is_finite.ensures.value ∙ finite_same _, c.is_finite-in-Pair.ensures.value ∙ finite_same _)
+returns-in-Pair c = rw (c.in-Pair.is, c.finite.ensures ∙ finite_same _, c.finite-in-Pair.ensures ∙ finite_same _)
 
 pub returns-in-Fade : goal.returns-in-Fade
 unfolding refused_cell of_bits
-returns-in-Fade c = rw (c.in-Fade.is, c.is_finite-in-Fade.ensures.value ∙ finite_same _)
+returns-in-Fade c = rw (c.in-Fade.is, c.finite-in-Fade.ensures ∙ finite_same _)

@@ -1,8 +1,8 @@
 -- `decode` meets its contract. Assumes nothing.
-use Rattle.decoder.proofs.Widths.{widths-lent}
 use Rattle.decoder.proofs.segment.decode.Goals as goal
 
 pub decode_segment-requires : goal.decode_segment-requires
-decode_segment-requires c =
-    let w = c.widths_of-widths.ensures in
-    rw c.columns.ensures (c.requires.1, widths-lent c.args.pattern _ c.requires.0 w.0 w.1)
+decode_segment-requires c = rw c.new.ensures c.requires.1
+
+pub returns : goal.returns
+returns c = rw c.new.ensures at c.decode_segment.ensures

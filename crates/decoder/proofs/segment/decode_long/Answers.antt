@@ -7,7 +7,10 @@ use Rattle.decoder.proofs.segment.decode_long.Goals as goal
 pub decode_columns-requires : goal.decode_columns-requires
 decode_columns-requires c =
     let s = c in
-    (front_decodes s.requires.0 (search rules) c.raise.ensures, search rules)
+    front_decodes s.requires.0 (search rules) c.raise.ensures
+
+pub count_coded-requires : goal.count_coded-requires
+count_coded-requires c = let d = c.requires.0 in rw c.columns.ensures (d.sound, omega (arith, d.room))
 
 pub divide-requires : goal.divide-requires
 divide-requires c =
@@ -28,4 +31,4 @@ returns c =
     let u = c.raise.ensures in
     let f = c.decode_columns.ensures in
     let v = c.divide.ensures in
-    quotient_decoded s.requires.0 (search rules) u f v c.register_at-register.ensures (omega (arith, c.count_coded.ensures))
+    quotient_decoded s.requires.0 (search rules) u f v c.register_at-register.ensures (omega (arith, rw c.columns.ensures at c.count_coded.ensures))

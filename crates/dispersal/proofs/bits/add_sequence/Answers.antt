@@ -2,11 +2,8 @@
 use native.Mathlib.Omega.{arith}
 use borrow.Author.Rules.{rules}
 use mathlib.Core.Path.{refl}
-use Rattle.dispersal.proofs.Periods.{add_start, add_turn, add_done, period_long, period_bit, period_low}
+use Rattle.dispersal.proofs.Periods.{add_turn, add_done, period_long, period_bit, period_low}
 use Rattle.dispersal.proofs.bits.add_sequence.Goals as goal
-
-pub overflow_add-bits : goal.overflow_add-bits
-overflow_add-bits c = let b = c in omega (arith, b.requires.there, b.loop-i.invariant.turns)
 
 pub bounds-sequence-at : goal.bounds-sequence-at
 bounds-sequence-at c =
@@ -22,9 +19,6 @@ pub loop-i-preserved : goal.loop-i-preserved
 loop-i-preserved c =
     let b = c in
     add_turn b.loop-i.invariant (search rules) _ _ (period_bit b.requires b.loop-i.i (search rules)) refl
-
-pub loop-i-init : goal.loop-i-init
-loop-i-init c = add_start _ _
 
 pub returns : goal.returns
 returns c = add_done c.loop-i.invariant (search rules)

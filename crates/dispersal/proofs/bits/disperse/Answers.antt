@@ -3,12 +3,8 @@ use Prim.Native.Nat.{◌+◌, ◌-◌}
 use mathlib.Core.Path.{◌≡◌}
 use native.Mathlib.Omega.{arith}
 use borrow.Author.Rules.{rules}
-use Rattle.dispersal.proofs.Periods.{start, turn, done, piece_adds}
+use Rattle.dispersal.proofs.Periods.{start, turn, done}
 use Rattle.dispersal.proofs.bits.disperse.Goals as goal
-
-pub add_sequence-requires : goal.add_sequence-requires
-add_sequence-requires c =
-    piece_adds (start c.args.treated c.args.bits.now _ c.place_in_period-at.ensures) (omega (arith, c.min-first.ensures)) c.whole_period-sequence.ensures
 
 pub loop-i-init : goal.loop-i-init
 loop-i-init c =

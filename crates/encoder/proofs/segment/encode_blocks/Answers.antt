@@ -1,6 +1,6 @@
 -- `encode_blocks` meets its contract. Assumes nothing.
 use Prim.Native.Nat.{◌-◌, ◌/◌}
-use mathlib.Core.Path.{◌≡◌}
+use mathlib.Core.Path.{◌≡◌, refl}
 use native.Mathlib.Omega.{arith}
 use borrow.Author.Rules.{rules}
 use lib.ListN.{length}
@@ -15,20 +15,22 @@ count_columns-stride-requires c =
     let e = s.requires.left.sound in
     (e, omega (arith, coded_low e (length s.args.pattern.now) (omega arith), s.requires.begun, s.requires.there))
 
-pub encode_rounds-requires : goal.encode_rounds-requires
-encode_rounds-requires c =
+pub encode-requires : goal.encode-requires
+encode-requires c =
     let l = c in
     let n = some_pairs _ l.requires.left.sound.some l.requires.few in
-    let t = l.loop-k-test.true in
-    block_rounds l.requires l.loop-k.invariant.0 (pairs_fit _ _ _ _ _ (omega (arith, l.min-some.ensures, t)) (omega (arith, l.min-some.ensures, t)))
-    l.count_columns-stride.ensures (omega (arith, l.min-some.ensures, t, n))
+    let t = l.loop-k-test.true in (
+      block_rounds l.requires l.loop-k.invariant.0 (pairs_fit _ _ _ _ _ (omega (arith, l.min.ensures, t)) (omega (arith, l.min.ensures, t)))
+          l.count_columns-stride.ensures (omega (arith, l.min.ensures, t, n)),
+      refl,
+    )
 
 pub loop-k-preserved : goal.loop-k-preserved
 loop-k-preserved c =
     let l = c in
     let t = l.loop-k-test.true in (
-      pairs_turn l.requires _ _ _ l.loop-k.invariant.0 (pairs_fit _ _ _ _ _ (omega (arith, l.min-some.ensures, t)) (omega (arith, l.min-some.ensures, t)))
-          l.count_columns-stride.ensures l.encode_rounds.ensures (search rules),
+      pairs_turn l.requires _ _ _ l.loop-k.invariant.0 (pairs_fit _ _ _ _ _ (omega (arith, l.min.ensures, t)) (omega (arith, l.min.ensures, t)))
+          l.count_columns-stride.ensures l.encode.ensures (search rules),
       search rules,
     )
 
@@ -47,8 +49,8 @@ encode_columns-requires c =
       | then-loop-k-test+else-most-pairs w ↦
           last_encodes c.requires
           (rw w.out-is
-          (pairs_turn c.requires _ _ _ c.loop-k.invariant.0 (pairs_fit _ _ _ _ _ (omega (arith, w.min-some.ensures, w.loop-k-test)) (omega (arith, w.min-some.ensures)))
-          c.count_columns-stride.ensures w.encode_rounds.ensures (search rules)))
+          (pairs_turn c.requires _ _ _ c.loop-k.invariant.0 (pairs_fit _ _ _ _ _ (omega (arith, w.min.ensures, w.loop-k-test)) (omega (arith, w.min.ensures)))
+          c.count_columns-stride.ensures w.encode.ensures (search rules)))
           c.register_at-register.ensures
     ]
 
@@ -61,7 +63,7 @@ returns c =
       | then-loop-k-test+else-most-pairs w ↦
           blocks_done c.requires
           (rw w.out-is
-          (pairs_turn c.requires _ _ _ c.loop-k.invariant.0 (pairs_fit _ _ _ _ _ (omega (arith, w.min-some.ensures, w.loop-k-test)) (omega (arith, w.min-some.ensures)))
-          c.count_columns-stride.ensures w.encode_rounds.ensures (search rules)))
+          (pairs_turn c.requires _ _ _ c.loop-k.invariant.0 (pairs_fit _ _ _ _ _ (omega (arith, w.min.ensures, w.loop-k-test)) (omega (arith, w.min.ensures)))
+          c.count_columns-stride.ensures w.encode.ensures (search rules)))
           c.register_at-register.ensures c.encode_columns.ensures
     ]

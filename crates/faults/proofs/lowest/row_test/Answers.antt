@@ -9,24 +9,24 @@ use Rattle.faults.proofs.FaultTurns.{row_test_is}
 use Rattle.faults.proofs.lowest.row_test.Goals as goal
 
 -- The row lies within the cells.
-within : (c : goal.After-count_at)
+within : (c : goal.After-count_after)
     → let b = c in
     b.slot_size-n.result * b.args.i + b.slot_size-n.result ≤ length b.args.msc.now
 within c =
     let b = c in
     part-below b.slot_size-n.result _ 3 _ b.requires.0 (omega (arith, b.slot_size-n.ensures, b.requires.3))
 
-pub count_at-requires : goal.count_at-requires
-count_at-requires c =
+pub count_after-requires : goal.count_after-requires
+count_after-requires c =
     let b = c in
     let p = b.requires in
-    (omega (arith, b.depth-depth.ensures, p.1), p.0, omega (arith, b.depth-depth.ensures, depth_high b.args.s.settings))
+    (omega (arith, b.depth-depth.ensures, p.1), omega (arith, b.depth-depth.ensures, depth_high b.args.s.settings), omega (arith, p.0))
 
 pub returns : goal.returns
 returns c =
     let b = c in
     row_test_is _ _ _ _ _ _ _ _ _ b.msc_constellation.ensures b.depth-depth.ensures b.slot_size-n.ensures
-    b.count_at.ensures (within b.before.before)
+    b.count_after.ensures (within b.before.before)
     c.points_pass.ensures
 
 pub overflow_mul-n : goal.overflow_mul-n

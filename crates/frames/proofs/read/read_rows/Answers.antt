@@ -4,9 +4,6 @@ use borrow.Author.Rules.{rules}
 use Rattle.frames.proofs.FrameTurns.{rows_start, row_within, row-lent, row-rows, row_finish, row_turn, frames-lent, rows_end}
 use Rattle.frames.proofs.read.read_rows.Goals as goal
 
-pub slot_size-n-requires : goal.slot_size-n-requires
-slot_size-n-requires c = c.requires.fits.allowed.settings
-
 pub row_places-requires : goal.row_places-requires
 row_places-requires c =
     let s = c.requires.fits.allowed.settings in

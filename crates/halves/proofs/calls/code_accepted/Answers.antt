@@ -1,14 +1,6 @@
 -- `code_accepted` meets its contract. Assumes nothing.
-use Rattle.halves.proofs.Treated.{treats, part_room, codes, frame_cells_lem}
+use Rattle.halves.proofs.Treated.{codes, frame_cells_lem}
 use Rattle.halves.proofs.calls.code_accepted.Goals as goal
-
-pub treat_halves-requires : goal.treat_halves-requires
-treat_halves-requires c = let f = c in treats f.requires f.frame_bits-n.ensures _ f.bit_buffer-bits.ensures.long
-
-pub slice_bounds-code_bits-end : goal.slice_bounds-code_bits-end
-slice_bounds-code_bits-end c =
-    let f = c in
-    part_room f.requires f.frame_bits-n.ensures _ f.bit_buffer-bits.ensures.long f.msc_block-k.ensures c.treat_halves.ensures
 
 pub code_bits-requires : goal.code_bits-requires
 code_bits-requires c =

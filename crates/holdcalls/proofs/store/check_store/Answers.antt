@@ -3,7 +3,7 @@ use Rattle.std.proofs.Common.{◌≡◌, not, refl, ap, rules, arith}
 use Rattle.refusal.specs.Numbers.{number}
 use Rattle.refusal.proofs.Positive.{number_positive}
 use Rattle.holdcalls.specs.Store.{store_refusal}
-use Rattle.holdcalls.proofs.StoreCalls.{early_settings, early_fits, store_early, store_ten, store_twelve, store_none}
+use Rattle.holdcalls.proofs.StoreCalls.{early_fits, store_early, store_ten, store_twelve, store_none}
 use Rattle.holdcalls.proofs.store.check_store.Goals as goal
 
 pub returns-in_err-check_reset : goal.returns-in_err-check_reset
@@ -12,9 +12,6 @@ returns-in_err-check_reset c =
     let h : number r ≡ store_refusal c.args.form c.args.state c.args.memory.now c.args.file.now =
     store_early _ c.args.state _ _ _ c.in_err-check_reset.ensures (λ e. omega (arith, e, number_positive r)) in
     search rules
-
-pub file_bytes-requires : goal.file_bytes-requires
-file_bytes-requires c = early_settings _ _ _ c.in_ok-check_reset.ensures refl
 
 pub returns-then-file-file_bytes : goal.returns-then-file-file_bytes
 returns-then-file-file_bytes c =

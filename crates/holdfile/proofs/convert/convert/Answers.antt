@@ -13,8 +13,5 @@ pub returns : goal.returns
 returns c =
     turned _ _ _ _ (sym c.in_ok-check.ensures) (c.if-out-file_bytes.false ∙ c.file_bytes.ensures ∙ ap (λ k. file_length k c.args.s) c.other_form.ensures) _ _ c.turn_file.ensures
 
-pub file_bytes-requires : goal.file_bytes-requires
-file_bytes-requires c = accepted_of _ (sym c.in_ok-check.ensures)
-
 pub turn_file-requires : goal.turn_file-requires
 turn_file-requires c = (accepted_of _ (sym c.in_ok-check.ensures), c.if-out-file_bytes.false ∙ c.file_bytes.ensures ∙ ap (λ k. file_length k c.args.s) c.other_form.ensures)

@@ -20,9 +20,3 @@ overflow_cast-result-2 c =
 pub returns : goal.returns
 returns c =
     sizes_found _ _ _ (sym c.in_ok-check.ensures) c.file_bytes.ensures c.file_bytes-2.ensures
-
-pub file_bytes-requires : goal.file_bytes-requires
-file_bytes-requires c = accepted_of _ (sym c.in_ok-check.ensures)
-
-pub file_bytes-requires-2 : goal.file_bytes-requires-2
-file_bytes-requires-2 c = accepted_of _ (sym c.in_ok-check.ensures)

@@ -1,14 +1,14 @@
 -- `file_bytes` meets its contract. Assumes nothing.
 use Prim.Native.Nat.{◌≤◌}
 use native.Mathlib.Omega.{arith}
+use Rattle.partlengths.proofs.Counts.{mux_low}
 use Rattle.settings.specs.Lengths.{n_mux}
 use Rattle.holdlines.proofs.LineLengths.{line_few, long_file, short_file}
 use Rattle.holdlines.proofs.lengths.file_bytes.Goals as goal
 
 -- the cells of a line
 few : (c : goal.After-n_mux) → c.n_mux.result ≤ 6118
-unfolding n_mux
-few c = omega (arith, c.n_mux.ensures, c.requires.ranges.mux_most)
+few c = omega (arith, c.n_mux.ensures, mux_low c.args.s.mode c.args.s.occupancy)
 
 pub overflow_mul-result : goal.overflow_mul-result
 overflow_mul-result c = omega (arith, c.line_bytes-long.ensures, line_few c.args.form c.n_mux.result (few c.before.before.before))

@@ -3,4 +3,4 @@ use Rattle.holdreading.proofs.Taking.{Taking}
 use Rattle.holdreading.proofs.reading.take_line.Given as goal
 
 abbrev pub invariant-loop-i : goal.invariant-loop-i
-invariant-loop-i l = Taking l.form l.n l.line l.initial.memory l.from l.i l.memory
+invariant-loop-i l = Taking l.form l.line l.initial.slot l.i l.slot

@@ -5,7 +5,7 @@ use borrow.Author.Rules.{rules}
 use lib.ListN.{length-set}
 use Rattle.howlong.specs.HowLong.{how_long_yield}
 use Rattle.settings.proofs.Bounds.{accepted_of}
-use Rattle.howlong.proofs.Counting.{counts, depth_few, mux_few, product-fits, product-fits_32, l2_is, numbers-made, three, third_there}
+use Rattle.howlong.proofs.Counting.{counts, memory-fits, l2_is, numbers-made, three, third_there}
 use Rattle.howlong.proofs.Refusals.{taken, yields}
 use Rattle.howlong.proofs.calls.how_long.Goals as goal
 
@@ -18,11 +18,11 @@ super_frames-requires c = let A = taken _ _ (sym c.in_ok-check_how_long.ensures)
 pub bounds-numbers-0 : goal.bounds-numbers-0
 bounds-numbers-0 c = let A = taken _ _ (sym c.in_ok-check_how_long.ensures) in omega (arith, A.three)
 
-pub overflow_mul-numbers : goal.overflow_mul-numbers
-overflow_mul-numbers c = let A = taken _ _ (sym c.in_ok-check_how_long.ensures) in product-fits _ _ (omega (arith, depth_few _ c.depth.ensures)) (mux_few _ A.settings c.n_mux.ensures)
+pub memory_bytes-requires : goal.memory_bytes-requires
+memory_bytes-requires c = let A = taken _ _ (sym c.in_ok-check_how_long.ensures) in accepted_of _ A.settings
 
 pub overflow_cast-numbers-2 : goal.overflow_cast-numbers-2
-overflow_cast-numbers-2 c = let A = taken _ _ (sym c.in_ok-check_how_long.ensures) in product-fits_32 _ _ (omega (arith, depth_few _ c.depth.ensures)) (mux_few _ A.settings c.n_mux.ensures)
+overflow_cast-numbers-2 c = let A = taken _ _ (sym c.in_ok-check_how_long.ensures) in rw c.memory_bytes.ensures (memory-fits _ A.settings)
 
 pub bounds-numbers-1 : goal.bounds-numbers-1
 bounds-numbers-1 c = let A = taken _ _ (sym c.in_ok-check_how_long.ensures) in omega (arith, A.three, length-set c.args.numbers.now 0 c.super_frames.result)
@@ -40,5 +40,5 @@ returns c =
     let A = taken _ _ (sym c.in_ok-check_how_long.ensures) in
     ap (how_long_yield 0)
     (three c.args.numbers.now _ _ _ A.three
-    ∙ numbers-made _ _ (l2_is _ A.settings c.all_lengths-l.ensures) c.super_frames.ensures.0 c.depth.ensures c.n_mux.ensures c.zero_bits.ensures.0)
+    ∙ numbers-made _ _ (l2_is _ A.settings c.all_lengths-l.ensures) c.super_frames.ensures.0 c.memory_bytes.ensures c.zero_bits.ensures.0)
     ∙ sym (yields _ _ c.args.numbers.now (sym c.in_ok-check_how_long.ensures))

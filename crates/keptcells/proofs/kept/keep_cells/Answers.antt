@@ -3,11 +3,10 @@ use Prim.Native.Nat.{◌+◌, ◌*◌, ◌≤◌}
 use mathlib.Core.Path.{◌∙◌}
 use native.Mathlib.Omega.{arith}
 use borrow.Author.Rules.{rules, sfits_of}
-use lib.ListN.{length, get_or, length-set}
+use lib.ListN.{length, get_or}
 use lib.IntN.{pos}
 use mir.Syntax.{w16}
 use mir.Facts.{to_z-of_z}
-use Rattle.lists.proofs.Tables.{filled-start}
 use Rattle.keptcells.proofs.Turns.{first-kept, second_kept, kept_turn, kept_end, number_read}
 use Rattle.keptcells.proofs.kept.keep_cells.Goals as goal
 
@@ -30,9 +29,3 @@ returns c =
     let l = c.loop-i in
     let p = c.requires in
     kept_end _ _ _ c.msc_constellation-constellation.ensures _ _ l.i p.pairs p.room l.invariant.0 c.loop-i-test.false l.invariant.1
-
-pub loop-i-init : goal.loop-i-init
-loop-i-init c = (omega arith, filled-start _ _ _)
-
-pub bounds-out-i-in-loop-i : goal.bounds-out-i-in-loop-i
-bounds-out-i-in-loop-i c = simp length-set (search rules)

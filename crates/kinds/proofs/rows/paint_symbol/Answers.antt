@@ -9,4 +9,4 @@ returns c =
     let b = d in
     let a = b in
     let f = a in
-    symbol_painted _ _ _ _ _ _ _ _ f.requires.symbol_low f.paint.ensures a.paint_gain.ensures b.paint_time.ensures d.paint-2.ensures e.paint-3.ensures
+    symbol_painted _ _ _ _ _ _ _ _ f.requires f.paint.ensures a.paint_gain.ensures b.paint_time.ensures d.paint-2.ensures e.paint-3.ensures

@@ -1,13 +1,13 @@
 -- `kinds::symbol_kinds` meets its contract. Assumes nothing.
 use native.Mathlib.Omega.{arith}
-use Rattle.kinds.proofs.Bands.{band_end}
+use Rattle.kinds.proofs.Bands.{pairing_low, band_end}
 use Rattle.kinds.proofs.Symbols.{symbol_copied, length_painting}
 use Rattle.kinds.proofs.rows.symbol_kinds.Goals as goal
 
 pub overflow_add-end : goal.overflow_add-end
 overflow_add-end c =
     let s = c in
-    omega (arith, c.lower-first.ensures, s.requires.long, band_end _ _ s.requires.pairing)
+    omega (arith, c.lower-first.ensures, s.requires.long, band_end _ _ (pairing_low s.args.p.mode s.args.p.occupancy))
 
 pub slice_bounds-copy_from_slice-end : goal.slice_bounds-copy_from_slice-end
 slice_bounds-copy_from_slice-end c =
@@ -15,7 +15,7 @@ slice_bounds-copy_from_slice-end c =
     let p = l in
     let s = p in
     let long = length_painting _ _ _ _ _ p.data_row-row.ensures p.paint_symbol.ensures in
-    let end = band_end _ _ s.requires.pairing in
+    let end = band_end _ _ (pairing_low s.args.p.mode s.args.p.occupancy) in
     omega (arith, l.lower-first.ensures, s.requires.long, end, long)
 
 pub returns : goal.returns
@@ -25,4 +25,4 @@ returns c =
     let p = l in
     let d = p in
     let s = d in
-    symbol_copied _ _ _ _ _ _ _ _ _ _ s.requires.pairing d.data_kind.ensures d.data_row-row.ensures p.paint_symbol.ensures l.lower-first.ensures s.requires.long b.copy_from_slice.ensures.after
+    symbol_copied _ _ _ _ _ _ _ _ _ _ (pairing_low s.args.p.mode s.args.p.occupancy) d.data_kind.ensures d.data_row-row.ensures p.paint_symbol.ensures l.lower-first.ensures s.requires.long b.copy_from_slice.ensures.after

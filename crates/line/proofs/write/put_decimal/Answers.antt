@@ -1,23 +1,16 @@
-use mathlib.Core.Path.{refl}
-use native.Mathlib.Omega.{arith}
-use Rattle.line.specs.Written.{line_end}
-use Rattle.line.proofs.Text.{one-digit, two_digits, three_digits}
+use Rattle.std.proofs.Common.{◌≡◌, ◌<◌, ◌∙◌, sym, ap, take, length, arith, rules}
+use Rattle.line.specs.Written.{decimal}
+use Rattle.line.proofs.Text.{decimal_said, decimal_put, decimal_long}
 use Rattle.line.proofs.write.put_decimal.Goals as goal
 
-pub returns-then-n-lt10 : goal.returns-then-n-lt10
-unfolding line_end
-returns-then-n-lt10 c =
-    let e = one-digit c.args.n c.if-n-lt10.true in
-    record { out_after = rw e refl; value = rw e refl }
-
-pub returns-then-n-lt100 : goal.returns-then-n-lt100
-unfolding line_end
-returns-then-n-lt100 c =
-    let e = two_digits c.args.n c.if-n-lt10.false c.if-n-lt100.true in
-    record { out_after = rw e refl; value = rw e refl }
-
 pub returns : goal.returns
-unfolding line_end
 returns c =
-    let e = three_digits c.args.n c.if-n-lt100.false (omega arith) in
-    record { out_after = rw e refl; value = rw e refl }
+    let d = c.decimal-count in
+    let n : c.args.n < 18446744073709551616 = omega (arith, c.ranges.n.fits) in
+    let e : take d.result d.new.out ≡ decimal c.args.n = decimal_said c.args.n _ _ n d.ensures.len d.ensures.digits in
+    let f = c.copy_from_slice.ensures.after in
+    let m = d.ensures.in_bounds.1 in
+    record {
+      out_after = decimal_put c.args.n _ _ _ (f ∙ e) (m ∙ ap length (sym f)) (search rules);
+      value = decimal_long c.args.n _ _ e m;
+    }

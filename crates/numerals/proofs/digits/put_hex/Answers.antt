@@ -1,7 +1,7 @@
 use Rattle.std.proofs.Common.{◌≡◌, ◌+◌, ap, ◌∙◌, ◌++◌, arith, append_assoc, length}
 use mathlib.Core.List.{append-nil}
 use lib.ListN.{length-append}
-use Rattle.numerals.specs.Digits.{hex_digits}
+use Rattle.numerals.specs.Digits.{hex_digit, hex_digits}
 use Rattle.numerals.proofs.Hex.{digits_long, digits_all, digits_more, digits_none}
 use Rattle.numerals.proofs.digits.put_hex.Goals as goal
 
@@ -9,13 +9,14 @@ pub loop-byte-init : goal.loop-byte-init
 loop-byte-init c = (ap (λ d. c.args.text.now ++ d) (digits_all c.args.bytes.now), omega (arith, c.requires))
 
 pub loop-byte-preserved : goal.loop-byte-preserved
+unfolding hex_digit
 loop-byte-preserved c =
     let l = c.loop-byte in
     let i = l.invariant in
     let e = digits_more c.args.bytes.now l.byte-index c.loop-byte-test.true in
     let w = rw e at i.0 in
     let n : length c.put.new.self ≡ length l.text + 2 = rw (c.put.ensures, length-append) in
-    (rw (c.put.ensures, c.digit.ensures, c.digit-in-loop-byte.ensures, append_assoc) w, omega (arith, i.1, n, c.loop-byte-test.true))
+    (rw (c.put.ensures, c.glyph.ensures, c.glyph-in-loop-byte.ensures, append_assoc) w, omega (arith, i.1, n, c.loop-byte-test.true))
 
 pub returns : goal.returns
 returns c =

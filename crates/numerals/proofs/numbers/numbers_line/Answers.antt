@@ -11,9 +11,6 @@ loop-n-init c =
     let e : c.put_decimal.new.self ≡ decimal (get_or c.args.numbers.now 0 0) = rw (p.put, c.new-text.ensures, c.from.ensures) in
     print_start _ _ _ (omega (arith, p.room, ap length c.new-text.ensures)) e
 
-pub put-requires : goal.put-requires
-put-requires c = let i = c.loop-n.invariant in omega (arith, i.room, i.few)
-
 pub loop-n-preserved : goal.loop-n-preserved
 unfolding space
 loop-n-preserved c =

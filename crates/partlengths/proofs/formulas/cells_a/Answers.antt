@@ -4,8 +4,8 @@ use native.Mathlib.Omega.{arith}
 use Rattle.partlengths.proofs.PartA.{Step, a-step, step_low, is_cells_a, common_low}
 use Rattle.partlengths.proofs.formulas.cells_a.Goals as goal
 
-pub coded-requires : goal.coded-requires
-coded-requires c =
+pub overflow_cast-step : goal.overflow_cast-step
+overflow_cast-step c =
     let low = common_low c.args.msc c.args.level c.requires in
     omega arith
 

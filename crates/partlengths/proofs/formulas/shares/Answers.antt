@@ -1,15 +1,10 @@
 -- What is summed with what is left is the whole.
 use mathlib.Core.Path.{◌∙◌, ap}
-use Prim.Native.Nat.{zero-le}
-use native.Mathlib.Nat.{zero-add}
 use native.Mathlib.Omega.{arith}
 use lib.ListN.{get_or}
 use Rattle.partlengths.specs.Clauses.{share}
 use Rattle.partlengths.proofs.Parts.{summed_turn, summed_done, shares_five}
 use Rattle.partlengths.proofs.formulas.shares.Goals as goal
-
-pub loop-rate-init : goal.loop-rate-init
-loop-rate-init c = record { within = zero-le; whole = zero-add _ }
 
 pub loop-rate-preserved : goal.loop-rate-preserved
 loop-rate-preserved c =

@@ -1,7 +1,7 @@
 -- `pattern` meets its contract. Assumes nothing.
 use borrow.Author.Rules.{rules}
 use lib.ListN.{replicate}
-use Rattle.lists.proofs.Tables.{filled-start, filled_turn}
+use Rattle.lists.proofs.Tables.{filled_turn}
 use Rattle.patterns.specs.Patterns.{column}
 use Rattle.patterns.proofs.Loaded.{column_from_lem, filled-pattern}
 use Rattle.patterns.proofs.table.pattern.Goals as goal
@@ -20,6 +20,3 @@ pub returns : goal.returns
 returns c =
     let l = c in
     filled-pattern _ l.loop-i.columns _ l.loop-i.i _ l.loop-i.invariant.0 l.loop-i.invariant.1.0 (search rules) (search rules)
-
-pub loop-i-init : goal.loop-i-init
-loop-i-init c = (filled-start _ _ _, (c.numerator-width.ensures.0, (c.begins-at.ensures.0, search rules)))

@@ -1,31 +1,39 @@
 -- `standard_table` meets its contract. Assumes nothing.
-use mathlib.Core.Path.{refl}
+use Prim.Native.Nat.{◌+◌, ◌*◌, ◌<◌}
 use native.Mathlib.Omega.{arith}
 use borrow.Author.Rules.{rules}
-use lib.ListN.{get_or}
-use Rattle.lists.proofs.Tables.{filled-start, filled_turn}
-use Rattle.patterns.specs.Patterns.{RX, numerators, begins, table65}
-use Rattle.patterns.specs.Clauses.{number_at}
-use Rattle.patterns.proofs.Standard.{within-table, standard-number, filled-standard}
+use Rattle.patterns.specs.Patterns.{RX, begins}
+use Rattle.patterns.proofs.Standard.{laid_start, inside, laid_turn, laid_row, laid_rate, laid-standard}
 use Rattle.patterns.proofs.table.standard_table.Goals as goal
 
-pub loop-k-init : goal.loop-k-init
-unfolding number_at begins RX numerators
-loop-k-init c =
-    (filled-start _ _ _, (c.empty_table-kept.ensures.long, (record { rate = search rules; row = search rules; column = search rules }, (refl, search rules))))
+pub loop-rate-init : goal.loop-rate-init
+loop-rate-init c = laid_start _ c.buffer-kept.ensures.long
 
-pub loop-k-preserved : goal.loop-k-preserved
-loop-k-preserved c =
-    let l = c.loop-k in (
-      filled_turn 0 (λ i. get_or table65 i 0) _ l.kept l.k _ (search rules) (standard-number l.place l.k _ l.invariant.1.1.1.0 c.standard_number.ensures) l.invariant.0,
-      (l.invariant.1.0, (c.next_place-place.ensures.0, (omega (arith, l.invariant.1.1.1.0, c.next_place-place.ensures.1), search rules))),
-    )
+place : (c : goal.After-standard_number) → begins c.loop-rate.rate + c.loop-row.row * RX c.loop-rate.rate + c.loop-column.column < 196
+place c = inside _ _ _ (search rules) (search rules) (search rules)
 
-pub standard_number-requires : goal.standard_number-requires
-standard_number-requires c = let l = c.loop-k in (within-table l.place l.k l.invariant.1.1.0 l.invariant.1.1.1.0 (search rules), (l.invariant.1.1.0.row, l.invariant.1.1.0.column))
+pub overflow_mul-kept : goal.overflow_mul-kept
+overflow_mul-kept c = rw c.numerator-width.ensures.0 (omega (arith, place c))
 
-pub next_place-place-requires : goal.next_place-place-requires
-next_place-place-requires c = let l = c.loop-k in (l.invariant.1.1.0, within-table l.place l.k l.invariant.1.1.0 l.invariant.1.1.1.0 (search rules))
+pub overflow_add-kept : goal.overflow_add-kept
+overflow_add-kept c = rw (c.begins-at.ensures.0, c.numerator-width.ensures.0) (omega (arith, place c))
+
+pub overflow_add-kept-in-loop-column : goal.overflow_add-kept-in-loop-column
+overflow_add-kept-in-loop-column c = rw (c.begins-at.ensures.0, c.numerator-width.ensures.0) (omega (arith, place c))
+
+pub bounds-kept-at : goal.bounds-kept-at
+bounds-kept-at c = rw (c.begins-at.ensures.0, c.numerator-width.ensures.0) (place c)
+
+pub loop-column-preserved : goal.loop-column-preserved
+loop-column-preserved c =
+    laid_turn _ _ _ _ _ c.loop-column.invariant (search rules) (search rules) (search rules)
+    (rw (c.begins-at.ensures.0, c.numerator-width.ensures.0)) c.standard_number.ensures
+
+pub loop-row-preserved : goal.loop-row-preserved
+loop-row-preserved c = laid_row _ _ _ (search rules) c.loop-column.invariant
+
+pub loop-rate-preserved : goal.loop-rate-preserved
+loop-rate-preserved c = laid_rate _ _ (search rules) c.loop-row.invariant
 
 pub returns : goal.returns
-returns c = filled-standard _ _ _ c.loop-k.invariant.1.0 (search rules) c.loop-k.invariant.0
+returns c = laid-standard _ _ (search rules) c.loop-rate.invariant

@@ -1,11 +1,14 @@
 -- `standard_table` meets its contract. Assumes nothing.
-use Prim.Native.Nat.{◌≤◌}
-use mathlib.Core.Path.{◌≡◌}
-use lib.ListN.{length, get_or}
-use Rattle.lists.proofs.Tables.{Filled}
-use Rattle.patterns.specs.Patterns.{table65}
-use Rattle.patterns.specs.Clauses.{IsPlace, number_at}
+use Prim.Native.Nat.{◌+◌, ◌*◌}
+use Rattle.patterns.specs.Patterns.{RX, begins}
+use Rattle.patterns.proofs.Standard.{Laid}
 use Rattle.patterns.proofs.table.standard_table.Given as goal
 
-abbrev pub invariant-loop-k : goal.invariant-loop-k
-invariant-loop-k l = Filled 0 (λ i. get_or table65 i 0) l.initial.kept l.kept l.k × ((length l.initial.kept ≡ 196) × (IsPlace l.place × ((l.k ≡ number_at l.place) × (l.k ≤ 196))))
+abbrev pub invariant-loop-rate : goal.invariant-loop-rate
+invariant-loop-rate l = Laid l.kept (begins l.rate)
+
+abbrev pub invariant-loop-row : goal.invariant-loop-row
+invariant-loop-row l = Laid l.kept (begins l.rate + l.row * RX l.rate)
+
+abbrev pub invariant-loop-column : goal.invariant-loop-column
+invariant-loop-column l = Laid l.kept (begins l.rate + l.row * RX l.rate + l.column)

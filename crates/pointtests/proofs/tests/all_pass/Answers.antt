@@ -2,7 +2,7 @@
 use mathlib.Core.Path.{sym}
 use native.Mathlib.Nat.{mod-one}
 use borrow.Author.Rules.{rules}
-use Rattle.lists.proofs.Tests.{passed_start, passed_turn, passed_end}
+use Rattle.lists.proofs.Tests.{passed_turn, passed_end}
 use Rattle.pointtests.specs.PointTests.{points_pass, all_cells}
 use Rattle.pointtests.proofs.PointTests.{cell_read}
 use Rattle.pointtests.proofs.tests.all_pass.Goals as goal
@@ -18,6 +18,3 @@ loop-i-preserved c =
 pub returns : goal.returns
 unfolding points_pass
 returns c = passed_end _ _ _ _ c.loop-i-test.false c.loop-i.invariant
-
-pub loop-i-init : goal.loop-i-init
-loop-i-init c = passed_start _ _

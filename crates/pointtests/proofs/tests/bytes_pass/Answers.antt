@@ -4,7 +4,7 @@ use mathlib.Core.Path.{◌≡◌}
 use native.Mathlib.Omega.{arith}
 use borrow.Author.Rules.{rules}
 use lib.ListN.{length}
-use Rattle.lists.proofs.Tests.{passed_start, passed_turn, passed_end}
+use Rattle.lists.proofs.Tests.{passed_turn, passed_end}
 use Rattle.cellbytes.specs.CellBytes.{numbers}
 use Rattle.cellbytes.proofs.CellBytes.{length-numbers}
 use Rattle.pointtests.specs.PointTests.{points_pass}
@@ -22,9 +22,3 @@ returns c =
     let cells = c.args.cells.now in
     let n : length (numbers cells) / 2 ≡ length cells = omega (arith, length-numbers cells) in
     rw n (passed_end _ _ _ _ c.loop-cell-test.false c.loop-cell.invariant)
-
-pub loop-cell-init : goal.loop-cell-init
-loop-cell-init c = passed_start _ _
-
-pub byte_passes-passed-requires : goal.byte_passes-passed-requires
-byte_passes-passed-requires c = c.largest-top.ensures.reaches.low

@@ -1,8 +1,6 @@
 -- `some_pass` meets its contract. Assumes nothing.
-use mathlib.Core.Path.{sym}
-use native.Mathlib.Nat.{mod-lt, mod-eq_of_lt}
 use borrow.Author.Rules.{rules}
-use Rattle.lists.proofs.Tests.{passed_start, passed_turn, passed_end}
+use Rattle.lists.proofs.Tests.{passed_turn, passed_end}
 use Rattle.pointtests.specs.PointTests.{points_pass}
 use Rattle.pointtests.proofs.PointTests.{cell_read, delay-next}
 use Rattle.pointtests.proofs.tests.some_pass.Goals as goal
@@ -20,9 +18,3 @@ loop-i-preserved c =
 pub returns : goal.returns
 unfolding points_pass
 returns c = passed_end _ _ _ _ c.loop-i-test.false c.loop-i.invariant.0
-
-pub loop-i-init : goal.loop-i-init
-loop-i-init c = (passed_start _ _, sym (mod-eq_of_lt (search rules)))
-
-pub next_modulo-delay-requires : goal.next_modulo-delay-requires
-next_modulo-delay-requires c = rw c.loop-i.invariant.1 (mod-lt _ (search rules))

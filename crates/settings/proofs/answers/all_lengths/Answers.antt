@@ -1,5 +1,5 @@
 use mathlib.Core.Path.{sym, subst}
-use Prim.Native.Nat.{◌-◌, ◌≤◌}
+use Prim.Native.Nat.{◌-◌}
 use native.Mathlib.Omega.{arith}
 use Rattle.partlengths.specs.Clauses.{Whole}
 use Rattle.settings.specs.Lengths.{n_mux, n1}
@@ -15,9 +15,9 @@ unfolding n1
 part_a-l1-requires c =
     subst (Whole c.args.s.msc c.args.s.levela) (sym c.cells_a-n1.ensures) c.requires.part
 
-mux-low : (c : goal.After-cells_a-n1) → c.n_mux-cells.result ≤ 6118
+pub overflow_cast-cells : goal.overflow_cast-cells
 unfolding n_mux
-mux-low c = omega (arith, c.n_mux-cells.ensures, c.requires.ranges.mux_most)
+overflow_cast-cells c = omega (arith, c.n_mux-cells.ensures, c.requires.ranges.mux_most)
 
 all : (c : goal.After-part_vspp-vspp)
     → Found c.args.s c.n_mux-cells.result c.cells_a-n1.result
@@ -30,26 +30,18 @@ all c =
 low : (c : goal.After-part_vspp-vspp) → Short c.args.s
 low c = short _ c.requires
 
+pub overflow_cast-n1 : goal.overflow_cast-n1
+unfolding n_mux n1
+overflow_cast-n1 c = omega (arith, c.cells_a-n1.ensures, c.requires.n1_most, c.requires.ranges.mux_most)
+
 pub overflow_cast-result : goal.overflow_cast-result
-overflow_cast-result c = omega (arith, (all c).is_n1, (low c).n1_short)
+overflow_cast-result c = omega (arith, (all c).is_l1, (low c).l1_short)
 
 pub overflow_cast-result-2 : goal.overflow_cast-result-2
-overflow_cast-result-2 c = omega (arith, (all c).is_n2, (low c).n2_short)
+overflow_cast-result-2 c = omega (arith, (all c).is_l2, (low c).l2_short)
 
 pub overflow_cast-result-3 : goal.overflow_cast-result-3
-overflow_cast-result-3 c = omega (arith, (all c).is_l1, (low c).l1_short)
-
-pub overflow_cast-result-4 : goal.overflow_cast-result-4
-overflow_cast-result-4 c = omega (arith, (all c).is_l2, (low c).l2_short)
-
-pub overflow_cast-result-5 : goal.overflow_cast-result-5
-overflow_cast-result-5 c = omega (arith, (all c).is_vspp, (low c).vspp_short)
+overflow_cast-result-3 c = omega (arith, (all c).is_vspp, (low c).vspp_short)
 
 pub returns : goal.returns
 returns c = is_accepted _ _ _ _ _ _ _ (all c)
-
-pub part_b-l2-requires : goal.part_b-l2-requires
-part_b-l2-requires c = omega (arith, mux-low c.before)
-
-pub part_vspp-vspp-requires : goal.part_vspp-vspp-requires
-part_vspp-vspp-requires c = omega (arith, mux-low c.before.before)

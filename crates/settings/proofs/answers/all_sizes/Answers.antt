@@ -7,9 +7,9 @@ use Rattle.settings.specs.Sizes.{sdc_bytes}
 use Rattle.settings.proofs.Buffers.{Sized, is_all_sizes, Few, few}
 use Rattle.settings.proofs.answers.all_sizes.Goals as goal
 
-pub sdc_bits-requires : goal.sdc_bits-requires
+pub overflow_cast-sdc : goal.overflow_cast-sdc
 unfolding n_sdc
-sdc_bits-requires c = omega (arith, c.n_sdc-sdc.ensures, (few _ c.requires).sdc_few)
+overflow_cast-sdc c = omega (arith, c.n_sdc-sdc.ensures, (few _ c.requires).sdc_few)
 
 pub bytes_for-sdc_bytes-requires : goal.bytes_for-sdc_bytes-requires
 unfolding n_sdc l_sdc

@@ -1,7 +1,7 @@
 use Rattle.std.proofs.Common.{◌≡◌, ◌+◌, ◌++◌, ap, ◌∙◌, length, take, arith}
 use lib.ListN.{length-append, length-take}
 use Rattle.line.specs.Written.{decimal}
-use Rattle.words.proofs.Lines.{decimal_said, decimal-fits}
+use Rattle.line.proofs.Text.{decimal_said, decimal-fits}
 use Rattle.words.proofs.text.Text.put_decimal.Goals as goal
 
 pub put-requires : goal.put-requires

@@ -1,7 +1,0 @@
--- `lay` meets its contract. Assumes nothing.
-use Rattle.component.specs.Register.{parity}
-use Rattle.encoder.proofs.Spread.{Laying}
-use Rattle.encoder.proofs.segment.lay.Given as goal
-
-abbrev pub invariant-loop-k : goal.invariant-loop-k
-invariant-loop-k l = Laying (parity l.mask) l.registers l.width l.pairs l.initial.out l.at l.stride l.out l.k
